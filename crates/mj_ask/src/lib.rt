@@ -9,7 +9,9 @@ mod ask;
 mod clash;
 mod entry;
 mod formed;
+mod late;
 mod names;
+mod same;
 mod start;
 
 pub use ask::{Ask, DeviceAsk, Kind, Reply, SharedAsk};
@@ -18,5 +20,7 @@ pub use entry::Entry;
 pub use formed::{
     is_access, is_ask, is_clash, is_global_name, is_name, is_reply, is_search_name, is_subtree,
 };
+pub use late::is_timed_out;
 pub use names::Names;
+pub use same::{is_same_ask, is_same_reply, is_same_start};
 pub use start::Start;

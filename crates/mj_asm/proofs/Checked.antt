@@ -180,7 +180,8 @@ module _ (fs : List Footing) where
           let ce = expr_code pc e in
           let cr = exprs_code (pc + length ce) es in
           both pc (at d) (at (d + 1)) (at (d + (count es + 1))) ce cr (expr_goes e pc d)
-          (goes_as (pc + length ce) (at (d + 1)) (at (d + 1 + count es)) (at (d + (count es + 1))) cr (same (d + 1 + count es) (d + (count es + 1)) (omega arith)) (exprs_go es (pc + length ce) (d + 1)))
+          (goes_as (pc + length ce) (at (d + 1))
+          (at (d + 1 + count es)) (at (d + (count es + 1))) cr (same (d + 1 + count es) (d + (count es + 1)) (omega arith)) (exprs_go es (pc + length ce) (d + 1)))
 
       choices_go : (x : Choices) (pc d : ℕ) → Goes pc (choices_code pc x) (at d) (at (d + 1))
       choices_go (Last c e) pc d =
@@ -209,7 +210,8 @@ module _ (fs : List Footing) where
         let ce = exprs_code (pc + length cs + 1) es in
         both pc (at d) (at (d + n)) (at (d + (n + count es))) cs (instr.CheckName (reference v) ∷ ce) (subscripts_go v pc d)
         (on (pc + length cs) (at (d + n)) (at (d + n)) (at (d + (n + count es))) (instr.CheckName (reference v)) ce refl (omega arith, tt)
-        (goes_as (pc + length cs + 1) (at (d + n)) (at (d + n + count es)) (at (d + (n + count es))) ce (same (d + n + count es) (d + (n + count es)) (omega arith)) (exprs_go es (pc + length cs + 1) (d + n))))
+        (goes_as (pc + length cs + 1) (at (d + n))
+        (at (d + n + count es)) (at (d + (n + count es))) ce (same (d + n + count es) (d + (n + count es)) (omega arith)) (exprs_go es (pc + length cs + 1) (d + n))))
 
     destinations_go : (list : List Destination) (pc d : ℕ) → Goes pc (destinations_code pc list) (at d) (at (d + sizes list))
     destinations_go [] pc d = goes_as pc (at d) (at d) (at (d + 0)) [] (same d (d + 0) (omega arith)) (nothing pc (at d))
@@ -217,7 +219,8 @@ module _ (fs : List Footing) where
         let cx = destination_code pc x in
         let cr = destinations_code (pc + length cx) list in
         both pc (at d) (at (d + size x)) (at (d + (size x + sizes list))) cx cr (destination_goes x pc d)
-        (goes_as (pc + length cx) (at (d + size x)) (at (d + size x + sizes list)) (at (d + (size x + sizes list))) cr (same (d + size x + sizes list) (d + (size x + sizes list)) (omega arith)) (destinations_go list (pc + length cx) (d + size x)))
+        (goes_as (pc + length cx) (at (d + size x)) (at (d + size x + sizes list))
+        (at (d + (size x + sizes list))) cr (same (d + size x + sizes list) (d + (size x + sizes list)) (omega arith)) (destinations_go list (pc + length cx) (d + size x)))
 
     store_goes : (x : Destination) (depth : Depth) (pc d : ℕ) → 1 ≤ d → depth.above + size x ≤ d → depth.taken ≤ d → Goes pc (store_code x depth) (at d) (at (d - depth.taken))
     store_goes (Plain v) depth pc d some deep few =
@@ -492,7 +495,13 @@ module _ (fs : List Footing) where
         let gone : at 0 ≡ at (0 + 1 - 1) = same 0 (0 + 1 - 1) (omega arith) in
         both pc (at 0) (at (0 + 1)) (at 0) ce (instr.EndSession ∷ rest) (expr_goes e pc 0)
         (led pe (at (0 + 1)) (at (0 + 1)) (at 0) instr.EndSession rest refl
-        (λ l h. (omega arith, (subst (λ p. Holds fs p (at (0 + 1))) well (laid_here (pe + 1 + 1) (at (0 + 1)) (instr.GiveUpDevice ∷ []) l.1), subst (λ f. Holds fs (pe + 3) f) gone (subst (λ p. Holds fs p (at 0)) past h))))
+        (λ l h. (
+          omega arith,
+          (
+            subst (λ p. Holds fs p (at (0 + 1))) well (laid_here (pe + 1 + 1) (at (0 + 1)) (instr.GiveUpDevice ∷ []) l.1),
+            subst (λ f. Holds fs (pe + 3) f) gone (subst (λ p. Holds fs p (at 0)) past h),
+          ),
+        ))
         (on (pe + 1) (at (0 + 1)) (at (0 + 1)) (at 0) instr.GiveUpFailedDevice (instr.GiveUpDevice ∷ []) refl (omega arith, tt)
         (one (pe + 1 + 1) (at (0 + 1)) (at 0) instr.GiveUpDevice (same (0 + 1 - 1) 0 (omega arith)) (omega arith, tt))))
 
@@ -718,13 +727,15 @@ module _ (fs : List Footing) where
       (λ l h. (refl, subst (λ p. Holds fs p inside) e (laid_here (pc + 1 + 1) inside (rest (pc + 1 + 1) (Some (pc + 1)) ++ instr.ForAgain ∷ []) l.1)))
       (body_goes rest goes k (pc + 1))
 
-  then_goes : (here : Here) (c : Option Expr) (command : Command) (rest : ℕ → Option ℕ → List Instr) → Rest rest → (k : ℕ) (out : Option ℕ) → Closes k out → (pc : ℕ) → Goes pc (and_then here pc out c command rest) (footing 0 k) (footing 0 k)
+  then_goes : (here : Here) (c : Option Expr) (command : Command) (rest : ℕ → Option ℕ → List Instr)
+      → Rest rest → (k : ℕ) (out : Option ℕ) → Closes k out → (pc : ℕ) → Goes pc (and_then here pc out c command rest) (footing 0 k) (footing 0 k)
   then_goes here c command rest goes k out closes pc =
       let cc = code_if pc c (λ p. command_code here p out command) in
       both pc (footing 0 k) (footing 0 k) (footing 0 k) cc (rest (pc + length cc) out)
       (code_if_goes k c (λ p. command_code here p out command) (command_goes k here out command closes) pc) (goes k out closes (pc + length cc))
 
-  obey_goes : (here : Here) (command : Command) (c : Option Expr) (rest : ℕ → Option ℕ → List Instr) → Rest rest → (k : ℕ) (out : Option ℕ) → Closes k out → (pc : ℕ) → Goes pc (obey_code here pc out command c rest) (footing 0 k) (footing 0 k)
+  obey_goes : (here : Here) (command : Command) (c : Option Expr) (rest : ℕ → Option ℕ → List Instr)
+      → Rest rest → (k : ℕ) (out : Option ℕ) → Closes k out → (pc : ℕ) → Goes pc (obey_code here pc out command c rest) (footing 0 k) (footing 0 k)
   obey_goes here (Set list) c rest goes k out closes pc = then_goes here c (Set list) rest goes k out closes pc
   obey_goes here (Write list) c rest goes k out closes pc = then_goes here c (Write list) rest goes k out closes pc
   obey_goes here Halt c rest goes k out closes pc = then_goes here c Halt rest goes k out closes pc

@@ -13,7 +13,8 @@ aimed c1 c2 c3 behind y z at m e2 e3 =
     ap (λ k. slice_set c3 k z) m ∙ ap (λ l. slice_set l (length c1) z) whole ∙ set-append_seam c1 y behind z
 
 -- an instruction, which gets the end of the code behind it
-pub led : (c1 : List Instr) (z : ℕ → Instr) (body : ℕ → List Instr) (c2 c3 c4 : List Instr) (y : Instr) (at : ℕ) → at ≡ length c1 → c2 ≡ c1 ++ y ∷ [] → c3 ≡ c2 ++ body (length c2) → c4 ≡ slice_set c3 at (z (length c3)) →
+pub led : (c1 : List Instr) (z : ℕ → Instr) (body : ℕ → List Instr) (c2 c3 c4 : List Instr) (y : Instr) (at : ℕ)
+    → at ≡ length c1 → c2 ≡ c1 ++ y ∷ [] → c3 ≡ c2 ++ body (length c2) → c4 ≡ slice_set c3 at (z (length c3)) →
     c4 ≡ c1 ++ z (length c1 + 1 + length (body (length c1 + 1))) ∷ body (length c1 + 1)
 led c1 z body c2 c3 c4 y at m e2 e3 e4 =
     let n : length c2 ≡ length c1 + 1 = omega (arith, ap length e2, length-append c1 (y ∷ [])) in
@@ -24,7 +25,8 @@ led c1 z body c2 c3 c4 y at m e2 e3 e4 =
     ∙ ap (λ k. c1 ++ z (k + length (body k)) ∷ body k) n
 
 -- what stands behind a test, which gets the end of the code behind it
-pub tested : (base test : List Instr) (z : ℕ → Instr) (body : ℕ → List Instr) (c1 c2 c3 c4 : List Instr) (y : Instr) (at : ℕ) → c1 ≡ base ++ test → at ≡ length c1 → c2 ≡ c1 ++ y ∷ [] → c3 ≡ c2 ++ body (length c2) → c4 ≡ slice_set c3 at (z (length c3)) →
+pub tested : (base test : List Instr) (z : ℕ → Instr) (body : ℕ → List Instr) (c1 c2 c3 c4 : List Instr) (y : Instr) (at : ℕ) → c1 ≡ base ++ test
+    → at ≡ length c1 → c2 ≡ c1 ++ y ∷ [] → c3 ≡ c2 ++ body (length c2) → c4 ≡ slice_set c3 at (z (length c3)) →
     c4 ≡ base ++ (test ++ z (length base + length test + 1 + length (body (length base + length test + 1))) ∷ body (length base + length test + 1))
 tested base test z body c1 c2 c3 c4 y at e1 m e2 e3 e4 =
     let n : length c1 ≡ length base + length test = omega (arith, ap length e1, length-append base test) in
@@ -34,7 +36,8 @@ tested base test z body c1 c2 c3 c4 y at e1 m e2 e3 e4 =
     ∙ append_assoc base test _
 
 -- the instruction that closes a FOR, and its passes
-pub closed : (base : List Instr) (rest : ℕ → Option ℕ → List Instr) (c2 c3 c4 c5 : List Instr) (at : ℕ) → at ≡ length base → c2 ≡ base ++ ForClose 0 ∷ [] → c3 ≡ c2 ++ rest (length c2) (Some at) → c4 ≡ c3 ++ ForAgain ∷ [] → c5 ≡ slice_set c4 at (ForClose (length c4)) → c5 ≡ base ++ body_code (length base) rest
+pub closed : (base : List Instr) (rest : ℕ → Option ℕ → List Instr) (c2 c3 c4 c5 : List Instr) (at : ℕ) → at ≡ length base → c2 ≡ base ++ ForClose 0 ∷ []
+    → c3 ≡ c2 ++ rest (length c2) (Some at) → c4 ≡ c3 ++ ForAgain ∷ [] → c5 ≡ slice_set c4 at (ForClose (length c4)) → c5 ≡ base ++ body_code (length base) rest
 closed base rest c2 c3 c4 c5 at m e2 e3 e4 e5 =
     let k : ℕ = length base in
     let body : ℕ → List Instr = λ p. rest p (Some k) ++ ForAgain ∷ [] in
@@ -43,14 +46,17 @@ closed base rest c2 c3 c4 c5 at m e2 e3 e4 e5 =
     led base (λ j. ForClose j) body c2 c4 c5 (ForClose 0) at m e2 whole e5 ∙ ap (λ j. base ++ ForClose j ∷ body (k + 1)) n
 
 -- the instruction that begins a FOR, its ranges, and what stands behind them
-pub opened : (base test : List Instr) (z : ℕ → Instr) (body passes : ℕ → List Instr) (c1 c2 c3 c4 c5 : List Instr) (y : Instr) (at : ℕ) → c1 ≡ base ++ test → at ≡ length c1 → c2 ≡ c1 ++ y ∷ [] → c3 ≡ c2 ++ body (length c2) → c4 ≡ slice_set c3 at (z (length c3)) → c5 ≡ c4 ++ passes (length c4) →
-    c5 ≡ base ++ (test ++ z (length base + length test + 1 + length (body (length base + length test + 1))) ∷ (body (length base + length test + 1) ++ passes (length base + length test + 1 + length (body (length base + length test + 1)))))
+pub opened : (base test : List Instr) (z : ℕ → Instr) (body passes : ℕ → List Instr) (c1 c2 c3 c4 c5 : List Instr) (y : Instr) (at : ℕ)
+    → c1 ≡ base ++ test → at ≡ length c1 → c2 ≡ c1 ++ y ∷ [] → c3 ≡ c2 ++ body (length c2) → c4 ≡ slice_set c3 at (z (length c3)) → c5 ≡ c4 ++ passes (length c4) →
+    c5 ≡ base ++ (test ++ z (length base + length test + 1 + length (body (length base + length test + 1)))
+    ∷ (body (length base + length test + 1) ++ passes (length base + length test + 1 + length (body (length base + length test + 1)))))
 opened base test z body passes c1 c2 c3 c4 c5 y at e1 m e2 e3 e4 e5 =
     let f : ℕ = length base + length test + 1 in
     let made : List Instr = test ++ z (f + length (body f)) ∷ body f in
     let t : c4 ≡ base ++ made = tested base test z body c1 c2 c3 c4 y at e1 m e2 e3 e4 in
     let n : length c4 ≡ f + length (body f) = omega (arith, ap length t, length-append base made, length-append test (z (f + length (body f)) ∷ body f)) in
-    let last : (base ++ (test ++ z (f + length (body f)) ∷ body f)) ++ passes (f + length (body f)) ≡ base ++ (test ++ z (f + length (body f)) ∷ (body f ++ passes (f + length (body f)))) = simp append_assoc in
+    let last : (base ++ (test ++ z (f + length (body f)) ∷ body f)) ++ passes (f + length (body f)) ≡ base ++ (test ++ z (f + length (body f)) ∷ (body f ++ passes (f + length (body f)))) =
+    simp append_assoc in
     e5 ∙ ap (λ k. c4 ++ passes k) n ∙ ap (λ l. l ++ passes (f + length (body f))) t ∙ last
 
 -- one piece more of several, whose code goes on where its code ends
@@ -82,14 +88,19 @@ chosen base cc body more c1 c2 c3 c4 c5 c6 c7 y z test exit e1 t e2 e3 x e4 e5 e
     let n6 : length c6 ≡ length c5 + length (more (length c5)) = omega (arith, ap length e6, length-append c5 (more (length c5))) in
     let at : exit ≡ length (c1 ++ u ∷ body v) = omega (arith, x, n3, nd) in
     let made : List Instr → ℕ → ℕ → ℕ → ℕ → List Instr = λ l w o o' k. (l ++ JumpUnless o' ∷ body w) ++ Jump k ∷ more o in
-    let last : made (base ++ cc) (length base + length cc + 1) (length base + length cc + 1 + length (body (length base + length cc + 1)) + 1) (length base + length cc + 1 + length (body (length base + length cc + 1)) + 1) (length base + length cc + 1 + length (body (length base + length cc + 1)) + 1 + length (more (length base + length cc + 1 + length (body (length base + length cc + 1)) + 1))) ≡ base ++ choice_code (length base + length cc + 1) cc body more = simp append_assoc in
+    let last : made (base ++ cc) (length base + length cc + 1)
+    (length base + length cc + 1 + length (body (length base + length cc + 1)) + 1) (length base + length cc + 1 + length (body (length base + length cc + 1)) + 1)
+    (length base + length cc + 1 + length (body (length base + length cc + 1)) + 1 + length (more (length base + length cc + 1 + length (body (length base + length cc + 1)) + 1)))
+    ≡ base ++ choice_code (length base + length cc + 1) cc body more = simp append_assoc in
     e7
     ∙ aimed (c1 ++ u ∷ body v) c5 c6 (more (length c5)) z (Jump (length c6)) exit at again e6
     ∙ ap (λ k. made c1 v (length c5) (length c4) k) n6
     ∙ ap (λ o. made c1 v o (length c4) (o + length (more o))) n5
     ∙ ap (λ o. made c1 v (v + length (body v) + 1) o (v + length (body v) + 1 + length (more (v + length (body v) + 1)))) n4
     ∙ ap (λ w. made c1 w (w + length (body w) + 1) (w + length (body w) + 1) (w + length (body w) + 1 + length (more (w + length (body w) + 1)))) nv
-    ∙ ap (λ l. made l (length base + length cc + 1) (length base + length cc + 1 + length (body (length base + length cc + 1)) + 1) (length base + length cc + 1 + length (body (length base + length cc + 1)) + 1) (length base + length cc + 1 + length (body (length base + length cc + 1)) + 1 + length (more (length base + length cc + 1 + length (body (length base + length cc + 1)) + 1)))) e1
+    ∙ ap (λ l. made l (length base + length cc + 1)
+    (length base + length cc + 1 + length (body (length base + length cc + 1)) + 1) (length base + length cc + 1 + length (body (length base + length cc + 1)) + 1)
+    (length base + length cc + 1 + length (body (length base + length cc + 1)) + 1 + length (more (length base + length cc + 1 + length (body (length base + length cc + 1)) + 1)))) e1
     ∙ last
 
 -- a function of a variable: its name, what stands behind it, and the question

@@ -70,7 +70,14 @@ commands =
       formals = [];
       level = 1;
       steps =
-          record { condition = None; command = Set (record { targets = Several (Plain (Var Local (codes "X") No) ∷ Pieces (Var Global (codes "Y") (More (Chain (lit 49) Done) No)) (More (Chain (lit 45) Done) No) ∷ []); value = Chain (lit 50) Done } ∷ []) }
+          record {
+            condition = None;
+            command =
+                Set (record {
+                  targets = Several (Plain (Var Local (codes "X") No) ∷ Pieces (Var Global (codes "Y") (More (Chain (lit 49) Done) No)) (More (Chain (lit 45) Done) No) ∷ []);
+                  value = Chain (lit 50) Done;
+                } ∷ []);
+          }
           ∷ record { condition = None; command = Kill (Gone (Var Global (codes "Y") (More (Chain (lit 49) Done) No)) ∷ Spared (codes "X" ∷ []) ∷ []) }
           ∷ record { condition = None; command = Kill [] }
           ∷ record { condition = None; command = Merge (record { into = Var Global (codes "Z") No; from = Var Global (codes "Y") (More (Chain (lit 49) Done) No) } ∷ []) } ∷ [];
@@ -156,7 +163,10 @@ flow =
       label = None;
       formals = [];
       level = 1;
-      steps = record { condition = None; command = If [] } ∷ record { condition = None; command = Forever } ∷ record { condition = None; command = Do [] } ∷ record { condition = None; command = Quit } ∷ [];
+      steps = record {
+        condition = None;
+        command = If [];
+      } ∷ record { condition = None; command = Forever } ∷ record { condition = None; command = Do [] } ∷ record { condition = None; command = Quit } ∷ [];
     }
     ∷ record { label = None; formals = []; level = 1; steps = record { condition = Some (Chain (Value (Var Local (codes "X") No)) Done); command = Quit } ∷ [] }
     ∷ []

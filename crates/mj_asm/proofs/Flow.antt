@@ -63,7 +63,8 @@ module _ (image : List Routine) (units : List unit.Unit) (alike : LeadAlike imag
       let whole : Place → ℕ → List ℕ → Timed → Timed = λ p l ls rest. look (λ s. if may_go s p l ls then rest else fault NoLine) in
       look_at n (λ s. if may_go s (place_in f.unit f.line) f.head.level (levels_in f.unit) then there else fault NoLine)
       (λ s. if may_go s (place_in f.unit f.line) f.head.level (levels_in f.unit) then line else fault NoLine)
-      (λ s. if_at n (may_go s (place_in f.unit f.line) f.head.level (levels_in f.unit)) there line (fault NoLine) (fault NoLine) (at_found image units 0 d n n to f below leave (omega arith) le is lines k) refl)
+      (λ s. if_at n (may_go s (place_in f.unit f.line) f.head.level (levels_in f.unit)) there line
+      (fault NoLine) (fault NoLine) (at_found image units 0 d n n to f below leave (omega arith) le is lines k) refl)
       ∙ ap (λ p. whole p f.head.level (levels_in f.unit) line n) (sym place)
       ∙ ap (λ l. whole (place_at to.0) l (levels_in f.unit) line n) (sym level)
       ∙ ap (λ ls. whole (place_at to.0) to.1.level ls line n) (sym levels)
@@ -135,12 +136,14 @@ module _ (image : List Routine) (units : List unit.Unit) (alike : LeadAlike imag
           ∙ called_at false d n (entry_of here c.target) (spread (shape_of c.actuals) vs) (suspended ctx (pc + length ca + 1)) (λ v. change popped rest) (omega arith) (lines n lt)
           (goes_on b n (pc + length ca + 1) loops rest (omega arith) after)))
 
-      calls_follow : (list : List Called) (pc : ℕ) (rest : Timed) → HasAt code_here pc (calls_code here pc list) → follows_from (pc + length (calls_code here pc list)) rest → follows_from pc (calls (points_of image d) here list rest)
+      calls_follow : (list : List Called) (pc : ℕ) (rest : Timed)
+          → HasAt code_here pc (calls_code here pc list) → follows_from (pc + length (calls_code here pc list)) rest → follows_from pc (calls (points_of image d) here list rest)
       calls_follow [] pc rest has h = moved units u ctx at b pc (pc + 0) [] rest (omega arith) h
       calls_follow (c ∷ list) pc rest has h =
           let cc = code_if pc c.condition (call_code here c) in
           let later : Timed = calls (points_of image d) here list rest in
-          when_follows units u ctx at b (points_of image d) here c.condition (call_code here c) (ev_actuals (points_of image d) here c.actuals (λ vs. turn (points_of image d (CalledAt false (entry_of here c.target) vs (λ v. change popped later))))) later pc []
+          when_follows units u ctx at b (points_of image d) here c.condition (call_code here c)
+          (ev_actuals (points_of image d) here c.actuals (λ vs. turn (points_of image d (CalledAt false (entry_of here c.target) vs (λ v. change popped later))))) later pc []
           (has_front code_here pc cc _ has) (λ p has' after. call_one c p later has' after)
           (calls_follow list (pc + length cc) rest (has_back code_here pc cc _ has) (moved units u ctx at b _ _ [] rest (seam' pc cc (calls_code here (pc + length cc) list)) h))
 
@@ -152,18 +155,22 @@ module _ (image : List Routine) (units : List unit.Unit) (alike : LeadAlike imag
           let enters : State → State → State = λ s. pushed (place_in u k) (level_of s + 1) false (Some s.test) in
           deeper_at n (look (λ s. change (enters s) there')) (look (λ s. change (enters s) line))
           (look_at n (λ s. change (enters s) there') (λ s. change (enters s) line) (λ s. change_at n (enters s) there' line
-          ((lines n lt j u at (k + 1) (omega arith) (omega arith) (suspended ctx (pc + 1)) (λ v. change popped rest) (goes_on b n (pc + 1) loops rest (omega arith) h) d (omega arith)).by n (omega arith)))))
+          ((lines n lt j u at (k + 1) (omega arith) (omega arith) (suspended ctx (pc + 1)) (λ v. change popped rest) (goes_on b n (pc + 1) loops rest (omega arith) h) d (omega arith)).by n
+          (omega arith)))))
 
-      do_follows : (list : List Called) (pc : ℕ) (rest : Timed) → HasAt code_here pc (do_code here pc list) → follows_from (pc + length (do_code here pc list)) rest → follows_from pc (do_all (points_of image d) here list rest)
+      do_follows : (list : List Called) (pc : ℕ) (rest : Timed)
+          → HasAt code_here pc (do_code here pc list) → follows_from (pc + length (do_code here pc list)) rest → follows_from pc (do_all (points_of image d) here list rest)
       do_follows [] pc rest has h = block_follows pc rest has.0 h
       do_follows (c ∷ list) pc rest has h = calls_follow (c ∷ list) pc rest has h
 
-      jump_one : (y : Jumped) (pc : ℕ) (leave : Leave) → HasAt code_here pc (jump_code here y pc) → Leaves units b below leave → follows_from pc (turn (points_of image d (JumpedAt (entry_of here y.target) leave)))
+      jump_one : (y : Jumped) (pc : ℕ) (leave : Leave)
+          → HasAt code_here pc (jump_code here y pc) → Leaves units b below leave → follows_from pc (turn (points_of image d (JumpedAt (entry_of here y.target) leave)))
       jump_one y pc leave has q =
           one units u ctx at b pc [] (instr.Goto (entry_of here y.target)) _ has.0 (λ n lt.
           jumped_at d n (entry_of here y.target) below leave (omega arith) (lines n lt) (fewer_leaves units b n below leave (omega arith) q))
 
-      jumps_follow : (list : List Jumped) (pc : ℕ) (leave : Leave) (rest : Timed) → HasAt code_here pc (jumps_code here pc list) → Leaves units b below leave → follows_from (pc + length (jumps_code here pc list)) rest → follows_from pc (jumps (points_of image d) here list leave rest)
+      jumps_follow : (list : List Jumped) (pc : ℕ) (leave : Leave) (rest : Timed) → HasAt code_here pc (jumps_code here pc list)
+          → Leaves units b below leave → follows_from (pc + length (jumps_code here pc list)) rest → follows_from pc (jumps (points_of image d) here list leave rest)
       jumps_follow [] pc leave rest has q h = moved units u ctx at b pc (pc + 0) [] rest (omega arith) h
       jumps_follow (y ∷ list) pc leave rest has q h =
           let cc = code_if pc y.condition (jump_code here y) in
@@ -172,7 +179,8 @@ module _ (image : List Routine) (units : List unit.Unit) (alike : LeadAlike imag
           (has_front code_here pc cc _ has) (λ p has' after. jump_one y p leave has' q)
           (jumps_follow list (pc + length cc) leave rest (has_back code_here pc cc _ has) q (moved units u ctx at b _ _ [] rest (seam' pc cc (jumps_code here (pc + length cc) list)) h))
 
-      quit_follows : (out : Option ℕ) (quit : Option Timed) (leave : Leave) (pc : ℕ) → HasAt code_here pc (quit_code out) → QuitsFor b loops out quit → Leaves units b below leave → follows_from pc (turn (elim quit [ None ↦ quit_frame (leave []) | Some t ↦ t ]))
+      quit_follows : (out : Option ℕ) (quit : Option Timed) (leave : Leave) (pc : ℕ) → HasAt code_here pc (quit_code out) → QuitsFor b loops out quit
+          → Leaves units b below leave → follows_from pc (turn (elim quit [ None ↦ quit_frame (leave []) | Some t ↦ t ]))
       quit_follows None None leave pc has q h =
           one units u ctx at b pc [] instr.Quit (quit_frame (leave [])) has.0 (λ n lt. quits_same units n below leave (fewer_leaves units b n below leave (omega arith) h))
       quit_follows None (Some t) leave pc has q h = absurd q
@@ -261,7 +269,8 @@ module _ (image : List Routine) (units : List unit.Unit) (alike : LeadAlike imag
           (pass_follows d n (omega arith) (λ m lt'. lines m (omega arith)) l stands after (fewer_turns b n (there (l ∷ ls) l.resume) after (omega arith) resumes)
           (fewer_turns b n (there (l ∷ ls) close) (turn ways.line_end) (omega arith) closes) (fewer_leaves units b n below ways.leave (omega arith) leaves)).by n (omega arith))
 
-      module _ (b d : ℕ) (deep : b ≤ d) (lines : (m : ℕ) → m < b → DoLines image units m) (closes : (l : Loop) → Agree b (there (l ∷ ls) close) (turn ways.line_end)) (leaves : Leaves units b below ways.leave) where
+      module _ (b d : ℕ) (deep : b ≤ d) (lines : (m : ℕ)
+          → m < b → DoLines image units m) (closes : (l : Loop) → Agree b (there (l ∷ ls) close) (turn ways.line_end)) (leaves : Leaves units b below ways.leave) where
         -- the first pass of a range, and what comes after the range
         begun : (d n : ℕ) (l : Loop) → Stands l → (after : Timed) → n < b → n < d → Agree b (there (l ∷ ls) l.resume) after
             → exec units n (in_frame (l ∷ ls)) l.body [] n ≡ points_of image d (Pass here (passes_of l) steps after ways) n
@@ -285,10 +294,12 @@ module _ (image : List Routine) (units : List unit.Unit) (alike : LeadAlike imag
             let l' = with_passes l Once behind in
             let after : Timed = ranges (points_of image d) here l.name rs steps ways in
             let later : Agree b (there (l' ∷ ls) behind) after =
-            moved units u (in_frame (l' ∷ ls)) at b behind (pc + length cr) [] after (sym len) (ranges_follow rs l' (pc + length cr) (kept l l'.passes l'.resume stands) (has_back code_here pc cr _ has) whole) in
+            moved units u (in_frame (l' ∷ ls)) at b behind
+            (pc + length cr) [] after (sym len) (ranges_follow rs l' (pc + length cr) (kept l l'.passes l'.resume stands) (has_back code_here pc cr _ has) whole) in
             expr_follows units u c at b (points_of image d) here a pc [] _ (has_front code_here pc ca _ front) (λ v.
             one units u c at b (pc + length ca) (v ∷ []) i _ (has_back code_here pc ca _ front).0 (λ n lt.
-            store_at n l.name v (exec units n (in_frame (l' ∷ ls)) l.body []) (points_of image d (Pass here PassesOnce steps after ways)) (begun d n l' (kept l l'.passes l'.resume stands) after lt (omega arith) later)))
+            store_at n l.name v (exec units n (in_frame (l' ∷ ls)) l.body [])
+            (points_of image d (Pass here PassesOnce steps after ways)) (begun d n l' (kept l l'.passes l'.resume stands) after lt (omega arith) later)))
         ranges_follow (Endless a a2 ∷ rs) l pc stands has e =
             let c = in_frame (l ∷ ls) in
             let ca = expr_code pc a in
@@ -308,8 +319,10 @@ module _ (image : List Routine) (units : List unit.Unit) (alike : LeadAlike imag
             reading_two_at n v w _ _ (λ x step.
             let l' : Loop = with_passes l (By step None) (last + 1) in
             let later : Agree b (there (l' ∷ ls) (last + 1)) after =
-            moved units u (in_frame (l' ∷ ls)) at b (last + 1) (pc + length cr) [] after (sym len) (ranges_follow rs l' (pc + length cr) (kept l l'.passes l'.resume stands) (has_back code_here pc cr _ has) whole) in
-            first_at n l.name x step None (exec units n (in_frame (l' ∷ ls)) (last + 1) []) after (exec units n (in_frame (l' ∷ ls)) l.body []) (points_of image d (Pass here (PassesBy l.name step None) steps after ways))
+            moved units u (in_frame (l' ∷ ls)) at b
+            (last + 1) (pc + length cr) [] after (sym len) (ranges_follow rs l' (pc + length cr) (kept l l'.passes l'.resume stands) (has_back code_here pc cr _ has) whole) in
+            first_at n l.name x step None (exec units n (in_frame (l' ∷ ls)) (last + 1) []) after
+            (exec units n (in_frame (l' ∷ ls)) l.body []) (points_of image d (Pass here (PassesBy l.name step None) steps after ways))
             (later.by n (omega arith)) (begun d n l' (kept l l'.passes l'.resume stands) after lt (omega arith) later)))))
         ranges_follow (UpTo a a2 a3 ∷ rs) l pc stands has e =
             let c = in_frame (l ∷ ls) in
@@ -335,12 +348,15 @@ module _ (image : List Routine) (units : List unit.Unit) (alike : LeadAlike imag
             given_at n (reading z) _ _ (λ end ok.
             let l' : Loop = with_passes l (By step (Some end)) (last + 1) in
             let later : Agree b (there (l' ∷ ls) (last + 1)) after =
-            moved units u (in_frame (l' ∷ ls)) at b (last + 1) (pc + length cr) [] after (sym len) (ranges_follow rs l' (pc + length cr) (kept l l'.passes l'.resume stands) (has_back code_here pc cr _ has) whole) in
-            first_at n l.name x step (Some end) (exec units n (in_frame (l' ∷ ls)) (last + 1) []) after (exec units n (in_frame (l' ∷ ls)) l.body []) (points_of image d (Pass here (PassesBy l.name step (Some end)) steps after ways))
+            moved units u (in_frame (l' ∷ ls)) at b
+            (last + 1) (pc + length cr) [] after (sym len) (ranges_follow rs l' (pc + length cr) (kept l l'.passes l'.resume stands) (has_back code_here pc cr _ has) whole) in
+            first_at n l.name x step (Some end) (exec units n (in_frame (l' ∷ ls)) (last + 1) []) after
+            (exec units n (in_frame (l' ∷ ls)) l.body []) (points_of image d (Pass here (PassesBy l.name step (Some end)) steps after ways))
             (later.by n (omega arith)) (begun d n l' (kept l l'.passes l'.resume stands) after lt (omega arith) later)))))))
 
     -- where the passes of a FOR stand: what closes it, the commands, and the next pass
-    body_stands : (steps : List LineCommand) (close : ℕ) (l : Loop) → l.body ≡ close + 1 → HasAt code_here close (body_code close (λ p o. steps_code here p o steps)) → (follows : Follows steps) (ls : List Loop) (ways : Ways) → Stands steps follows ls close ways l
+    body_stands : (steps : List LineCommand) (close : ℕ) (l : Loop) → l.body ≡ close + 1
+        → HasAt code_here close (body_code close (λ p o. steps_code here p o steps)) → (follows : Follows steps) (ls : List Loop) (ways : Ways) → Stands steps follows ls close ways l
     body_stands steps close l e has follows ls ways =
         let cb = steps_code here (close + 1) (Some close) steps in
         record {
@@ -356,7 +372,8 @@ module _ (image : List Routine) (units : List unit.Unit) (alike : LeadAlike imag
         let len : target ≡ close + length (body_code close (λ p o. steps_code here p o steps)) = omega (arith, length-append cb (instr.ForAgain ∷ [])) in
         one units u (in_frame (l ∷ ls)) at b close [] (instr.ForClose target) line_end has.0 (λ n lt. (moved units u (in_frame ls) at b target _ [] line_end len h).by n (omega arith))
 
-    for_follows : (steps : List LineCommand) → Follows steps → (b d : ℕ) → b ≤ d → ((m : ℕ) → m < b → DoLines image units m) → (loops : List Loop) (ways : Ways) (v : Variable) (rs : List Range) (pc : ℕ)
+    for_follows : (steps : List LineCommand)
+        → Follows steps → (b d : ℕ) → b ≤ d → ((m : ℕ) → m < b → DoLines image units m) → (loops : List Loop) (ways : Ways) (v : Variable) (rs : List Range) (pc : ℕ)
         → HasAt code_here pc (for_code pc v rs (λ p o. steps_code here p o steps)) → Agree b (there loops (pc + length (for_code pc v rs (λ p o. steps_code here p o steps)))) ways.line_end
         → Leaves units b below ways.leave
         → Agree b (there loops pc) (ev_local (points_of image d) here v (λ x. ranges (points_of image d) here x rs steps ways))
@@ -374,15 +391,19 @@ module _ (image : List Routine) (units : List unit.Unit) (alike : LeadAlike imag
         let behind : Agree b (there loops (close + length cb)) ways.line_end = moved units u c at b _ _ [] ways.line_end len h in
         local_follows units u c at b (points_of image d) here v i pc [] (λ x. ranges (points_of image d) here x rs steps ways) (has_front code_here pc cs _ has) back.0 (λ ss n lt many.
         let opened : List (List ℕ) → Stack → Name → Timed = λ l st x. exec units n (in_frame (record { name = x; passes = Once; body = close + 1; resume = first } ∷ loops)) first st in
-        ap (λ l. given (name_of Local (reference v).word l) (λ x. exec units n (in_frame (record { name = x; passes = Once; body = close + 1; resume = first } ∷ loops)) first (drop (reference v).count (onto ss []))) n) (operands_are ss [] _ many)
-        ∙ ap (λ st. given (name_of Local (reference v).word ss) (λ x. exec units n (in_frame (record { name = x; passes = Once; body = close + 1; resume = first } ∷ loops)) first st) n) (rest_below ss [] _ many)
-        ∙ given_at n (name_of Local (reference v).word ss) (λ x. exec units n (in_frame (record { name = x; passes = Once; body = close + 1; resume = first } ∷ loops)) first []) (λ x. ranges (points_of image d) here x rs steps ways) (λ x ok.
+        ap (λ l. given (name_of Local (reference v).word l) (λ x. exec units n
+        (in_frame (record { name = x; passes = Once; body = close + 1; resume = first } ∷ loops)) first (drop (reference v).count (onto ss []))) n) (operands_are ss [] _ many)
+        ∙ ap (λ st. given (name_of Local (reference v).word ss) (λ x. exec units n (in_frame (record { name = x; passes = Once; body = close + 1; resume = first } ∷ loops)) first st) n)
+        (rest_below ss [] _ many)
+        ∙ given_at n (name_of Local (reference v).word ss) (λ x. exec units n (in_frame (record { name = x; passes = Once; body = close + 1; resume = first } ∷ loops)) first [])
+        (λ x. ranges (points_of image d) here x rs steps ways) (λ x ok.
         let l : Loop = record { name = x; passes = Once; body = close + 1; resume = first } in
         (ranges_follow steps follows loops close ways b d deep lines (λ l'. closed b steps close l' loops ways.line_end has_body behind) leaves rs l first
         (body_stands steps close l refl has_body follows loops ways) (has_front code_here first cr cb back.1) refl).by n (omega arith)))
 
     forever_follows : (steps : List LineCommand) → Follows steps → (b d : ℕ) → b ≤ d → ((m : ℕ) → m < b → DoLines image units m) → (loops : List Loop) (ways : Ways) (pc : ℕ)
-        → HasAt code_here pc (instr.ForForever ∷ body_code (pc + 1) (λ p o. steps_code here p o steps)) → Agree b (there loops (pc + length (instr.ForForever ∷ body_code (pc + 1) (λ p o. steps_code here p o steps)))) ways.line_end
+        → HasAt code_here pc (instr.ForForever ∷ body_code (pc + 1) (λ p o. steps_code here p o steps))
+        → Agree b (there loops (pc + length (instr.ForForever ∷ body_code (pc + 1) (λ p o. steps_code here p o steps)))) ways.line_end
         → Leaves units b below ways.leave
         → Agree b (there loops pc) (turn (points_of image d (Pass here PassesAlways steps (turn ways.line_end) ways)))
     forever_follows steps follows b d deep lines loops ways pc has h leaves =
@@ -398,10 +419,13 @@ module _ (image : List Routine) (units : List unit.Unit) (alike : LeadAlike imag
         (body_stands steps (pc + 1) l e has.1 follows loops ways) (turn ways.line_end) lt (omega arith) ends)
 
     -- a command behind its postcondition, and the rest of its line
-    rest_follows : (command : Command) (c : Option Expr) (done : Timed) (steps : List LineCommand) → Follows steps → (b d : ℕ) → b ≤ d → ((m : ℕ) → m < b → DoLines image units m) → (loops : List Loop) (out : Option ℕ) (ways : Ways) (pc : ℕ)
-        → HasAt code_here pc (and_then here pc out c command (λ p o. steps_code here p o steps)) → Agree b (there loops (pc + length (and_then here pc out c command (λ p o. steps_code here p o steps)))) ways.line_end
+    rest_follows : (command : Command) (c : Option Expr) (done : Timed) (steps : List LineCommand)
+        → Follows steps → (b d : ℕ) → b ≤ d → ((m : ℕ) → m < b → DoLines image units m) → (loops : List Loop) (out : Option ℕ) (ways : Ways) (pc : ℕ)
+        → HasAt code_here pc (and_then here pc out c command (λ p o. steps_code here p o steps))
+        → Agree b (there loops (pc + length (and_then here pc out c command (λ p o. steps_code here p o steps)))) ways.line_end
         → QuitsFor b loops out ways.for_quit → Leaves units b below ways.leave
-        → ((p : ℕ) → HasAt code_here p (command_code here p out command) → Agree b (there loops (p + length (command_code here p out command))) (obey_all (points_of image d) here steps ways) → Agree b (there loops p) done)
+        → ((p : ℕ) → HasAt code_here p (command_code here p out command)
+        → Agree b (there loops (p + length (command_code here p out command))) (obey_all (points_of image d) here steps ways) → Agree b (there loops p) done)
         → Agree b (there loops pc) (when (points_of image d) here c done (obey_all (points_of image d) here steps ways))
     rest_follows command c done steps f b d deep lines loops out ways pc has h quits leaves made =
         let cc = code_if pc c (λ p. command_code here p out command) in
@@ -411,8 +435,10 @@ module _ (image : List Routine) (units : List unit.Unit) (alike : LeadAlike imag
         (f b d deep lines loops out ways (pc + length cc) (has_back code_here pc cc cs has) (moved units u (in_frame loops) at b _ _ [] ways.line_end (seam' pc cc cs) h) quits leaves)
 
     -- a command with its postcondition, and the rest of its line
-    step_follows : (command : Command) (c : Option Expr) (steps : List LineCommand) → Follows steps → (b d : ℕ) → b ≤ d → ((m : ℕ) → m < b → DoLines image units m) → (loops : List Loop) (out : Option ℕ) (ways : Ways) (pc : ℕ)
-        → HasAt code_here pc (obey_code here pc out command c (λ p o. steps_code here p o steps)) → Agree b (there loops (pc + length (obey_code here pc out command c (λ p o. steps_code here p o steps)))) ways.line_end
+    step_follows : (command : Command) (c : Option Expr) (steps : List LineCommand) → Follows steps → (b d : ℕ)
+        → b ≤ d → ((m : ℕ) → m < b → DoLines image units m) → (loops : List Loop) (out : Option ℕ) (ways : Ways) (pc : ℕ)
+        → HasAt code_here pc (obey_code here pc out command c (λ p o. steps_code here p o steps))
+        → Agree b (there loops (pc + length (obey_code here pc out command c (λ p o. steps_code here p o steps)))) ways.line_end
         → QuitsFor b loops out ways.for_quit → Leaves units b below ways.leave
         → Agree b (there loops pc) (obey (points_of image d) here command c steps ways (obey_all (points_of image d) here steps ways))
     step_follows (Set list) c steps f b d deep lines loops out ways pc has h quits leaves =

@@ -89,14 +89,16 @@ module _ (units : List unit.Unit) (u : unit.Unit) (ctx : Context) (there : slice
     -- what stands in a line, whatever points lead to
     module _ (points : Points) (here : Here) where
       mutual
-        pub expr_follows : (e : Expr) (pc : ℕ) (stack : Stack) (rest : List ℕ → Timed) → HasAt code pc (expr_code pc e) → ((v : List ℕ) → Agree b (from (pc + length (expr_code pc e)) (v ∷ stack)) (rest v)) → Agree b (from pc stack) (ev points here e rest)
+        pub expr_follows : (e : Expr) (pc : ℕ) (stack : Stack) (rest : List ℕ → Timed)
+            → HasAt code pc (expr_code pc e) → ((v : List ℕ) → Agree b (from (pc + length (expr_code pc e)) (v ∷ stack)) (rest v)) → Agree b (from pc stack) (ev points here e rest)
         expr_follows (Chain x ts) pc stack rest has k =
             let cx = operand_code pc x in
             operand_follows x pc stack _ (has_front code pc cx _ has) (λ v.
             tails_follow ts (pc + length cx) v stack rest (has_back code pc cx _ has) (λ w.
             moved _ _ (w ∷ stack) (rest w) (seam pc cx (tails_code (pc + length cx) ts)) (k w)))
 
-        tails_follow : (ts : Tails) (pc : ℕ) (v : List ℕ) (stack : Stack) (rest : List ℕ → Timed) → HasAt code pc (tails_code pc ts) → ((w : List ℕ) → Agree b (from (pc + length (tails_code pc ts)) (w ∷ stack)) (rest w)) → Agree b (from pc (v ∷ stack)) (ev_tails points here v ts rest)
+        tails_follow : (ts : Tails) (pc : ℕ) (v : List ℕ) (stack : Stack) (rest : List ℕ → Timed) → HasAt code pc (tails_code pc ts)
+            → ((w : List ℕ) → Agree b (from (pc + length (tails_code pc ts)) (w ∷ stack)) (rest w)) → Agree b (from pc (v ∷ stack)) (ev_tails points here v ts rest)
         tails_follow Done pc v stack rest has k = moved pc (pc + 0) (v ∷ stack) (rest v) (omega arith) (k v)
         tails_follow (Then op x ts) pc v stack rest has k =
             let cx = operand_code pc x in
@@ -109,13 +111,15 @@ module _ (units : List unit.Unit) (u : unit.Unit) (ctx : Context) (there : slice
             given_at n (binary_value op v w) _ _ (λ r e.
             (tails_follow ts (pc + length cx + 1) r stack rest back.1 (λ q. moved _ _ (q ∷ stack) (rest q) len (k q))).by n (omega arith))))
 
-        operand_follows : (x : Operand) (pc : ℕ) (stack : Stack) (rest : List ℕ → Timed) → HasAt code pc (operand_code pc x) → ((v : List ℕ) → Agree b (from (pc + length (operand_code pc x)) (v ∷ stack)) (rest v)) → Agree b (from pc stack) (ev_operand points here x rest)
+        operand_follows : (x : Operand) (pc : ℕ) (stack : Stack) (rest : List ℕ → Timed) → HasAt code pc (operand_code pc x)
+            → ((v : List ℕ) → Agree b (from (pc + length (operand_code pc x)) (v ∷ stack)) (rest v)) → Agree b (from pc stack) (ev_operand points here x rest)
         operand_follows (Literal t) pc stack rest has k = one pc stack (instr.Push t) _ has.0 (λ n lt. (k t).by n (omega arith))
         operand_follows (Value v) pc stack rest has k =
             let cs = subscripts_code pc v in
             let i = instr.Load (reference v) in
             name_follows v i pc stack _ (has_front code pc cs _ has) (has_back code pc cs _ has).0 (λ ss n lt many.
-            ap (λ l. given (name_of (reference v).scope (reference v).word l) (λ x. read x (λ w. exec units n ctx (pc + length cs + 1) (w ∷ drop (reference v).count (onto ss stack)))) n) (operands_are ss stack _ many)
+            ap (λ l. given (name_of (reference v).scope (reference v).word l) (λ x. read x (λ w. exec units n ctx (pc + length cs + 1) (w ∷ drop (reference v).count (onto ss stack)))) n)
+            (operands_are ss stack _ many)
             ∙ ap (λ st. given (name_of (reference v).scope (reference v).word ss) (λ x. read x (λ w. exec units n ctx (pc + length cs + 1) (w ∷ st))) n) (rest_below ss stack _ many)
             ∙ given_at n (name_of (reference v).scope (reference v).word ss) _ _ (λ x e.
             read_at n x _ _ (λ w. (moved _ _ (w ∷ stack) (rest w) (end_of pc cs i) (k w)).by n (omega arith))))
@@ -145,7 +149,8 @@ module _ (units : List unit.Unit) (u : unit.Unit) (ctx : Context) (there : slice
             let ce = exprs_code pv es in
             let i = instr.CallNameFunction f r total in
             let back = has_back code pc cs (instr.CheckNamed f r ∷ (ce ++ i ∷ [])) has in
-            let len : pv + length ce + 1 ≡ pc + length (cs ++ instr.CheckNamed f r ∷ (ce ++ i ∷ [])) = omega (arith, length-append cs (instr.CheckNamed f r ∷ (ce ++ i ∷ [])), length-append ce (i ∷ [])) in
+            let len : pv + length ce + 1 ≡ pc + length (cs ++ instr.CheckNamed f r ∷ (ce ++ i ∷ [])) =
+            omega (arith, length-append cs (instr.CheckNamed f r ∷ (ce ++ i ∷ [])), length-append ce (i ∷ [])) in
             let few : total - r.count ≡ count es = omega arith in
             named_follows f v (instr.CheckNamed f r) pc stack _ (has_front code pc cs _ has) back.0 (λ ss n lt many.
             ap (λ l. given (named_for f r.scope r.word l) (λ x. exec units n ctx pv (onto ss stack)) n) (operands_are ss stack _ many)
@@ -153,16 +158,22 @@ module _ (units : List unit.Unit) (u : unit.Unit) (ctx : Context) (there : slice
             (all_follow es pv (onto ss stack) (λ vs. turn (about f x (optional 0 vs) rest)) (has_front code pv ce _ back.1) (λ vs some.
             let st = onto vs (onto ss stack) in
             one (pv + length ce) st i _ (has_back code pv ce _ back.1).0 (λ m lt'.
-            ap (λ j. given (named_for f r.scope r.word (operands r.count (drop j st))) (λ y. about f y (optional 0 (operands j st)) (λ w. exec units m ctx (pv + length ce + 1) (w ∷ drop total st))) m) few
-            ∙ ap (λ l. given (named_for f r.scope r.word (operands r.count l)) (λ y. about f y (optional 0 (operands (count es) st)) (λ w. exec units m ctx (pv + length ce + 1) (w ∷ drop total st))) m) (rest_below vs (onto ss stack) _ some)
-            ∙ ap (λ l. given (named_for f r.scope r.word l) (λ y. about f y (optional 0 (operands (count es) st)) (λ w. exec units m ctx (pv + length ce + 1) (w ∷ drop total st))) m) (operands_are ss stack _ many)
-            ∙ ap (λ l. given (named_for f r.scope r.word ss) (λ y. about f y (optional 0 l) (λ w. exec units m ctx (pv + length ce + 1) (w ∷ drop total st))) m) (operands_are vs (onto ss stack) _ some)
-            ∙ ap (λ l. given (named_for f r.scope r.word ss) (λ y. about f y (optional 0 vs) (λ w. exec units m ctx (pv + length ce + 1) (w ∷ l))) m) (both_below ss vs stack total (omega (arith, many, some)))
+            ap (λ j. given (named_for f r.scope r.word (operands r.count (drop j st))) (λ y. about f y (optional 0 (operands j st)) (λ w. exec units m ctx (pv + length ce + 1) (w ∷ drop total st))) m)
+            few
+            ∙ ap (λ l. given (named_for f r.scope r.word (operands r.count l))
+            (λ y. about f y (optional 0 (operands (count es) st)) (λ w. exec units m ctx (pv + length ce + 1) (w ∷ drop total st))) m) (rest_below vs (onto ss stack) _ some)
+            ∙ ap (λ l. given (named_for f r.scope r.word l) (λ y. about f y (optional 0 (operands (count es) st)) (λ w. exec units m ctx (pv + length ce + 1) (w ∷ drop total st))) m)
+            (operands_are ss stack _ many)
+            ∙ ap (λ l. given (named_for f r.scope r.word ss) (λ y. about f y (optional 0 l) (λ w. exec units m ctx (pv + length ce + 1) (w ∷ drop total st))) m)
+            (operands_are vs (onto ss stack) _ some)
+            ∙ ap (λ l. given (named_for f r.scope r.word ss) (λ y. about f y (optional 0 vs) (λ w. exec units m ctx (pv + length ce + 1) (w ∷ l))) m)
+            (both_below ss vs stack total (omega (arith, many, some)))
             ∙ ap (λ o. given o (λ y. about f y (optional 0 vs) (λ w. exec units m ctx (pv + length ce + 1) (w ∷ stack))) m) e
             ∙ about_at m f x (optional 0 vs) (λ w. exec units m ctx (pv + length ce + 1) (w ∷ stack)) rest (λ w. (moved _ _ (w ∷ stack) (rest w) len (k w)).by m (omega arith))))).by n (omega arith)))
         operand_follows (Select choices) pc stack rest has k = choices_follow choices pc stack rest has k
 
-        choices_follow : (x : Choices) (pc : ℕ) (stack : Stack) (rest : List ℕ → Timed) → HasAt code pc (choices_code pc x) → ((v : List ℕ) → Agree b (from (pc + length (choices_code pc x)) (v ∷ stack)) (rest v)) → Agree b (from pc stack) (ev_choices points here x rest)
+        choices_follow : (x : Choices) (pc : ℕ) (stack : Stack) (rest : List ℕ → Timed) → HasAt code pc (choices_code pc x)
+            → ((v : List ℕ) → Agree b (from (pc + length (choices_code pc x)) (v ∷ stack)) (rest v)) → Agree b (from pc stack) (ev_choices points here x rest)
         choices_follow (Last c e) pc stack rest has k =
             let cc' = expr_code pc c in
             let value = pc + length cc' + 1 in
@@ -172,7 +183,8 @@ module _ (units : List unit.Unit) (u : unit.Unit) (ctx : Context) (there : slice
             let i = instr.JumpUnless others in
             let back = has_back code pc cc' (i ∷ (ce ++ j ∷ instr.SelectFails ∷ [])) has in
             let back' = has_back code value ce (j ∷ instr.SelectFails ∷ []) back.1 in
-            let end : others + 1 ≡ pc + length (cc' ++ i ∷ (ce ++ j ∷ instr.SelectFails ∷ [])) = omega (arith, length-append cc' (i ∷ (ce ++ j ∷ instr.SelectFails ∷ [])), length-append ce (j ∷ instr.SelectFails ∷ [])) in
+            let end : others + 1 ≡ pc + length (cc' ++ i ∷ (ce ++ j ∷ instr.SelectFails ∷ [])) =
+            omega (arith, length-append cc' (i ∷ (ce ++ j ∷ instr.SelectFails ∷ [])), length-append ce (j ∷ instr.SelectFails ∷ [])) in
             expr_follows c pc stack _ (has_front code pc cc' _ has) (λ v.
             one (pc + length cc') (v ∷ stack) i _ back.0 (λ n lt.
             given_at n (truth_value v) _ _ (λ t q.
@@ -200,16 +212,23 @@ module _ (units : List unit.Unit) (u : unit.Unit) (ctx : Context) (there : slice
             ((choices_follow x others stack rest back'.1 (λ w. moved _ _ (w ∷ stack) (rest w) end (k w))).by n (omega arith)))))
 
         -- a variable's subscripts, and an instruction that takes its name
-        name_follows : (v : Variable) (i : Instr) (pc : ℕ) (stack : Stack) (rest : Name → Timed) → HasAt code pc (subscripts_code pc v) → slice_get code (pc + length (subscripts_code pc v)) ≡ Some i → ((ss : List (List ℕ)) (n : ℕ) → n < b → length ss ≡ (reference v).count → acts i (pc + length (subscripts_code pc v)) (onto ss stack) n n ≡ given (name_of (reference v).scope (reference v).word ss) rest n) → Agree b (from pc stack) (ev_name points here v rest)
+        name_follows : (v : Variable) (i : Instr) (pc : ℕ) (stack : Stack) (rest : Name → Timed) → HasAt code pc (subscripts_code pc v) → slice_get code (pc + length (subscripts_code pc v)) ≡ Some i
+            → ((ss : List (List ℕ)) (n : ℕ) → n < b → length ss ≡ (reference v).count → acts i (pc + length (subscripts_code pc v)) (onto ss stack) n n
+            ≡ given (name_of (reference v).scope (reference v).word ss) rest n) → Agree b (from pc stack) (ev_name points here v rest)
         name_follows (Var scope word es) i pc stack rest has at k =
             all_follow es pc stack _ has (λ ss many. one _ (onto ss stack) i _ at (λ n lt. k ss n lt many))
 
         -- and one that takes the name for a function
-        named_follows : (f : NameFunction) (v : Variable) (i : Instr) (pc : ℕ) (stack : Stack) (rest : Name → Timed) → HasAt code pc (subscripts_code pc v) → slice_get code (pc + length (subscripts_code pc v)) ≡ Some i → ((ss : List (List ℕ)) (n : ℕ) → n < b → length ss ≡ (reference v).count → acts i (pc + length (subscripts_code pc v)) (onto ss stack) n n ≡ given (named_for f (reference v).scope (reference v).word ss) rest n) → Agree b (from pc stack) (ev_named points here f v rest)
+        named_follows : (f : NameFunction) (v : Variable) (i : Instr) (pc : ℕ) (stack : Stack) (rest : Name → Timed)
+            → HasAt code pc (subscripts_code pc v) → slice_get code (pc + length (subscripts_code pc v)) ≡ Some i → ((ss : List (List ℕ)) (n : ℕ) → n < b
+            → length ss ≡ (reference v).count → acts i (pc + length (subscripts_code pc v)) (onto ss stack) n n ≡ given (named_for f (reference v).scope (reference v).word ss) rest n)
+            → Agree b (from pc stack) (ev_named points here f v rest)
         named_follows f (Var scope word es) i pc stack rest has at k =
             all_follow es pc stack _ has (λ ss many. one _ (onto ss stack) i _ at (λ n lt. k ss n lt many))
 
-        all_follow : (es : Exprs) (pc : ℕ) (stack : Stack) (rest : List (List ℕ) → Timed) → HasAt code pc (exprs_code pc es) → ((vs : List (List ℕ)) → length vs ≡ count es → Agree b (from (pc + length (exprs_code pc es)) (onto vs stack)) (rest vs)) → Agree b (from pc stack) (ev_all points here es rest)
+        all_follow : (es : Exprs) (pc : ℕ) (stack : Stack) (rest : List (List ℕ) → Timed)
+            → HasAt code pc (exprs_code pc es) → ((vs : List (List ℕ)) → length vs ≡ count es → Agree b (from (pc + length (exprs_code pc es)) (onto vs stack)) (rest vs))
+            → Agree b (from pc stack) (ev_all points here es rest)
         all_follow No pc stack rest has k = moved pc (pc + 0) stack (rest []) (omega arith) (k [] refl)
         all_follow (More e es) pc stack rest has k =
             let ce = expr_code pc e in
@@ -219,8 +238,10 @@ module _ (units : List unit.Unit) (u : unit.Unit) (ctx : Context) (there : slice
             moved _ _ (onto vs (v ∷ stack)) (rest (v ∷ vs)) (seam pc ce cr) (k (v ∷ vs) (omega (arith, many)))))
 
       -- a name that is looked at, and then what comes behind it
-      checked : (v : Variable) (pc : ℕ) (stack : Stack) (rest : Name → Timed) → HasAt code pc (subscripts_code pc v) → slice_get code (pc + length (subscripts_code pc v)) ≡ Some (instr.CheckName (reference v))
-          → ((x : Name) (ss : List (List ℕ)) → length ss ≡ (reference v).count → name_of (reference v).scope (reference v).word ss ≡ Ok x → Agree b (from (pc + length (subscripts_code pc v) + 1) (onto ss stack)) (rest x))
+      checked : (v : Variable) (pc : ℕ) (stack : Stack) (rest : Name → Timed) → HasAt code pc (subscripts_code pc v)
+          → slice_get code (pc + length (subscripts_code pc v)) ≡ Some (instr.CheckName (reference v))
+          → ((x : Name) (ss : List (List ℕ)) → length ss ≡ (reference v).count
+          → name_of (reference v).scope (reference v).word ss ≡ Ok x → Agree b (from (pc + length (subscripts_code pc v) + 1) (onto ss stack)) (rest x))
           → Agree b (from pc stack) (ev_name points here v rest)
       checked v pc stack rest has at k =
           let r = reference v in
@@ -307,7 +328,8 @@ module _ (units : List unit.Unit) (u : unit.Unit) (ctx : Context) (there : slice
           store_follows d t depth pc (e ∷ full) base (put_all ts e rest) (subst (λ st. Lies d t st base) (sym under) l.1) (has_front code pc cs _ has)
           (stores_follow list ts (pc + length cs) e full l.0 rest l.2 (has_back code pc cs _ has) (moved _ _ (e ∷ full) rest (seam pc cs (stores_code list)) k))
 
-      targets_follow : (targets : Targets) (e : Expr) (pc : ℕ) (stack : Stack) (rest : Timed) → HasAt code pc (targets_code pc targets e) → Agree b (from (pc + length (targets_code pc targets e)) stack) rest → Agree b (from pc stack) (assign_to points here targets e rest)
+      targets_follow : (targets : Targets) (e : Expr) (pc : ℕ) (stack : Stack) (rest : Timed)
+          → HasAt code pc (targets_code pc targets e) → Agree b (from (pc + length (targets_code pc targets e)) stack) rest → Agree b (from pc stack) (assign_to points here targets e rest)
       targets_follow (One d) e pc stack rest has k =
           let depth : Depth = record { above = 1; taken = size d + 1 } in
           let cd = destination_code pc d in
@@ -327,30 +349,35 @@ module _ (units : List unit.Unit) (u : unit.Unit) (ctx : Context) (there : slice
           let back = has_back code pc cd (ce ++ (cs ++ i ∷ [])) has in
           let back' = has_back code (pc + length cd) ce (cs ++ i ∷ []) back in
           let at = pc + length cd + length ce in
-          let len : at + length cs + 1 ≡ pc + length (cd ++ (ce ++ (cs ++ i ∷ []))) = omega (arith, length-append cd (ce ++ (cs ++ i ∷ [])), length-append ce (cs ++ i ∷ []), length-append cs (i ∷ [])) in
+          let len : at + length cs + 1 ≡ pc + length (cd ++ (ce ++ (cs ++ i ∷ []))) =
+          omega (arith, length-append cd (ce ++ (cs ++ i ∷ [])), length-append ce (cs ++ i ∷ []), length-append cs (i ∷ [])) in
           destinations_follow list pc stack _ (has_front code pc cd _ has) (λ ts st l.
           expr_follows e (pc + length cd) st (λ v. put_all ts v (turn rest)) (has_front code (pc + length cd) ce _ back) (λ v.
           stores_follow list ts at v st stack (turn rest) l (has_front code at cs _ back')
           (one (at + length cs) (v ∷ st) i rest (has_back code at cs _ back').0 (λ n lt.
           (over (at + length cs + 1) (drop (sizes list + 1) (v ∷ st)) stack rest (drop_more (sizes list) v st ∙ below_all list ts st stack l) (moved _ _ stack rest len k)).by n (omega arith)))))
 
-      assign_follows : (a : Assignment) (pc : ℕ) (stack : Stack) (rest : Timed) → HasAt code pc (assignment_code pc a) → Agree b (from (pc + length (assignment_code pc a)) stack) rest → Agree b (from pc stack) (assign points here a rest)
+      assign_follows : (a : Assignment) (pc : ℕ) (stack : Stack) (rest : Timed)
+          → HasAt code pc (assignment_code pc a) → Agree b (from (pc + length (assignment_code pc a)) stack) rest → Agree b (from pc stack) (assign points here a rest)
       assign_follows a pc stack rest has k = targets_follow a.targets a.value pc stack rest has k
 
-      pub assigns_follow : (list : List Assignment) (pc : ℕ) (stack : Stack) (rest : Timed) → HasAt code pc (assignments_code pc list) → Agree b (from (pc + length (assignments_code pc list)) stack) rest → Agree b (from pc stack) (assign_all points here list rest)
+      pub assigns_follow : (list : List Assignment) (pc : ℕ) (stack : Stack) (rest : Timed)
+          → HasAt code pc (assignments_code pc list) → Agree b (from (pc + length (assignments_code pc list)) stack) rest → Agree b (from pc stack) (assign_all points here list rest)
       assigns_follow [] pc stack rest has k = moved pc (pc + 0) stack rest (omega arith) k
       assigns_follow (a ∷ list) pc stack rest has k =
           let ca = assignment_code pc a in
           assign_follows a pc stack _ (has_front code pc ca _ has)
           (assigns_follow list (pc + length ca) stack rest (has_back code pc ca _ has) (moved _ _ stack rest (seam pc ca (assignments_code (pc + length ca) list)) k))
 
-      pub names_follow : (words : List (List ℕ)) (pc : ℕ) (stack : Stack) (rest : Timed) → HasAt code pc (names_code words) → Agree b (from (pc + length (names_code words)) stack) rest → Agree b (from pc stack) (named words rest)
+      pub names_follow : (words : List (List ℕ)) (pc : ℕ) (stack : Stack) (rest : Timed)
+          → HasAt code pc (names_code words) → Agree b (from (pc + length (names_code words)) stack) rest → Agree b (from pc stack) (named words rest)
       names_follow [] pc stack rest has k = moved pc (pc + 0) stack rest (omega arith) k
       names_follow (word ∷ words) pc stack rest has k =
           let len : pc + 1 + length (names_code words) ≡ pc + length (names_code (word ∷ words)) = omega arith in
           one pc stack (instr.Discard 0) _ has.0 (λ n lt. (names_follow words (pc + 1) stack rest has.1 (moved _ _ stack rest len k)).by n (omega arith))
 
-      kill_follows : (x : Killed) (pc : ℕ) (stack : Stack) (rest : Timed) → HasAt code pc (kill_code pc x) → Agree b (from (pc + length (kill_code pc x)) stack) rest → Agree b (from pc stack) (kill points here x rest)
+      kill_follows : (x : Killed) (pc : ℕ) (stack : Stack) (rest : Timed) → HasAt code pc (kill_code pc x)
+          → Agree b (from (pc + length (kill_code pc x)) stack) rest → Agree b (from pc stack) (kill points here x rest)
       kill_follows (Gone v) pc stack rest has k =
           let r = reference v in
           let cs = subscripts_code pc v in
@@ -371,19 +398,22 @@ module _ (units : List unit.Unit) (u : unit.Unit) (ctx : Context) (there : slice
           (one (pc + length cn) stack (instr.KillExcept words) _ (has_back code pc cn _ has).0 (λ n lt.
           change_at n (kill_except words) (exec units n ctx (pc + length cn + 1) stack) rest ((moved _ _ stack rest (end_of pc cn (instr.KillExcept words)) k).by n (omega arith))))
 
-      kills_follow : (list : List Killed) (pc : ℕ) (stack : Stack) (rest : Timed) → HasAt code pc (kills_code pc list) → Agree b (from (pc + length (kills_code pc list)) stack) rest → Agree b (from pc stack) (kill_list points here list rest)
+      kills_follow : (list : List Killed) (pc : ℕ) (stack : Stack) (rest : Timed)
+          → HasAt code pc (kills_code pc list) → Agree b (from (pc + length (kills_code pc list)) stack) rest → Agree b (from pc stack) (kill_list points here list rest)
       kills_follow [] pc stack rest has k = moved pc (pc + 0) stack rest (omega arith) k
       kills_follow (x ∷ list) pc stack rest has k =
           let cx = kill_code pc x in
           kill_follows x pc stack _ (has_front code pc cx _ has)
           (kills_follow list (pc + length cx) stack rest (has_back code pc cx _ has) (moved _ _ stack rest (seam pc cx (kills_code (pc + length cx) list)) k))
 
-      pub kill_all_follows : (list : List Killed) (pc : ℕ) (stack : Stack) (rest : Timed) → HasAt code pc (kill_all_code pc list) → Agree b (from (pc + length (kill_all_code pc list)) stack) rest → Agree b (from pc stack) (kill_all points here list rest)
+      pub kill_all_follows : (list : List Killed) (pc : ℕ) (stack : Stack) (rest : Timed)
+          → HasAt code pc (kill_all_code pc list) → Agree b (from (pc + length (kill_all_code pc list)) stack) rest → Agree b (from pc stack) (kill_all points here list rest)
       kill_all_follows [] pc stack rest has k =
           one pc stack (instr.KillExcept []) _ has.0 (λ n lt. change_at n (kill_except []) (exec units n ctx (pc + 1) stack) rest (k.by n (omega arith)))
       kill_all_follows (x ∷ list) pc stack rest has k = kills_follow (x ∷ list) pc stack rest has k
 
-      merge_follows : (m : Merged) (pc : ℕ) (stack : Stack) (rest : Timed) → HasAt code pc (merge_code pc m) → Agree b (from (pc + length (merge_code pc m)) stack) rest → Agree b (from pc stack) (merge points here m rest)
+      merge_follows : (m : Merged) (pc : ℕ) (stack : Stack) (rest : Timed) → HasAt code pc (merge_code pc m)
+          → Agree b (from (pc + length (merge_code pc m)) stack) rest → Agree b (from pc stack) (merge points here m rest)
       merge_follows m pc stack rest has k =
           let a = reference m.into in
           let f = reference m.from in
@@ -399,9 +429,12 @@ module _ (units : List unit.Unit) (u : unit.Unit) (ctx : Context) (there : slice
           let len : at + 1 + 1 ≡ pc + length (ca ++ i ∷ (cf ++ j ∷ p ∷ [])) = omega (arith, length-append ca (i ∷ (cf ++ j ∷ p ∷ [])), length-append cf (j ∷ p ∷ [])) in
           checked m.into pc stack _ (has_front code pc ca _ has) back.0 (λ x ss many e.
           name_follows m.from j behind (onto ss stack) _ (has_front code behind cf _ back.1) back'.0 (λ qs n lt many'.
-          ap (λ l. given (name_of f.scope f.word l) (λ y. given (name_of a.scope a.word (operands a.count (drop f.count (onto qs (onto ss stack))))) (λ z. take_nodes z y (exec units n ctx (at + 1) (drop f.count (onto qs (onto ss stack)))))) n) (operands_are qs (onto ss stack) _ many')
-          ∙ ap (λ st. given (name_of f.scope f.word qs) (λ y. given (name_of a.scope a.word (operands a.count st)) (λ z. take_nodes z y (exec units n ctx (at + 1) st))) n) (rest_below qs (onto ss stack) _ many')
-          ∙ given_at n (name_of f.scope f.word qs) (λ y. given (name_of a.scope a.word (operands a.count (onto ss stack))) (λ z. take_nodes z y (exec units n ctx (at + 1) (onto ss stack)))) (λ y. take_nodes x y (turn (put_nodes x rest))) (λ y e'.
+          ap (λ l. given (name_of f.scope f.word l) (λ y. given (name_of a.scope a.word (operands a.count (drop f.count (onto qs (onto ss stack)))))
+          (λ z. take_nodes z y (exec units n ctx (at + 1) (drop f.count (onto qs (onto ss stack)))))) n) (operands_are qs (onto ss stack) _ many')
+          ∙ ap (λ st. given (name_of f.scope f.word qs) (λ y. given (name_of a.scope a.word (operands a.count st)) (λ z. take_nodes z y (exec units n ctx (at + 1) st))) n)
+          (rest_below qs (onto ss stack) _ many')
+          ∙ given_at n (name_of f.scope f.word qs) (λ y. given (name_of a.scope a.word (operands a.count (onto ss stack))) (λ z. take_nodes z y (exec units n ctx (at + 1) (onto ss stack))))
+          (λ y. take_nodes x y (turn (put_nodes x rest))) (λ y e'.
           ap (λ l. given (name_of a.scope a.word l) (λ z. take_nodes z y (exec units n ctx (at + 1) (onto ss stack))) n) (operands_are ss stack _ many)
           ∙ ap (λ o. given o (λ z. take_nodes z y (exec units n ctx (at + 1) (onto ss stack))) n) e
           ∙ take_nodes_at n x y (exec units n ctx (at + 1) (onto ss stack)) (turn (put_nodes x rest))
@@ -411,14 +444,16 @@ module _ (units : List unit.Unit) (u : unit.Unit) (ctx : Context) (there : slice
           ∙ put_nodes_at o x (exec units o ctx (at + 1 + 1) (drop a.count (onto ss stack))) rest
           ((over (at + 1 + 1) (drop a.count (onto ss stack)) stack rest (rest_below ss stack _ many) (moved _ _ stack rest len k)).by o (omega arith)))).by n (omega arith)))))
 
-      pub merges_follow : (list : List Merged) (pc : ℕ) (stack : Stack) (rest : Timed) → HasAt code pc (merges_code pc list) → Agree b (from (pc + length (merges_code pc list)) stack) rest → Agree b (from pc stack) (merge_all points here list rest)
+      pub merges_follow : (list : List Merged) (pc : ℕ) (stack : Stack) (rest : Timed)
+          → HasAt code pc (merges_code pc list) → Agree b (from (pc + length (merges_code pc list)) stack) rest → Agree b (from pc stack) (merge_all points here list rest)
       merges_follow [] pc stack rest has k = moved pc (pc + 0) stack rest (omega arith) k
       merges_follow (m ∷ list) pc stack rest has k =
           let cm = merge_code pc m in
           merge_follows m pc stack _ (has_front code pc cm _ has)
           (merges_follow list (pc + length cm) stack rest (has_back code pc cm _ has) (moved _ _ stack rest (seam pc cm (merges_code (pc + length cm) list)) k))
 
-      format_follows : (marks : List FormatMark) (o : Option Expr) (pc : ℕ) (stack : Stack) (rest : Timed) → HasAt code pc (format_code pc marks o) → Agree b (from (pc + length (format_code pc marks o)) stack) rest → Agree b (from pc stack) (arrange points here marks o rest)
+      format_follows : (marks : List FormatMark) (o : Option Expr) (pc : ℕ) (stack : Stack) (rest : Timed)
+          → HasAt code pc (format_code pc marks o) → Agree b (from (pc + length (format_code pc marks o)) stack) rest → Agree b (from pc stack) (arrange points here marks o rest)
       format_follows marks None pc stack rest has k =
           one pc stack (instr.WriteFormat marks) _ has.0 (λ n lt. write_at n (map mark_byte marks) (exec units n ctx (pc + 1) stack) rest (k.by n (omega arith)))
       format_follows marks (Some e) pc stack rest has k =
@@ -427,7 +462,8 @@ module _ (units : List unit.Unit) (u : unit.Unit) (ctx : Context) (there : slice
           one (pc + length ce) (v ∷ stack) (instr.WriteTab marks) _ (has_back code pc ce _ has).0 (λ n lt.
           tab_at n marks v (exec units n ctx (pc + length ce + 1) stack) rest ((moved _ _ stack rest (end_of pc ce (instr.WriteTab marks)) k).by n (omega arith))))
 
-      output_follows : (o : Output) (pc : ℕ) (stack : Stack) (rest : Timed) → HasAt code pc (output_code pc o) → Agree b (from (pc + length (output_code pc o)) stack) rest → Agree b (from pc stack) (output points here o rest)
+      output_follows : (o : Output) (pc : ℕ) (stack : Stack) (rest : Timed) → HasAt code pc (output_code pc o) → Agree b (from (pc + length (output_code pc o)) stack) rest
+          → Agree b (from pc stack) (output points here o rest)
       output_follows (Shown e) pc stack rest has k =
           let ce = expr_code pc e in
           expr_follows e pc stack _ (has_front code pc ce _ has) (λ v.
@@ -440,14 +476,16 @@ module _ (units : List unit.Unit) (u : unit.Unit) (ctx : Context) (there : slice
           one (pc + length ce) (v ∷ stack) instr.WriteByte _ (has_back code pc ce _ has).0 (λ n lt.
           write_code_at n v (exec units n ctx (pc + length ce + 1) stack) rest ((moved _ _ stack rest (end_of pc ce instr.WriteByte) k).by n (omega arith))))
 
-      pub outputs_follow : (list : List Output) (pc : ℕ) (stack : Stack) (rest : Timed) → HasAt code pc (outputs_code pc list) → Agree b (from (pc + length (outputs_code pc list)) stack) rest → Agree b (from pc stack) (output_all points here list rest)
+      pub outputs_follow : (list : List Output) (pc : ℕ) (stack : Stack) (rest : Timed)
+          → HasAt code pc (outputs_code pc list) → Agree b (from (pc + length (outputs_code pc list)) stack) rest → Agree b (from pc stack) (output_all points here list rest)
       outputs_follow [] pc stack rest has k = moved pc (pc + 0) stack rest (omega arith) k
       outputs_follow (o ∷ list) pc stack rest has k =
           let co = output_code pc o in
           output_follows o pc stack _ (has_front code pc co _ has)
           (outputs_follow list (pc + length co) stack rest (has_back code pc co _ has) (moved _ _ stack rest (seam pc co (outputs_code (pc + length co) list)) k))
 
-      renewal_follows : (x : Renewed) (pc : ℕ) (stack : Stack) (rest : Timed) → HasAt code pc (set_piece_code x) → Agree b (from (pc + length (set_piece_code x)) stack) rest → Agree b (from pc stack) (renewal x rest)
+      renewal_follows : (x : Renewed) (pc : ℕ) (stack : Stack) (rest : Timed) → HasAt code pc (set_piece_code x)
+          → Agree b (from (pc + length (set_piece_code x)) stack) rest → Agree b (from pc stack) (renewal x rest)
       renewal_follows (Fresh word) pc stack rest has k =
           one pc stack (instr.New (word ∷ [])) _ has.0 (λ n lt. change_at n (newed (Only (word ∷ []))) (exec units n ctx (pc + 1) stack) rest (k.by n (omega arith)))
       renewal_follows (Kept words) pc stack rest has k =
@@ -456,14 +494,16 @@ module _ (units : List unit.Unit) (u : unit.Unit) (ctx : Context) (there : slice
           (one (pc + length cn) stack (instr.NewExcept words) _ (has_back code pc cn _ has).0 (λ n lt.
           change_at n (newed (AllBut words)) (exec units n ctx (pc + length cn + 1) stack) rest ((moved _ _ stack rest (end_of pc cn (instr.NewExcept words)) k).by n (omega arith))))
 
-      news_follow : (list : List Renewed) (pc : ℕ) (stack : Stack) (rest : Timed) → HasAt code pc (news_code list) → Agree b (from (pc + length (news_code list)) stack) rest → Agree b (from pc stack) (new_list list rest)
+      news_follow : (list : List Renewed) (pc : ℕ) (stack : Stack) (rest : Timed) → HasAt code pc (news_code list)
+          → Agree b (from (pc + length (news_code list)) stack) rest → Agree b (from pc stack) (new_list list rest)
       news_follow [] pc stack rest has k = moved pc (pc + 0) stack rest (omega arith) k
       news_follow (x ∷ list) pc stack rest has k =
           let cx = set_piece_code x in
           renewal_follows x pc stack _ (has_front code pc cx _ has)
           (news_follow list (pc + length cx) stack rest (has_back code pc cx _ has) (moved _ _ stack rest (seam pc cx (news_code list)) k))
 
-      pub new_all_follows : (list : List Renewed) (pc : ℕ) (stack : Stack) (rest : Timed) → HasAt code pc (new_all_code list) → Agree b (from (pc + length (new_all_code list)) stack) rest → Agree b (from pc stack) (new_all list rest)
+      pub new_all_follows : (list : List Renewed) (pc : ℕ) (stack : Stack) (rest : Timed)
+          → HasAt code pc (new_all_code list) → Agree b (from (pc + length (new_all_code list)) stack) rest → Agree b (from pc stack) (new_all list rest)
       new_all_follows [] pc stack rest has k =
           one pc stack (instr.NewExcept []) _ has.0 (λ n lt. change_at n (newed (AllBut [])) (exec units n ctx (pc + 1) stack) rest (k.by n (omega arith)))
       new_all_follows (x ∷ list) pc stack rest has k = news_follow (x ∷ list) pc stack rest has k
@@ -491,7 +531,8 @@ module _ (units : List unit.Unit) (u : unit.Unit) (ctx : Context) (there : slice
           given_at n (reading v) (λ i. exec units n ctx (pc + length ce + 1) (v ∷ stack)) (λ i. rest (Some i)) (λ i q.
           (moved _ _ (v ∷ stack) (rest (Some i)) (end_of pc ce instr.CheckNumber) (k (Some i) (v ∷ stack) (v, refl, q))).by n (omega arith))))
 
-      pub hangs_follow : (es : List Expr) (pc : ℕ) (stack : Stack) (rest : Timed) → HasAt code pc (hangs_code pc es) → Agree b (from (pc + length (hangs_code pc es)) stack) rest → Agree b (from pc stack) (hang_all points here es rest)
+      pub hangs_follow : (es : List Expr) (pc : ℕ) (stack : Stack) (rest : Timed)
+          → HasAt code pc (hangs_code pc es) → Agree b (from (pc + length (hangs_code pc es)) stack) rest → Agree b (from pc stack) (hang_all points here es rest)
       hangs_follow [] pc stack rest has k = moved pc (pc + 0) stack rest (omega arith) k
       hangs_follow (e ∷ es) pc stack rest has k =
           let ce = expr_code pc e in
@@ -527,7 +568,8 @@ module _ (units : List unit.Unit) (u : unit.Unit) (ctx : Context) (there : slice
           ∙ start_job_at n entry (spread shape vs) t behind rest
           ((over (at + 1) (drop taken st) stack rest (below_more s.timeout t st (onto vs stack) (given_count shape) l ∙ rest_below vs stack _ many) (moved _ _ stack rest len k)).by n (omega arith)))))
 
-      pub jobs_follow : (list : List Started) (pc : ℕ) (stack : Stack) (rest : Timed) → HasAt code pc (jobs_code here pc list) → Agree b (from (pc + length (jobs_code here pc list)) stack) rest → Agree b (from pc stack) (start_all points here list rest)
+      pub jobs_follow : (list : List Started) (pc : ℕ) (stack : Stack) (rest : Timed)
+          → HasAt code pc (jobs_code here pc list) → Agree b (from (pc + length (jobs_code here pc list)) stack) rest → Agree b (from pc stack) (start_all points here list rest)
       jobs_follow [] pc stack rest has k = moved pc (pc + 0) stack rest (omega arith) k
       jobs_follow (s ∷ list) pc stack rest has k =
           let cs = start_code here pc s in
@@ -595,7 +637,8 @@ module _ (units : List unit.Unit) (u : unit.Unit) (ctx : Context) (there : slice
         taking_follows mode.Plus pc has k = taken_follow pc has.0 k
         taking_follows mode.Minus pc has k = given_follow pc has.0 k
 
-      locks_follow : (list : List Locked) (pc : ℕ) (stack : Stack) (rest : Timed) → HasAt code pc (locks_code pc list) → Agree b (from (pc + length (locks_code pc list)) stack) rest → Agree b (from pc stack) (lock_list points here list rest)
+      locks_follow : (list : List Locked) (pc : ℕ) (stack : Stack) (rest : Timed)
+          → HasAt code pc (locks_code pc list) → Agree b (from (pc + length (locks_code pc list)) stack) rest → Agree b (from pc stack) (lock_list points here list rest)
       locks_follow [] pc stack rest has k = moved pc (pc + 0) stack rest (omega arith) k
       locks_follow (l ∷ list) pc stack rest has k =
           let vs = lock_variables l.names in
@@ -614,7 +657,8 @@ module _ (units : List unit.Unit) (u : unit.Unit) (ctx : Context) (there : slice
           (moved _ _ stack later len
           (locks_follow list (pc + length cl) stack rest (has_back code pc cl _ has) (moved _ _ stack rest (seam pc cl (locks_code (pc + length cl) list)) k)))))
 
-      pub lock_all_follows : (list : List Locked) (pc : ℕ) (stack : Stack) (rest : Timed) → HasAt code pc (lock_all_code pc list) → Agree b (from (pc + length (lock_all_code pc list)) stack) rest → Agree b (from pc stack) (lock_all points here list rest)
+      pub lock_all_follows : (list : List Locked) (pc : ℕ) (stack : Stack) (rest : Timed)
+          → HasAt code pc (lock_all_code pc list) → Agree b (from (pc + length (lock_all_code pc list)) stack) rest → Agree b (from pc stack) (lock_all points here list rest)
       lock_all_follows [] pc stack rest has k =
           one pc stack instr.UnlockAll _ has.0 (λ n lt. unlock_all_at n (exec units n ctx (pc + 1) stack) rest (k.by n (omega arith)))
       lock_all_follows (l ∷ list) pc stack rest has k = locks_follow (l ∷ list) pc stack rest has k
@@ -645,14 +689,16 @@ module _ (units : List unit.Unit) (u : unit.Unit) (ctx : Context) (there : slice
           ((one (at + 1) (v ∷ stack) instr.BeginSession (begin_session v rest) there_is.1.0 (λ m lt'.
           begin_session_at m v (exec units m ctx (at + 1 + 1) stack) rest ((moved _ _ stack rest len' k).by m (omega arith)))).by n (omega arith)))))
 
-      pub opens_follow : (list : List Opened) (pc : ℕ) (stack : Stack) (rest : Timed) → HasAt code pc (opens_code pc list) → Agree b (from (pc + length (opens_code pc list)) stack) rest → Agree b (from pc stack) (open_all points here list rest)
+      pub opens_follow : (list : List Opened) (pc : ℕ) (stack : Stack) (rest : Timed)
+          → HasAt code pc (opens_code pc list) → Agree b (from (pc + length (opens_code pc list)) stack) rest → Agree b (from pc stack) (open_all points here list rest)
       opens_follow [] pc stack rest has k = moved pc (pc + 0) stack rest (omega arith) k
       opens_follow (o ∷ list) pc stack rest has k =
           let co = open_code pc o in
           open_follows o pc stack (open_all points here list rest) (has_front code pc co _ has)
           (opens_follow list (pc + length co) stack rest (has_back code pc co _ has) (moved _ _ stack rest (seam pc co (opens_code (pc + length co) list)) k))
 
-      pub uses_follow : (es : List Expr) (pc : ℕ) (stack : Stack) (rest : Timed) → HasAt code pc (uses_code pc es) → Agree b (from (pc + length (uses_code pc es)) stack) rest → Agree b (from pc stack) (use_all points here es rest)
+      pub uses_follow : (es : List Expr) (pc : ℕ) (stack : Stack) (rest : Timed)
+          → HasAt code pc (uses_code pc es) → Agree b (from (pc + length (uses_code pc es)) stack) rest → Agree b (from pc stack) (use_all points here es rest)
       uses_follow [] pc stack rest has k = moved pc (pc + 0) stack rest (omega arith) k
       uses_follow (e ∷ es) pc stack rest has k =
           let ce = expr_code pc e in
@@ -684,14 +730,16 @@ module _ (units : List unit.Unit) (u : unit.Unit) (ctx : Context) (there : slice
           (one (pe + 1 + 1) (v ∷ stack) instr.GiveUpDevice (give_up v rest) there_is.1.1.0 (λ m lt'.
           give_up_at m v (exec units m ctx (pe + 1 + 1 + 1) stack) rest ((moved _ _ stack rest len' k).by m (omega arith))))).by n (omega arith))))
 
-      pub closes_follow : (es : List Expr) (pc : ℕ) (stack : Stack) (rest : Timed) → HasAt code pc (closes_code pc es) → Agree b (from (pc + length (closes_code pc es)) stack) rest → Agree b (from pc stack) (close_all points here es rest)
+      pub closes_follow : (es : List Expr) (pc : ℕ) (stack : Stack) (rest : Timed)
+          → HasAt code pc (closes_code pc es) → Agree b (from (pc + length (closes_code pc es)) stack) rest → Agree b (from pc stack) (close_all points here es rest)
       closes_follow [] pc stack rest has k = moved pc (pc + 0) stack rest (omega arith) k
       closes_follow (e ∷ es) pc stack rest has k =
           let cc = close_code pc e in
           close_follows e pc stack (close_all points here es rest) (has_front code pc cc _ has)
           (closes_follow es (pc + length cc) stack rest (has_back code pc cc _ has) (moved _ _ stack rest (seam pc cc (closes_code (pc + length cc) es)) k))
 
-      receive_follows : (r : Received) (pc : ℕ) (stack : Stack) (rest : Timed) → HasAt code pc (receive_code pc r) → Agree b (from (pc + length (receive_code pc r)) stack) rest → Agree b (from pc stack) (receive points here r rest)
+      receive_follows : (r : Received) (pc : ℕ) (stack : Stack) (rest : Timed)
+          → HasAt code pc (receive_code pc r) → Agree b (from (pc + length (receive_code pc r)) stack) rest → Agree b (from pc stack) (receive points here r rest)
       receive_follows r pc stack rest has k =
           let v = r.variable in
           let ref = reference v in
@@ -716,9 +764,11 @@ module _ (units : List unit.Unit) (u : unit.Unit) (ctx : Context) (there : slice
           ∙ ap (λ base. read_input r.mode t (behind base) n) (below_wait r.timeout t st (onto ss stack) l)
           ∙ read_input_at n r.mode t (behind (onto ss stack)) (λ u. turn (store x u rest)) (λ u.
           (stored ref depth x ss (at + 1) (u ∷ onto ss stack) stack rest many e refl there_is.1.0
-          (over (at + 1 + 1) (drop (ref.count + 1) (u ∷ onto ss stack)) stack rest (drop_more ref.count u (onto ss stack) ∙ rest_below ss stack ref.count many) (moved _ _ stack rest len k))).by n (omega arith))))))
+          (over (at + 1 + 1) (drop (ref.count + 1) (u ∷ onto ss stack)) stack rest (drop_more ref.count u (onto ss stack) ∙ rest_below ss stack ref.count many) (moved _ _ stack rest len k))).by n
+          (omega arith))))))
 
-      input_follows : (i : Input) (pc : ℕ) (stack : Stack) (rest : Timed) → HasAt code pc (input_code pc i) → Agree b (from (pc + length (input_code pc i)) stack) rest → Agree b (from pc stack) (input points here i rest)
+      input_follows : (i : Input) (pc : ℕ) (stack : Stack) (rest : Timed) → HasAt code pc (input_code pc i)
+          → Agree b (from (pc + length (input_code pc i)) stack) rest → Agree b (from pc stack) (input points here i rest)
       input_follows (Prompted text) pc stack rest has k =
           one pc stack (instr.Push text) (turn (write text rest)) has.0 (λ n lt.
           (one (pc + 1) (text ∷ stack) instr.Write (write text rest) has.1.0 (λ m lt'.
@@ -726,7 +776,8 @@ module _ (units : List unit.Unit) (u : unit.Unit) (ctx : Context) (there : slice
       input_follows (Arranged l) pc stack rest has k = format_follows l.marks l.column pc stack rest has k
       input_follows (Into r) pc stack rest has k = receive_follows r pc stack rest has k
 
-      pub inputs_follow : (list : List Input) (pc : ℕ) (stack : Stack) (rest : Timed) → HasAt code pc (inputs_code pc list) → Agree b (from (pc + length (inputs_code pc list)) stack) rest → Agree b (from pc stack) (read_all points here list rest)
+      pub inputs_follow : (list : List Input) (pc : ℕ) (stack : Stack) (rest : Timed)
+          → HasAt code pc (inputs_code pc list) → Agree b (from (pc + length (inputs_code pc list)) stack) rest → Agree b (from pc stack) (read_all points here list rest)
       inputs_follow [] pc stack rest has k = moved pc (pc + 0) stack rest (omega arith) k
       inputs_follow (i ∷ list) pc stack rest has k =
           let ci = input_code pc i in
@@ -734,7 +785,9 @@ module _ (units : List unit.Unit) (u : unit.Unit) (ctx : Context) (there : slice
           (inputs_follow list (pc + length ci) stack rest (has_back code pc ci _ has) (moved _ _ stack rest (seam pc ci (inputs_code (pc + length ci) list)) k))
 
       -- the subscripts of a FOR's local, and the instruction that takes its name
-      pub local_follows : (v : Variable) (i : Instr) (pc : ℕ) (stack : Stack) (rest : Name → Timed) → HasAt code pc (subscripts_code pc v) → slice_get code (pc + length (subscripts_code pc v)) ≡ Some i → ((ss : List (List ℕ)) (n : ℕ) → n < b → length ss ≡ (reference v).count → acts i (pc + length (subscripts_code pc v)) (onto ss stack) n n ≡ given (name_of Local (reference v).word ss) rest n) → Agree b (from pc stack) (ev_local points here v rest)
+      pub local_follows : (v : Variable) (i : Instr) (pc : ℕ) (stack : Stack) (rest : Name → Timed)
+          → HasAt code pc (subscripts_code pc v) → slice_get code (pc + length (subscripts_code pc v)) ≡ Some i → ((ss : List (List ℕ)) (n : ℕ) → n < b → length ss ≡ (reference v).count
+          → acts i (pc + length (subscripts_code pc v)) (onto ss stack) n n ≡ given (name_of Local (reference v).word ss) rest n) → Agree b (from pc stack) (ev_local points here v rest)
       local_follows (Var scope word es) i pc stack rest has at k =
           all_follow es pc stack _ has (λ ss many. one _ (onto ss stack) i _ at (λ n lt. k ss n lt many))
 

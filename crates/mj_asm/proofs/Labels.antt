@@ -10,11 +10,13 @@ use Rattle.mj_pcode.proofs.Spelled.{line_behind}
 use Rattle.mj_asm.specs.Correct.{with_labels}
 
 -- a line by its label, where `later` is the line behind it
-head_finds : (l : List ℕ) (k later : ℕ) (o : Option (List ℕ)) (labels : Labels) → unwrap_or (line_with l (elim o as (λ v. Labels) [ None ↦ labels | Some t ↦ with_label labels t k ])) later ≡ unwrap_or (line_with l labels) (if (elim o as (λ v. Bool) [ None ↦ false | Some t ↦ bytes_eq t l ]) then k else later)
+head_finds : (l : List ℕ) (k later : ℕ) (o : Option (List ℕ)) (labels : Labels) → unwrap_or (line_with l (elim o as (λ v. Labels) [ None ↦ labels | Some t ↦ with_label labels t k ])) later
+    ≡ unwrap_or (line_with l labels) (if (elim o as (λ v. Bool) [ None ↦ false | Some t ↦ bytes_eq t l ]) then k else later)
 head_finds l k later None labels = refl
 head_finds l k later (Some t) labels = line_behind l t k later labels
 
-finds_behind : (l : List ℕ) (labels : Labels) (k : ℕ) (lines : List Line) → unwrap_or (line_with l (with_labels labels k lines)) (k + length lines) ≡ unwrap_or (line_with l labels) (labelled l k lines)
+finds_behind : (l : List ℕ) (labels : Labels) (k : ℕ) (lines : List Line)
+    → unwrap_or (line_with l (with_labels labels k lines)) (k + length lines) ≡ unwrap_or (line_with l labels) (labelled l k lines)
 finds_behind l labels k [] = let e : k + length {A = Line} [] ≡ k = omega arith in ap (unwrap_or (line_with l labels)) e
 finds_behind l labels k (line ∷ lines) =
     let e : k + length (line ∷ lines) ≡ k + 1 + length lines = omega arith in

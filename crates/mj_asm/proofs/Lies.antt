@@ -75,7 +75,8 @@ below_all (d ∷ list) (t ∷ ts) stack base l =
 
 pub both_below : (ss vs : List (List ℕ)) (stack : Stack) (n : ℕ) → length ss + length vs ≡ n → drop n (onto vs (onto ss stack)) ≡ stack
 both_below ss vs stack n e =
-    let all : onto vs (onto ss stack) ≡ (reverse vs ++ reverse ss) ++ stack = onto_is vs (onto ss stack) ∙ ap (λ l. reverse vs ++ l) (onto_is ss stack) ∙ sym (append_assoc (reverse vs) (reverse ss) stack) in
+    let all : onto vs (onto ss stack) ≡ (reverse vs ++ reverse ss) ++ stack =
+    onto_is vs (onto ss stack) ∙ ap (λ l. reverse vs ++ l) (onto_is ss stack) ∙ sym (append_assoc (reverse vs) (reverse ss) stack) in
     let len : n ≡ length (reverse vs ++ reverse ss) = omega (arith, e, length-append (reverse vs) (reverse ss), length-reverse vs, length-reverse ss) in
     ap (drop n) all ∙ ap (λ k. drop k ((reverse vs ++ reverse ss) ++ stack)) len ∙ drop-append_seam (reverse vs ++ reverse ss) stack
 

@@ -56,7 +56,8 @@ first : (r : List ℕ) (code : List Instr) (lines : List Line) (pc k : ℕ) → 
 first r code [] pc k e = omega (arith, e)
 first r code (line ∷ lines) pc k e = refl
 
-stands : (r : List ℕ) (code : List Instr) (lines : List Line) (pc k j : ℕ) → HasAt code pc (lines_code pc (line_at r k) lines) → pc + length (lines_code pc (line_at r k) lines) ≡ length code → StandsAt r code (starts pc (line_at r k) lines) (k + length lines) j (k + j) (slice_get lines j)
+stands : (r : List ℕ) (code : List Instr) (lines : List Line) (pc k j : ℕ) → HasAt code pc (lines_code pc (line_at r k) lines)
+    → pc + length (lines_code pc (line_at r k) lines) ≡ length code → StandsAt r code (starts pc (line_at r k) lines) (k + length lines) j (k + j) (slice_get lines j)
 stands r code [] pc k j has e = (refl, omega arith)
 stands r code (line ∷ lines) pc k zero has e =
     let cl = line_code pc (line_at r k) line in
@@ -86,7 +87,8 @@ mapped_length : {A B : Type 0} → (f : A → B) (l : List A) → length (map f 
 mapped_length f [] = refl
 mapped_length f (x ∷ l) = ap suc (mapped_length f l)
 
-module _ (routine : Routine) (u : unit.Unit) (name : u.name ≡ routine.name) (has_code : u.instrs.items ≡ lines_code 0 (line_of routine 1) routine.lines) (has_starts : map (λ h. h.start) u.heads.items ≡ starts 0 (line_of routine 1) routine.lines) (has_levels : levels_in u ≡ map (λ line. line.level) routine.lines) where
+module _ (routine : Routine) (u : unit.Unit) (name : u.name ≡ routine.name) (has_code : u.instrs.items ≡ lines_code 0 (line_of routine 1) routine.lines)
+    (has_starts : map (λ h. h.start) u.heads.items ≡ starts 0 (line_of routine 1) routine.lines) (has_levels : levels_in u ≡ map (λ line. line.level) routine.lines) where
   pub many : length u.heads.items ≡ length routine.lines
   many = sym (mapped_length {A = Head} {B = ℕ} (λ h. h.level) u.heads.items) ∙ ap length has_levels ∙ mapped_length {A = Line} {B = ℕ} (λ line. line.level) routine.lines
 
@@ -116,13 +118,15 @@ module _ (routine : Routine) (u : unit.Unit) (name : u.name ≡ routine.name) (h
   pub lines_stand : (k : ℕ) → 1 ≤ k → LineStands k (slice_get routine.lines (k - 1))
   lines_stand k some =
       let e : 1 + (k - 1) ≡ k = omega arith in
-      let whole : HasAt u.instrs.items 0 (lines_code 0 (line_of routine 1) routine.lines) = subst (λ is. HasAt is 0 (lines_code 0 (line_of routine 1) routine.lines)) (sym has_code) (has_all (lines_code 0 (line_of routine 1) routine.lines) []) in
+      let whole : HasAt u.instrs.items 0 (lines_code 0 (line_of routine 1) routine.lines) =
+      subst (λ is. HasAt is 0 (lines_code 0 (line_of routine 1) routine.lines)) (sym has_code) (has_all (lines_code 0 (line_of routine 1) routine.lines) []) in
       let len : 0 + length (lines_code 0 (line_of routine 1) routine.lines) ≡ length u.instrs.items = omega (arith, ap length has_code) in
       renamed k (slice_get routine.lines (k - 1)) some
       (subst (λ n. StandsAt routine.name u.instrs.items (starts 0 (line_of routine 1) routine.lines) (1 + length routine.lines) (k - 1) n (slice_get routine.lines (k - 1))) e
       (stands routine.name u.instrs.items routine.lines 0 1 (k - 1) whole len))
 
-  module _ (image : List Routine) (units : List unit.Unit) (found : lines_of image routine.name ≡ routine.lines) (alike : LeadAlike image units) (j : ℕ) (at : slice_get units j ≡ Some u) (below : List Call) (leave : Leave) where
+  module _ (image : List Routine) (units : List unit.Unit)
+      (found : lines_of image routine.name ≡ routine.lines) (alike : LeadAlike image units) (j : ℕ) (at : slice_get units j ≡ Some u) (below : List Call) (leave : Leave) where
     abbrev ctx : Context
     ctx = record { unit = j; loops = []; calls = below }
 
@@ -151,8 +155,10 @@ module _ (routine : Routine) (u : unit.Unit) (name : u.name ≡ routine.name) (h
         let goes_in : Timed = change (at_place (place_in u k)) (exec units n ctx (pc + 1) []) in
         ap (λ i. act units u i (exec units n) ctx pc [] n) s.0.0
         ∙ look_at n (λ s'. if nat_lt line.level (level_of s') then over else if nat_lt (level_of s') line.level then passes_over else goes_in)
-        (λ s'. if nat_lt line.level (level_of s') then quit_before here leave else if nat_lt (level_of s') line.level then next else change (at_place (place_at here)) (obey_all (points_of image d) here line.steps ways))
-        (λ s'. if_at n (nat_lt line.level (level_of s')) over (quit_before here leave) (if nat_lt (level_of s') line.level then passes_over else goes_in) (if nat_lt (level_of s') line.level then next else change (at_place (place_at here)) (obey_all (points_of image d) here line.steps ways))
+        (λ s'. if nat_lt line.level (level_of s') then quit_before here leave else if nat_lt
+        (level_of s') line.level then next else change (at_place (place_at here)) (obey_all (points_of image d) here line.steps ways))
+        (λ s'. if_at n (nat_lt line.level (level_of s')) over (quit_before here leave) (if nat_lt (level_of s') line.level then passes_over else goes_in)
+        (if nat_lt (level_of s') line.level then next else change (at_place (place_at here)) (obey_all (points_of image d) here line.steps ways))
         (change_at n (at_place (place_in u (k - 1))) (quits (exec units n) below) (quit_frame (leave [])) (quits_same units n below leave leaves))
         (if_at n (nat_lt (level_of s') line.level) passes_over next goes_in (change (at_place (place_at here)) (obey_all (points_of image d) here line.steps ways))
         (on.by n (omega arith))
@@ -164,7 +170,8 @@ module _ (routine : Routine) (u : unit.Unit) (name : u.name ≡ routine.name) (h
     does_line b k some last lines leaves zero deep (suc n) le = absurd (omega (arith, le, deep))
     does_line b k some last lines leaves (suc d) deep (suc n) le =
         ap (λ o. act_in units o (exec units n) ctx (start_of u k) [] n) at
-        ∙ line_follows d n k (slice_get routine.lines (k - 1)) some last (omega (arith, le, deep)) (lines_stand k some) (λ m lt. lines m (omega (arith, lt, le))) (fewer_leaves units b n below leave (omega (arith, le)) leaves)
+        ∙ line_follows d n k (slice_get routine.lines (k - 1)) some last (omega (arith, le, deep)) (lines_stand k some)
+        (λ m lt. lines m (omega (arith, lt, le))) (fewer_leaves units b n below leave (omega (arith, le)) leaves)
         ∙ ap (λ l. obey_line (points_of image d) (line_at u.name k) (slice_get l (k - 1)) leave n) (sym (ap (lines_of image) name ∙ found))
 
   after_last : length u.heads.items + 1 ≡ 1 + length routine.lines

@@ -46,7 +46,8 @@ count_is [] = refl
 count_is (e ∷ es) = omega (arith, count_is es)
 
 -- a choice: its condition, its value, and those behind it
-pub choice_is : (pc : ℕ) (x : choice.Choice) → choices_code pc (choice_of x) ≡ choice_code (pc + length (expr_code pc (expr_of (out-Choice x).condition)) + 1) (expr_code pc (expr_of (out-Choice x).condition)) (λ k. expr_code k (expr_of (out-Choice x).value)) (λ k. others_code k (choice_of x))
+pub choice_is : (pc : ℕ) (x : choice.Choice) → choices_code pc (choice_of x) ≡ choice_code (pc + length (expr_code pc (expr_of (out-Choice x).condition)) + 1)
+    (expr_code pc (expr_of (out-Choice x).condition)) (λ k. expr_code k (expr_of (out-Choice x).value)) (λ k. others_code k (choice_of x))
 unfolding out-Choice denote.Hole.Carrier.out
 choice_is pc (choice.Choice' c e choice.None') = refl
 choice_is pc (choice.Choice' c e (choice.Some' p o)) = refl
@@ -65,7 +66,8 @@ others_some pc (choice.Choice' c e choice.None') b h = absurd (none_some _ h)
   where
     none_some : {A : Type 0} (a : A) → None ≡ Some a → ⊥
     none_some a g = cc
-others_some pc (choice.Choice' c e (choice.Some' p o)) b h = ap (λ (q : Option (Box choice.Choice Global)). elim q [ None ↦ choices_code pc (choice_of o) | Some z ↦ choices_code pc (choice_of z.value) ]) h
+others_some pc (choice.Choice' c e (choice.Some' p o)) b h =
+    ap (λ (q : Option (Box choice.Choice Global)). elim q [ None ↦ choices_code pc (choice_of o) | Some z ↦ choices_code pc (choice_of z.value) ]) h
 
 -- how many subscripts
 pub reference_count : (v : variable.Variable) → (reference (variable_of v)).count ≡ length (out-Variable v).subscripts.items

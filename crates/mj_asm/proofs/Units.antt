@@ -33,7 +33,8 @@ laid_all (i ∷ c) f pre =
     (here, subst (λ m. Laid (pre ++ f ∷ rest) m (footing_behind i f) c) n later)
 
 -- an instruction of code that fits
-fits_at : (fs : List Footing) (pc : ℕ) (f : Footing) (c : List Instr) → Laid fs pc f c → Fit fs pc f c → (j : ℕ) (i : Instr) (g : Footing) → slice_get c j ≡ Some i → Holds fs (pc + j) g → InstrFits fs (pc + j) i g
+fits_at : (fs : List Footing) (pc : ℕ) (f : Footing) (c : List Instr) → Laid fs pc f c → Fit fs pc f c
+    → (j : ℕ) (i : Instr) (g : Footing) → slice_get c j ≡ Some i → Holds fs (pc + j) g → InstrFits fs (pc + j) i g
 fits_at fs pc f [] l h j i g e k = absurd (none-some i e)
 fits_at fs pc f (x ∷ c) l h zero i g e k =
     let n : pc + 0 ≡ pc = omega arith in
@@ -55,7 +56,8 @@ lines_begin fs here (line ∷ lines) pc l (suc j) p e =
     let f = (line_goes fs here line pc (laid_front fs pc bare cl rest l)).0 in
     lines_begin fs (next_line here) lines (pc + length cl) (subst (λ x. Laid fs (pc + length cl) x rest) f back) j p e
 
-module _ (routine : Routine) (u : unit.Unit) (name : u.name ≡ routine.name) (has_code : u.instrs.items ≡ lines_code 0 (line_of routine 1) routine.lines) (has_starts : map (λ h. h.start) u.heads.items ≡ starts 0 (line_of routine 1) routine.lines) (has_levels : levels_in u ≡ map (λ line. line.level) routine.lines) where
+module _ (routine : Routine) (u : unit.Unit) (name : u.name ≡ routine.name) (has_code : u.instrs.items ≡ lines_code 0 (line_of routine 1) routine.lines)
+    (has_starts : map (λ h. h.start) u.heads.items ≡ starts 0 (line_of routine 1) routine.lines) (has_levels : levels_in u ≡ map (λ line. line.level) routine.lines) where
   all_laid : Laid (footings_in u) 0 bare u.instrs.items
   all_laid = laid_all u.instrs.items bare []
 
@@ -103,7 +105,8 @@ module _ (routine : Routine) (u : unit.Unit) (name : u.name ≡ routine.name) (h
         lines = λ k h e.
             let n : k + 1 - 1 ≡ k = omega arith in
             line_enters k h e (slice_get routine.lines k) refl
-            (subst (λ j. LineStands routine u name has_code has_starts has_levels (k + 1) (slice_get routine.lines j)) n (lines_stand routine u name has_code has_starts has_levels (k + 1) (omega arith)));
+            (subst (λ j. LineStands routine u name has_code has_starts has_levels (k + 1) (slice_get routine.lines j)) n
+            (lines_stand routine u name has_code has_starts has_levels (k + 1) (omega arith)));
         starts = begins;
         last =
             let n : 0 + length u.instrs.items ≡ length u.instrs.items = omega arith in

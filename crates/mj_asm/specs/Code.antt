@@ -43,7 +43,8 @@ abbrev mutual
   operand_code pc (Group e) = expr_code pc e
   operand_code pc (Call f es) = exprs_code pc es ++ instr.CallFunction f (count es) ∷ []
   operand_code pc (About f v es) =
-      subscripts_code pc v ++ instr.CheckNamed f (reference v) ∷ (exprs_code (pc + length (subscripts_code pc v) + 1) es ++ instr.CallNameFunction f (reference v) ((reference v).count + count es) ∷ [])
+      subscripts_code pc v ++ instr.CheckNamed f (reference v)
+      ∷ (exprs_code (pc + length (subscripts_code pc v) + 1) es ++ instr.CallNameFunction f (reference v) ((reference v).count + count es) ∷ [])
   operand_code pc (Select choices) = choices_code pc choices
 
   pub subscripts_code : ℕ → Variable → List Instr

@@ -33,7 +33,8 @@ same_place r r' k k' e e' = ap (λ x. record { routine = x; line = k }) e ∙ ap
 
 module _ (image : List Routine) (units : List unit.Unit) where
   -- the machine at the line that was found, where so many tallies lie, and the routines at theirs after as many turns
-  pub at_found : (formals d n m : ℕ) (to : Here × Line) (f : Found) (below : List Call) (leave : Leave) → m ≤ n → n ≤ d → IsFound image units (Some to) (Some f) → DoLines image units n → Leaves units n below leave
+  pub at_found : (formals d n m : ℕ) (to : Here × Line) (f : Found) (below : List Call) (leave : Leave)
+      → m ≤ n → n ≤ d → IsFound image units (Some to) (Some f) → DoLines image units n → Leaves units n below leave
       → exec units m (at_unit f.at below) f.head.start (tallies formals) m ≡ turns formals (turn (points_of image d (AtLine to.0 leave))) m
   at_found zero d n m to f below leave fewer le is lines k =
       let h : to.0 ≡ record { routine = f.unit.name; line = f.line } = same_here to.0.routine f.unit.name to.0.line f.line is.1 is.2 in
@@ -46,7 +47,8 @@ module _ (image : List Routine) (units : List unit.Unit) where
       ∙ ap (λ i. act units f.unit i (after_one units m) (at_unit f.at below) f.head.start (tallies (suc formals)) m) is.9.is
       ∙ at_found formals d n m to f below leave (omega (arith, fewer)) le is lines k
 
-  pub call_follows : (function : Bool) (d n : ℕ) (o : Option (Here × Line)) (f : Option Found) (vs : List (Option (List ℕ))) (below : List Call) (leave : Leave) → n ≤ d → IsFound image units o f → DoLines image units n → Leaves units n below leave
+  pub call_follows : (function : Bool) (d n : ℕ) (o : Option (Here × Line)) (f : Option Found) (vs : List (Option (List ℕ))) (below : List Call) (leave : Leave)
+      → n ≤ d → IsFound image units o f → DoLines image units n → Leaves units n below leave
       → machine.calls function f vs below (after_one units n) n ≡ call (points_of image d) function o vs leave n
   call_follows function d n None None vs below leave le is lines k = refl
   call_follows function d n None (Some f) vs below leave le is lines k = absurd is
@@ -59,7 +61,8 @@ module _ (image : List Routine) (units : List unit.Unit) where
       let there : Timed = exec units n (at_unit f.at below) f.head.start (tallies (length f.head.formals)) in
       let after_formals : Timed = turns (length f.head.formals) line in
       let whole : ℕ → List (List ℕ) → Place → Timed → Timed = λ l xs p rest.
-      if nat_eq l 1 then if nat_lt (length xs) (length vs) then fault Params else deeper (change (λ s. passed xs vs (pushed p 1 function (if function then Some s.test else None) s)) (turns (length xs) rest)) else fault NoLine in
+      if nat_eq l 1 then if nat_lt (length xs) (length vs) then fault Params else deeper
+      (change (λ s. passed xs vs (pushed p 1 function (if function then Some s.test else None) s)) (turns (length xs) rest)) else fault NoLine in
       let enters : List (List ℕ) → State → State = λ xs s. passed xs vs (pushed (place_in f.unit f.line) 1 function (if function then Some s.test else None) s) in
       if_at n (nat_eq f.head.level 1)
       (if nat_lt (length f.head.formals) (length vs) then fault Params else deeper (change (enters f.head.formals) there))

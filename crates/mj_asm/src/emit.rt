@@ -52,8 +52,13 @@ pub fn assemble(alloc: Global, routine: &Routine) -> Result<Unit, AllocError>
 // One more line.
 fn emit_line(site: Site, unit: &mut Unit, line: &Line) -> Result<(), AllocError>
     ensures name { unit.new.name ≡ unit.old.name }
-    ensures instrs { OnOk result (unit.new.instrs.items ≡ unit.old.instrs.items ++ line_code (length unit.old.instrs.items) (here_of site.entry) (line_of line.now)) }
-    ensures heads { OnOk result (unit.new.heads.items ≡ unit.old.heads.items ++ record { start = length unit.old.instrs.items; level = line.now.level; formals = line.now.formals.items } ∷ []) }
+    ensures instrs { OnOk result
+        (unit.new.instrs.items ≡ unit.old.instrs.items ++ line_code (length unit.old.instrs.items) (here_of site.entry) (line_of line.now)) }
+    ensures heads { OnOk result (unit.new.heads.items ≡ unit.old.heads.items ++ record {
+      start = length unit.old.instrs.items;
+      level = line.now.level;
+      formals = line.now.formals.items;
+    } ∷ []) }
     ensures labels { OnOk result (unit.new.labels ≡ with_labels unit.old.labels site.entry.line (line_of line.now ∷ [])) }
 {
     emit_label(site, &mut unit.labels, line)?;
@@ -123,7 +128,8 @@ fn emit_else(
     close: Option<usize>,
     behind: &[LineCommand],
 ) -> Result<(), AllocError>
-    ensures { OnOk result (code.new.items ≡ code.old.items ++ else_code (length code.old.items) (λ p. steps_code (here_of site.entry) p close (map step_of behind.now))) }
+    ensures { OnOk result (code.new.items
+        ≡ code.old.items ++ else_code (length code.old.items) (λ p. steps_code (here_of site.entry) p close (map step_of behind.now))) }
 {
     let test = code.len();
     put(code, Instr::JumpIfTest(0))?;
@@ -142,7 +148,8 @@ fn emit_if(
     conditions: &[Expr],
     behind: &[LineCommand],
 ) -> Result<(), AllocError>
-    ensures { OnOk result (code.new.items ≡ code.old.items ++ if_code (length code.old.items) (map expr_of conditions.now) (λ p. steps_code (here_of site.entry) p close (map step_of behind.now))) }
+    ensures { OnOk result (code.new.items ≡ code.old.items
+        ++ if_code (length code.old.items) (map expr_of conditions.now) (λ p. steps_code (here_of site.entry) p close (map step_of behind.now))) }
 {
     if conditions.is_empty() {
         let test = code.len();
@@ -191,7 +198,8 @@ fn emit_for(
     behind: &[LineCommand],
 ) -> Result<(), AllocError>
     ensures { OnOk result (code.new.items ≡ code.old.items
-        ++ for_code (length code.old.items) (variable_of variable.now) (map range_of ranges.now) (λ p o. steps_code (here_of site.entry) p o (map step_of behind.now))) }
+        ++ for_code (length code.old.items)
+        (variable_of variable.now) (map range_of ranges.now) (λ p o. steps_code (here_of site.entry) p o (map step_of behind.now))) }
 {
     emit_subscripts(code, variable)?;
     let local = reference(variable)?;
@@ -206,7 +214,8 @@ fn emit_for(
 // The instruction that closes a FOR, the commands of its passes, and the next pass.
 #[cycle(steps)]
 fn emit_body(site: Site, code: &mut Vec<Instr>, behind: &[LineCommand]) -> Result<(), AllocError>
-    ensures { OnOk result (code.new.items ≡ code.old.items ++ body_code (length code.old.items) (λ p o. steps_code (here_of site.entry) p o (map step_of behind.now))) }
+    ensures { OnOk result (code.new.items
+        ≡ code.old.items ++ body_code (length code.old.items) (λ p o. steps_code (here_of site.entry) p o (map step_of behind.now))) }
 {
     let close = code.len();
     put(code, Instr::ForClose(0))?;
@@ -257,7 +266,8 @@ fn emit_step(
     step: &LineCommand,
 ) -> Result<(), AllocError>
     ensures { OnOk result (code.new.items ≡ code.old.items
-        ++ code_if (length code.old.items) (option_map expr_of step.now.condition) (λ p. command_code (here_of site.entry) p close (command_of step.now.command))) }
+        ++ code_if (length code.old.items)
+        (option_map expr_of step.now.condition) (λ p. command_code (here_of site.entry) p close (command_of step.now.command))) }
 {
     match &step.condition {
         None => emit_command(site, code, close, &step.command),
@@ -324,7 +334,8 @@ fn emit_do(site: Site, code: &mut Vec<Instr>, list: &[Called]) -> Result<(), All
 
 // A call, behind its postcondition.
 fn emit_called(site: Site, code: &mut Vec<Instr>, called: &Called) -> Result<(), AllocError>
-    ensures { OnOk result (code.new.items ≡ code.old.items ++ code_if (length code.old.items) (option_map expr_of called.now.condition) (call_code (here_of site.entry) (called_of called.now))) }
+    ensures { OnOk result (code.new.items ≡ code.old.items
+        ++ code_if (length code.old.items) (option_map expr_of called.now.condition) (call_code (here_of site.entry) (called_of called.now))) }
 {
     match &called.condition {
         None => emit_call(site, code, called),
@@ -359,7 +370,8 @@ fn emit_jumps(site: Site, code: &mut Vec<Instr>, list: &[Jumped]) -> Result<(), 
 
 // A jump, behind its postcondition.
 fn emit_jumped(site: Site, code: &mut Vec<Instr>, jumped: &Jumped) -> Result<(), AllocError>
-    ensures { OnOk result (code.new.items ≡ code.old.items ++ code_if (length code.old.items) (option_map expr_of jumped.now.condition) (jump_code (here_of site.entry) (jumped_of jumped.now))) }
+    ensures { OnOk result (code.new.items ≡ code.old.items
+        ++ code_if (length code.old.items) (option_map expr_of jumped.now.condition) (jump_code (here_of site.entry) (jumped_of jumped.now))) }
 {
     match &jumped.condition {
         None => emit_jump(site, code, jumped),

@@ -17,7 +17,8 @@ pub fn emit_one(
     destination: &Destination,
     value: &Expr,
 ) -> Result<(), AllocError>
-    ensures { OnOk result (code.new.items ≡ code.old.items ++ targets_code (length code.old.items) (syntax.One (destination_of destination.now)) (expr_of value.now)) }
+    ensures { OnOk result (code.new.items
+        ≡ code.old.items ++ targets_code (length code.old.items) (syntax.One (destination_of destination.now)) (expr_of value.now)) }
 {
     emit_destination(code, destination)?;
     emit_expr(code, value)?;
@@ -31,7 +32,8 @@ pub fn emit_several(
     list: &[Destination],
     common: &Expr,
 ) -> Result<(), AllocError>
-    ensures { OnOk result (code.new.items ≡ code.old.items ++ targets_code (length code.old.items) (syntax.Several (map destination_of list.now)) (expr_of common.now)) }
+    ensures { OnOk result (code.new.items
+        ≡ code.old.items ++ targets_code (length code.old.items) (syntax.Several (map destination_of list.now)) (expr_of common.now)) }
 {
     emit_destinations(code, list)?;
     emit_expr(code, common)?;

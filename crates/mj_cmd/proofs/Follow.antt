@@ -47,7 +47,8 @@ pub reads_err : {X T : Type 0} (limited : Bool) (tree : X → T) (rest : X → L
 reads_err limited tree rest (Ok y) e m ls s holding h r = absurd h
 reads_err limited tree rest (Err y) e m ls s holding h r = let P : ParseError → Type 0 = λ x. Refuses limited x (run m (tokens_seen ls) s) in subst P (sym h) r
 
-pub reads_as_err : {X T : Type 0} (limited : Bool) (is : T → X → Type 0) (rest : X → List Lexeme) (r : Result X ParseError) (e : ParseError) (m : Limits) (ls : List Lexeme) (s : State) (holding : T → State) →
+pub reads_as_err : {X T : Type 0} (limited : Bool) (is : T
+    → X → Type 0) (rest : X → List Lexeme) (r : Result X ParseError) (e : ParseError) (m : Limits) (ls : List Lexeme) (s : State) (holding : T → State) →
     IsErrAnd r (λ y. y ≡ e) → Refuses limited e (run m (tokens_seen ls) s) → ReadsAs limited is rest r m ls s holding
 reads_as_err limited is rest (Ok x) e m ls s holding h f = absurd h
 reads_as_err limited is rest (Err y) e m ls s holding h f = let P : ParseError → Type 0 = λ v. Refuses limited v (run m (tokens_seen ls) s) in subst P (sym h) f

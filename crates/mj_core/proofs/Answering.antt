@@ -1,9 +1,10 @@
 -- What a step of a core gives, by which of its tests is the first that fails.
-use Rattle.std.specs.Prelude.{IsSome, Result, Ok, Err}
+use Rattle.std.specs.Prelude.{IsSome, Result, Ok, Err, [], replicate}
 use Rattle.std.specs.List.{slice_index_or}
 use Rattle.std.proofs.Common.{◌≡◌, ℕ, suc, ◌<◌, ◌≤◌, List, length, Bool, true, false, Option, Some, None, refl, sym, ap, ◌∙◌, subst, inl, inr, arith}
 use Rattle.std.proofs.lemmas.Option.{slice_get_within}
 use denote.Enum.Bare.{sameb}
+use Rattle.mj_ask.specs.declared.ask.Reply.{Reply}
 use Rattle.mj_load.specs.Image.{Loaded}
 use Rattle.mj_jobs.specs.Rows.{Row, row_at, IsLive}
 use Rattle.mj_jobvm.specs.declared.job.Turn.{Turn}
@@ -22,7 +23,9 @@ use Rattle.mj_steps.specs.declared.step.Way.{Way}
 use Rattle.mj_steps.specs.declared.step.Way.TheVariants as ways
 use Rattle.mj_steps.specs.contracts.step.Way as way
 use Rattle.mj_core.specs.Shown.{Shown, was_over, with_over}
-use Rattle.mj_core.specs.Gives.{is_late, Made, CoreStepGives, Readies, GivesReady}
+use Rattle.mj_core.specs.Gives.{is_late, JobStepGives, StepGivesBy, Readies, GivesReady}
+use Rattle.mj_core.specs.Answering.{Answering}
+use Rattle.mj_core.specs.Meaning.{Means}
 use Rattle.mj_core.specs.Ties.{Placed}
 use Rattle.mj_core.specs.Kept.{AreKept, logs_of, turns_of, shown}
 use Rattle.mj_core.proofs.Histories.{same_state}
@@ -34,48 +37,56 @@ row_there (Some row) some = (row, refl)
 row_there None some = absurd (let no : false ≡ true = some in cc)
 
 -- the same is seen where slots came that had no event and counted no turns
-pub shown_same : (image : Loaded) (slots slots' : List Placed) (order : List Happened) (over : List Bool) (n : ℕ)
+pub shown_same : {A : Type 0} (image : Loaded) (slots slots' : List (Placed A)) (order : List Happened) (over : List Bool) (n : ℕ)
     → woven (logs_of slots') order ≡ woven (logs_of slots) order → turns_of n slots' ≡ turns_of n slots → shown image slots' order over n ≡ shown image slots order over n
 shown_same image slots slots' order over n history turns =
     ap (λ (h : History). let s : Shown = record { image = image; history = h; over = over; spent = turns_of n slots' } in s) history
     ∙ ap (λ (t : List ℕ). let s : Shown = record { image = image; history = woven (logs_of slots) order; over = over; spent = t } in s) turns
 
-module _ (opening : Shared) (old : Shown) (step : Step) where
-  pub no_job : row_at (state_of opening old.history).rows step.job ≡ None → CoreStepGives opening old step (Err refusals.NoJob) old
+-- what is seen of a core of which nothing was asked
+pub shown_first : {A : Type 0} (image : Loaded) (slots : List (Placed A)) (order : List Happened) (over : List Bool) → slots ≡ [] → order ≡ [] → over ≡ replicate 255 false
+    → shown image slots order over 255 ≡ record { image = image; history = []; over = replicate 255 false; spent = replicate 255 0 }
+shown_first {A = A} image slots order over none_there none_yet nobody =
+    ap (λ (s : List (Placed A)). shown image s order over 255) none_there
+    ∙ ap (λ o. shown {A = A} image [] o over 255) none_yet
+    ∙ ap (λ v. shown {A = A} image [] [] v 255) nobody
+
+module _ (means : Means) (given : Option Reply) (opening : Shared) (old : Shown) (step : Step) where
+  pub no_job : row_at (state_of opening old.history).rows step.job ≡ None → StepGivesBy means opening old step given (Err refusals.NoJob) old
   no_job none = inl (none, refl, refl)
 
   module _ (at : ℕ) (is : step.job ≡ suc at) (some : IsSome (row_at (state_of opening old.history).rows step.job)) where
     there : (row : Row) × (row_at (state_of opening old.history).rows step.job ≡ Some row)
     there = row_there (row_at (state_of opening old.history).rows step.job) some
 
-    pub was_seen : slice_index_or old.over at false ≡ true → CoreStepGives opening old step (Err refusals.Ended) old
+    pub was_seen : slice_index_or old.over at false ≡ true → StepGivesBy means opening old step given (Err refusals.Ended) old
     was_seen over = inr (there.0, there.1, inl (ap (was_over old.over) is ∙ over, refl, refl))
 
     module _ (goes : slice_index_or old.over at false ≡ false) where
-      pub is_full : history_limit ≤ length old.history → CoreStepGives opening old step (Err refusals.Full) old
+      pub is_full : history_limit ≤ length old.history → StepGivesBy means opening old step given (Err refusals.Full) old
       is_full long = inr (there.0, there.1, inr (inl (ap (was_over old.over) is ∙ goes, long, refl, refl)))
 
       module _ (room : length old.history < history_limit) where
         pub is_made : (answer : Result Seen Refusal) (new : Shown)
-            → ((row : Row) → row_at (state_of opening old.history).rows (suc at) ≡ Some row → Made opening old (suc at) row (is_late step.way) answer new)
-            → CoreStepGives opening old step answer new
+            → ((row : Row) → row_at (state_of opening old.history).rows (suc at) ≡ Some row → JobStepGives means opening old (suc at) row (is_late step.way) given answer new)
+            → StepGivesBy means opening old step given answer new
         is_made answer new made = inr (
           there.0,
           there.1,
           inr (inr (
             ap (was_over old.over) is ∙ goes,
             room,
-            subst (λ j. Made opening old j there.0 (is_late step.way) answer new) (sym is)
+            subst (λ j. JobStepGives means opening old j there.0 (is_late step.way) given answer new) (sym is)
                 (made there.0 (ap (λ j. row_at (state_of opening old.history).rows j) (sym is) ∙ there.1)),
           )),
         )
 
-        pub is_done : (IsLive (state_of opening old.history).rows step.job → ⊥) → CoreStepGives opening old step (Ok seen.Ended) (record old { over = with_over old.over (suc at) })
+        pub is_done : (IsLive (state_of opening old.history).rows step.job → ⊥) → StepGivesBy means opening old step given (Ok seen.Ended) (record old { over = with_over old.over (suc at) })
         is_done done =
             is_made (Ok seen.Ended) (record old { over = with_over old.over (suc at) })
             (λ row here. ((λ live. done (subst (λ j. IsLive (state_of opening old.history).rows j) (sym is) live)), refl))
 
-        pub is_short : CoreStepGives opening old step (Err refusals.Memory) old
+        pub is_short : StepGivesBy means opening old step given (Err refusals.Memory) old
         is_short = is_made (Err refusals.Memory) old (λ row here. (tt, refl))
 
 -- ---- and what it gives to make a job ready
@@ -115,11 +126,11 @@ module _ (opening : Shared) (old : Shown) (job : ℕ) where
 
 -- ---- what is known of a core by what is seen of it
 
-module _ (image : Loaded) (opening : Shared) (system : Recorded) (slots : List Placed) (waiting : Option Claimed) (order : List Happened)
-    (kept : AreKept image opening system slots waiting order) (over : List Bool) (n : ℕ) (self : Shown) (view : shown image slots order over n ≡ self) where
+module _ {A : Type 0} (ans : Answering A) (image : Loaded) (opening : Shared) (system : Recorded) (slots : List (Placed A)) (waiting : Option Claimed) (order : List Happened)
+    (kept : AreKept ans image opening system slots waiting order) (over : List Bool) (n : ℕ) (self : Shown) (view : shown image slots order over n ≡ self) where
   -- its history leaves what the system's leaves
   same_shared : state_of opening system.history ≡ state_of opening self.history
-  same_shared = sym (same_state image opening system slots waiting order kept) ∙ ap (λ (s : Shown). state_of opening s.history) view
+  same_shared = sym (same_state ans image opening system slots waiting order kept) ∙ ap (λ (s : Shown). state_of opening s.history) view
 
   pub row_within : (job at : ℕ) → job ≡ suc at → IsSome (row_at (state_of opening self.history).rows job) → at < length (state_of opening system.history).rows
   row_within job at is some =
@@ -143,15 +154,15 @@ module _ (image : Loaded) (opening : Shared) (system : Recorded) (slots : List P
   done_as job done live = done (subst (λ (s : Shared). IsLive s.rows job) (sym same_shared) live)
 
 -- what it makes of a job that has its slot now is what it makes of it
-pub made_of : (image : Loaded) (opening : Shared) (slots slots' : List Placed) (order : List Happened) (over over' : List Bool) (n : ℕ) (self : Shown) (at : ℕ) (late late' : Bool)
-    (answer : Result Seen Refusal) (new : Shown) → shown image slots order over n ≡ self → slots' ≡ slots → over' ≡ over → late' ≡ late
+pub made_of : {A : Type 0} (means : Means) (given : Option Reply) (image : Loaded) (opening : Shared) (slots slots' : List (Placed A)) (order : List Happened) (over over' : List Bool) (n : ℕ)
+    (self : Shown) (at : ℕ) (late late' : Bool) (answer : Result Seen Refusal) (new : Shown) → shown image slots order over n ≡ self → slots' ≡ slots → over' ≡ over → late' ≡ late
     → ((row : Row) → row_at (state_of opening (woven (logs_of slots') order)).rows (suc at) ≡ Some row
-    → Made opening (shown image slots' order over' n) (suc at) row late' answer new)
-    → (row : Row) → row_at (state_of opening self.history).rows (suc at) ≡ Some row → Made opening self (suc at) row late answer new
-made_of image opening slots slots' order over over' n self at late late' answer new admitted same_slots same_over same_late made =
-    let P : List Placed → List Bool → Bool → Type 0 = λ s o l. (row : Row) → row_at (state_of opening (woven (logs_of s) order)).rows (suc at) ≡ Some row
-    → Made opening (shown image s order o n) (suc at) row l answer new in
-    let Q : Shown → Type 0 = λ s. (row : Row) → row_at (state_of opening s.history).rows (suc at) ≡ Some row → Made opening s (suc at) row late answer new in
+    → JobStepGives means opening (shown image slots' order over' n) (suc at) row late' given answer new)
+    → (row : Row) → row_at (state_of opening self.history).rows (suc at) ≡ Some row → JobStepGives means opening self (suc at) row late given answer new
+made_of {A = A} means given image opening slots slots' order over over' n self at late late' answer new admitted same_slots same_over same_late made =
+    let P : List (Placed A) → List Bool → Bool → Type 0 = λ s o l. (row : Row) → row_at (state_of opening (woven (logs_of s) order)).rows (suc at) ≡ Some row
+    → JobStepGives means opening (shown image s order o n) (suc at) row l given answer new in
+    let Q : Shown → Type 0 = λ s. (row : Row) → row_at (state_of opening s.history).rows (suc at) ≡ Some row → JobStepGives means opening s (suc at) row late given answer new in
     subst Q admitted (subst (λ l. P slots over l) same_late (subst (λ o. P slots o late') same_over (subst (λ s. P s over' late') same_slots made)))
 
 -- whether a step is late, as it is tested

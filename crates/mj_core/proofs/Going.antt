@@ -1,12 +1,12 @@
 -- A step of one job among all: what it gives, and what is kept behind it.
-use Rattle.std.specs.Prelude.{◌⊎◌, slice_get, slice_set, Ok, Err, if◌then◌else◌}
-use Rattle.std.proofs.Common.{◌≡◌, ℕ, suc, ◌<◌, ◌≤◌, List, [], ◌∷◌, ◌++◌, length, Bool, true, false, Option, Some, sym, ap, ◌∙◌, subst, inl, inr, arith}
-use Rattle.mj_ask.specs.declared.ask.Ask.{Ask}
+use Rattle.std.specs.Prelude.{slice_get, slice_set, Ok, Err, if◌then◌else◌}
+use Rattle.std.proofs.Common.{◌≡◌, ℕ, suc, ◌<◌, ◌≤◌, List, [], ◌∷◌, ◌++◌, length, Bool, true, false, Option, Some, sym, ap, subst, arith}
+use Rattle.mj_ask.specs.declared.ask.Reply.{Reply}
 use Rattle.mj_ask.specs.Fits.{is_shared}
 use Rattle.mj_load.specs.Image.{Loaded, routines_of}
 use Rattle.mj_jobs.specs.Rows.{Row, row_at, IsLive}
 use Rattle.mj_jobvm.specs.Run.{Log}
-use Rattle.mj_sys.specs.Shared.{Shared, takes_session}
+use Rattle.mj_sys.specs.Shared.{Shared}
 use Rattle.mj_sys.specs.History.{History, state_of}
 use Rattle.mj_sys.specs.System.{Recorded, Claimed, history_limit}
 use Rattle.mj_core.specs.declared.happened.Happened.{Happened}
@@ -17,18 +17,17 @@ use Rattle.mj_core.specs.declared.seen.Seen.TheVariants as seen
 use Rattle.mj_steps.specs.declared.step.Refusal.{Refusal}
 use Rattle.mj_core.specs.declared.slot.Made.{Made}
 use Rattle.mj_core.specs.declared.slot.Made.TheVariants as made
-use Rattle.mj_core.specs.Runs.{start_in}
 use Rattle.mj_core.specs.Shown.{with_over}
-use Rattle.mj_core.specs.Having.{IsUnfit}
 use Rattle.mj_core.specs.Gives.{IsStepRefused}
 use Rattle.mj_core.specs.Gives as gives
-use Rattle.mj_core.specs.Ties.{Placed, IsPlaced, Steps, IsStill, start_of, IsShut, IsTwice}
+use Rattle.mj_core.specs.Answering.{Answering, HasStill}
+use Rattle.mj_core.specs.Ties.{Placed, IsPlaced, Steps, IsStill, start_of}
 use Rattle.mj_core.specs.Kept.{AreKept, logs_of, shown}
 use Rattle.mj_core.proofs.Histories.{same_state, is_run}
 use Rattle.mj_core.proofs.Ended.{has_halted}
 use Rattle.mj_core.proofs.Keeping.{keeps_event, keeps_still}
 use Rattle.mj_core.proofs.Views.{as_many}
-use Rattle.mj_core.proofs.Giving.{shown_still, gives_event, gives_busy, gives_not_yet, gives_unfit, unfit, gives_ran, gives_ended, refuses}
+use Rattle.mj_core.proofs.Giving.{shown_still, gives_event, gives_busy, gives_not_yet, gives_unfit, gives_ran, gives_ended, refuses}
 
 -- what is seen of a step of one job, where so many events are written down
 abbrev pub seen_of : ℕ → Made → Seen
@@ -58,99 +57,86 @@ few_shared (e ∷ history) = by (is_shared e.ask) (few_shared history) where
   by false few = omega (arith, few)
 
 -- where all events have room, those that the shared state serves have it
-pub room_left : (image : Loaded) (opening : Shared) (system : Recorded) (slots : List Placed) (waiting : Option Claimed) (order : List Happened)
-    → AreKept image opening system slots waiting order → length order < history_limit → length system.history < history_limit
-room_left image opening system slots waiting order kept room =
+pub room_left : {A : Type 0} (ans : Answering A) (image : Loaded) (opening : Shared) (system : Recorded) (slots : List (Placed A)) (waiting : Option Claimed) (order : List Happened)
+    → AreKept ans image opening system slots waiting order → length order < history_limit → length system.history < history_limit
+room_left ans image opening system slots waiting order kept room =
     let few = few_shared (woven (logs_of slots) order) in
     let many = as_many (logs_of slots) order kept.there in
     let same = ap length kept.history in
     omega (arith, few, many, same, room)
 
-module _ (image : Loaded) (opening : Shared) (system : Recorded) (slots : List Placed) (waiting : Option Claimed) (order : List Happened)
-    (kept : AreKept image opening system slots waiting order) (k : ℕ) (slot slot' : Placed) (here : slice_get slots k ≡ Some slot)
-    (numbered : slot'.claim.job ≡ slot.claim.job) (late : Bool) (system' : Recorded) (placed : IsPlaced image opening system' slot')
+module _ {A : Type 0} (ans : Answering A) (image : Loaded) (opening : Shared) (system : Recorded) (slots : List (Placed A)) (waiting : Option Claimed) (order : List Happened)
+    (kept : AreKept ans image opening system slots waiting order) (k : ℕ) (slot slot' : Placed A) (here : slice_get slots k ≡ Some slot)
+    (numbered : slot'.claim.job ≡ slot.claim.job) (late : Bool) (given : Option Reply) (system' : Recorded) (placed : IsPlaced ans image opening system' slot')
     (room : length order < history_limit) where
-  abbrev slots' : List Placed
+  abbrev slots' : List (Placed A)
   slots' = slice_set slots k slot'
 
-  placed_as : system' ≡ system → IsPlaced image opening system slot'
-  placed_as same = let P : Recorded → Type 0 = λ s. IsPlaced image opening s slot' in subst P same placed
+  placed_as : system' ≡ system → IsPlaced ans image opening system slot'
+  placed_as same = let P : Recorded → Type 0 = λ s. IsPlaced ans image opening s slot' in subst P same placed
 
-  kept_as : (same : system' ≡ system) → slot'.job.run.log ≡ slot.job.run.log → slot'.sessions.sessions ≡ slot.sessions.sessions
-      → AreKept image opening system' slots' waiting order
-  kept_as same log sessions =
-      let P : Recorded → Type 0 = λ s. AreKept image opening s slots' waiting order in
-      subst P (sym same) (keeps_still image opening system slots waiting order kept k slot slot' here numbered (placed_as same) log sessions)
+  kept_as : (same : system' ≡ system) → slot'.job.run.log ≡ slot.job.run.log → HasStill ans slot.answerer slot'.answerer
+      → AreKept ans image opening system' slots' waiting order
+  kept_as same log stays =
+      let P : Recorded → Type 0 = λ s. AreKept ans image opening s slots' waiting order in
+      subst P (sym same) (keeps_still ans image opening system slots waiting order kept k slot slot' here numbered (placed_as same) log stays)
 
   -- all is kept
-  pub keeps_step : (m : Made) → Steps (routines_of image) opening late system slot m system' slot'
-      → AreKept image opening system' slots' waiting (order_on order k slot.job.run.log m)
-  keeps_step made.Event t = keeps_event image opening system slots waiting order kept k slot slot' here numbered system' t.0 t.1 late room placed t.6 t.8 t.4 t.5 t.9
+  pub keeps_step : (m : Made) → Steps ans (routines_of image) opening late given system slot m system' slot'
+      → AreKept ans image opening system' slots' waiting (order_on order k slot.job.run.log m)
+  keeps_step made.Event t = keeps_event ans image opening system slots waiting order kept k slot slot' here numbered system' t.0 t.1 late room placed t.6 t.8 t.4 t.5 t.9
   keeps_step (made.Busy holder held) t = kept_as t.5 t.6.0 t.6.2
-  keeps_step made.NotYet t = kept_as t.6 t.7.0 t.7.2
+  keeps_step made.NotYet t = kept_as t.4 t.5.0 t.5.2
   keeps_step made.Unfit t = kept_as t.4 t.5.0 t.5.2
   keeps_step made.Ran t = kept_as t.2 t.3 t.4
   keeps_step made.Ended t = kept_as t.1 t.2.0 t.2.2
 
-  pub keeps_refused : (system' ≡ system) × IsStill slot slot' → AreKept image opening system' slots' waiting order
+  pub keeps_refused : (system' ≡ system) × IsStill ans slot slot' → AreKept ans image opening system' slots' waiting order
   keeps_refused t = kept_as t.0 t.1.0 t.1.2
 
   module _ (over : List Bool) (n : ℕ) (few : k < n) (row : Row) (is : row_at (state_of opening (woven (logs_of slots) order)).rows (suc k) ≡ Some row) where
-    -- a session that would go to the job is there already
-    unfit_twice : (a : Ask) → IsTwice (state_of opening system.history) slot.sessions.sessions a → IsUnfit opening (woven (logs_of slots) order) (suc k) a
-    unfit_twice a twice = inr (
-      twice.1.0,
-      twice.1.1,
-      ap (λ (s : Shared). takes_session s a) (same_state image opening system slots waiting order kept) ∙ twice.0,
-      sym ((kept.tied k slot here).held twice.1.0) ∙ twice.1.2,
-    )
-
     -- this is what it gives, of a job that goes on
     abbrev Goal : Made → Type 0
     Goal m =
-        gives.Made opening (shown image slots order over n) (suc k) row late (Ok (seen_of (length order) m))
+        gives.JobStepGives ans.means opening (shown image slots order over n) (suc k) row late given (Ok (seen_of (length order) m))
         (shown image slots' (order_on order k slot.job.run.log m) (over_on over k m) n)
 
-    pub makes_step : IsLive (state_of opening system.history).rows (suc k) → (m : Made) → Steps (routines_of image) opening late system slot m system' slot' → Goal m
+    pub makes_step : IsLive (state_of opening system.history).rows (suc k) → (m : Made) → Steps ans (routines_of image) opening late given system slot m system' slot' → Goal m
     makes_step live m t = by m t where
       live_there : IsLive (state_of opening (woven (logs_of slots) order)).rows (suc k)
-      live_there = subst (λ (s : Shared). IsLive s.rows (suc k)) (sym (same_state image opening system slots waiting order kept)) live
+      live_there = subst (λ (s : Shared). IsLive s.rows (suc k)) (sym (same_state ans image opening system slots waiting order kept)) live
 
-      shuts : (a : Ask) → IsShut slot.sessions.sessions a ⊎ IsTwice (state_of opening system.history) slot.sessions.sessions a → IsUnfit opening (woven (logs_of slots) order) (suc k) a
-      shuts a (inl shut) = unfit image opening system slots waiting order kept over n k few slot slot' here numbered row is late a shut
-      shuts a (inr twice) = unfit_twice a twice
-
-      by : (m : Made) → Steps (routines_of image) opening late system slot m system' slot' → Goal m
+      by : (m : Made) → Steps ans (routines_of image) opening late given system slot m system' slot' → Goal m
       by made.Event t = (
         live_there,
-        gives_event image opening system slots waiting order kept over n k few slot slot' here numbered row is late t.0 t.1 system' t.6 t.7 (keeps_step made.Event t) t.2 t.3 t.5,
+        gives_event ans image opening system slots waiting order kept over n k few slot slot' here numbered row is late given t.0 t.1 system' t.6 t.7 (keeps_step made.Event t) t.2 t.3 t.5 t.10,
       )
       by (made.Busy holder held) t = (
         live_there,
-        gives_busy image opening system slots waiting order kept over n k few slot slot' here numbered row is late t.6.0 t.6.2 t.6.1 system' (placed_as t.5) holder held t,
+        gives_busy ans image opening system slots waiting order kept over n k few slot slot' here numbered row is late given t.6.0 t.6.2 t.6.1 system' (placed_as t.5) holder held t,
       )
       by made.NotYet t = (
         live_there,
-        gives_not_yet image opening system slots waiting order kept over n k few slot slot' here numbered row is late t.7.0 t.7.2 t.7.1 system' (placed_as t.6) t,
+        gives_not_yet ans image opening system slots waiting order kept over n k few slot slot' here numbered row is late given t.5.0 t.5.2 t.5.1 system' (placed_as t.4) t,
       )
       by made.Unfit t = (
         live_there,
-        gives_unfit image opening system slots waiting order kept over n k few slot slot' here numbered row is late t.5.0 t.5.2 t.5.1 system' (placed_as t.4) t.0 t.1 t.2 (shuts t.0 t.3),
+        gives_unfit ans image opening system slots waiting order kept over n k few slot slot' here numbered row is late given t.5.0 t.5.2 t.5.1 system' (placed_as t.4) t,
       )
       by made.Ran t = (
         live_there,
-        gives_ran image opening system slots waiting order kept over n k few slot slot' here numbered row is late t.3 t.4 (placed_as t.2) t.0 t.1,
+        gives_ran ans image opening system slots waiting order kept over n k few slot slot' here numbered row is late given t.3 t.4 (placed_as t.2) t.0 t.1,
       )
       by made.Ended t =
-          let over_now = gives_ended image opening system slots waiting order kept over n k few slot slot' here numbered row is late t.2.0 t.2.2 t.2.1 system' (placed_as t.1) t in (
-            (has_halted (routines_of image) opening (woven (logs_of slots) order) (is_run image opening system slots waiting order kept) (suc k) row is over_now.0).1,
+          let over_now = gives_ended ans image opening system slots waiting order kept over n k few slot slot' here numbered row is late given t.2.0 t.2.2 t.2.1 system' (placed_as t.1) t in (
+            (has_halted (routines_of image) opening (woven (logs_of slots) order) (is_run ans image opening system slots waiting order kept) (suc k) row is over_now.0).1,
             over_now.1,
           )
 
     -- and where it isn't made, nothing changes
-    pub makes_none : (why : Refusal) → IsStepRefused (routines_of image) (start_of slot) slot.job.run.log late why → (system' ≡ system) × IsStill slot slot'
-        → gives.Made opening (shown image slots order over n) (suc k) row late (Err why) (shown image slots' order over n)
+    pub makes_none : (why : Refusal) → IsStepRefused (routines_of image) (start_of slot) slot.job.run.log late why → (system' ≡ system) × IsStill ans slot slot'
+        → gives.JobStepGives ans.means opening (shown image slots order over n) (suc k) row late given (Err why) (shown image slots' order over n)
     makes_none why refused t = (
-      refuses image opening system slots waiting order kept over n k few slot slot' here numbered row is late why refused,
-      shown_still image opening system slots waiting order kept over n k few slot slot' here numbered row is late t.1.0 t.1.2 (placed_as t.0) t.1.1,
+      refuses ans image opening system slots waiting order kept over n k few slot slot' here numbered row is late given why refused,
+      shown_still ans image opening system slots waiting order kept over n k few slot slot' here numbered row is late given t.1.0 t.1.2 (placed_as t.0) t.1.1,
     )

@@ -1,13 +1,12 @@
 -- Histories of all events, and what is left of them.
 use Rattle.std.specs.Prelude.{if◌then◌else◌}
-use Rattle.std.proofs.Common.{◌≡◌, ℕ, List, [], ◌∷◌, ◌++◌, Bool, true, false, Option, Some, None, refl, sym, ap, ◌∙◌, subst}
+use Rattle.std.proofs.Common.{◌≡◌, ℕ, [], ◌∷◌, ◌++◌, Bool, true, false, None, refl, sym, ap, ◌∙◌, subst}
 use Rattle.mj_ask.specs.Fits.{is_shared}
 use Rattle.mj_ask.specs.declared.ask.Ask.{Ask}
 use Rattle.mj_ask.specs.declared.ask.Ask.TheVariants as asks
 use Rattle.mj_sys.specs.declared.event.Event.{Event}
 use Rattle.mj_sys.specs.Shared.{Shared, served}
-use Rattle.mj_sys.specs.History.{History, IsServed, left_by, after, state_of, AreServed}
-use Rattle.mj_sys.proofs.Rows.{state_of_append}
+use Rattle.mj_sys.specs.History.{History, left_by, after, state_of, AreServed}
 use Rattle.mj_core.specs.Happen.{shared_of, Happens, AllHappen}
 
 pub shared_append : (history more : History) → shared_of (history ++ more) ≡ shared_of history ++ shared_of more

@@ -1,12 +1,12 @@
 -- What a core keeps is kept by each of its changes.
 use Rattle.std.specs.Prelude.{◌⊎◌, ◌==◌, slice_get, slice_set, if◌then◌else◌}
 use Rattle.std.specs.Str.{bytes_eq}
-use Rattle.std.specs.Option.{is_some, option_map}
-use Rattle.std.proofs.Common.{◌≡◌, ℕ, zero, suc, ◌+◌, ◌<◌, ◌≤◌, List, [], ◌∷◌, ◌++◌, length, Bool, true, false, Option, Some, None, refl, sym, ap, ◌∙◌, subst, inl, inr, append-nil, arith, length-append}
-use Rattle.std.proofs.lemmas.Option.{slice_get-map, slice_get_within, get_or_from_slice_get}
+use Rattle.std.specs.Option.{option_map}
+use Rattle.std.proofs.Common.{◌≡◌, ℕ, zero, suc, ◌+◌, ◌<◌, ◌≤◌, List, [], ◌∷◌, ◌++◌, length, Bool, true, false, Option, Some, None}
+use Rattle.std.proofs.Common.{refl, sym, ap, ◌∙◌, subst, inl, inr, append-nil, arith, length-append}
+use Rattle.std.proofs.lemmas.Option.{slice_get-map, get_or_from_slice_get}
 use Rattle.std.proofs.lemmas.List.{map-set, map-append, length-set}
 use Rattle.std.proofs.Math.Seq.{map-set_same}
-use Rattle.mj_ask.specs.Fits.{is_shared}
 use Rattle.mj_ask.specs.declared.ask.Ask.{Ask}
 use Rattle.mj_ask.specs.declared.ask.Reply.{Reply}
 use Rattle.mj_dev.specs.Shelves.{principal}
@@ -14,9 +14,8 @@ use Rattle.mj_load.specs.Image.{Loaded}
 use Rattle.mj_jobs.specs.Rows.{Row, row_at, IsLive}
 use Rattle.mj_jobvm.specs.Run.{Log}
 use Rattle.mj_jobvm.specs.Jobs.{Running, IsRunOf}
-use Rattle.mj_sessions.specs.Named.{Named, session_of, AreTold}
 use Rattle.mj_sys.specs.declared.event.Event.{Event}
-use Rattle.mj_sys.specs.Shared.{Shared, served}
+use Rattle.mj_sys.specs.Shared.{Shared}
 use Rattle.mj_sys.specs.History.{History, after, state_of, log_of, events_of}
 use Rattle.mj_sys.specs.System.{Recorded, Claimed, history_limit}
 use Rattle.mj_sys.proofs.Replays.{left, no_events}
@@ -30,8 +29,9 @@ use Rattle.mj_core.proofs.Logs.{log_own, log_other, same_job, other_job, shared_
 use Rattle.mj_core.specs.Runs.{start_in}
 use Rattle.mj_core.specs.Having.{has_behind, has_after, has_session}
 use Rattle.mj_core.specs.Gives.{IsReplyTold}
+use Rattle.mj_core.specs.Answering.{Answering, HasAll, HasStill, AreBehind}
 use Rattle.mj_core.specs.Ties.{Placed, IsTied, IsPlaced}
-use Rattle.mj_core.specs.Kept.{AreKept, IsSlotOf, IsClaimed, AreHeld, logs_of}
+use Rattle.mj_core.specs.Kept.{AreKept, IsSlotOf, IsClaimed, logs_of}
 use Rattle.mj_core.proofs.Histories.{same_state, none_past}
 
 -- an element of a list with one that was changed
@@ -98,10 +98,10 @@ row_later opening history history' more claim on there =
     (kept.0, ap (λ (s : Shared). row_at s.rows claim.job) (ap (state_of opening) on ∙ state_of_append opening history more) ∙ kept.1, kept.2 ∙ there.2)
 
 -- a job's tie stays where others have events, and others are claimed
-pub tied_beside : (image : Loaded) (opening : Shared) (old new : Recorded) (more : History) (claim : Claimed) (job : Running) (xs : List Named)
-    → IsTied image opening old claim job xs → new.history ≡ old.history ++ more → old.claimed ≤ new.claimed → events_of claim.job more ≡ 0
-    → IsTied image opening new claim job xs
-tied_beside image opening old new more claim job xs tied on claimed none = record {
+pub tied_beside : {A : Type 0} (ans : Answering A) (image : Loaded) (opening : Shared) (old new : Recorded) (more : History) (claim : Claimed) (job : Running) (xs : A)
+    → IsTied ans image opening old claim job xs → new.history ≡ old.history ++ more → old.claimed ≤ new.claimed → events_of claim.job more ≡ 0
+    → IsTied ans image opening new claim job xs
+tied_beside ans image opening old new more claim job xs tied on claimed none = record {
   numbered = tied.numbered;
   claimed = (let a = tied.claimed in omega (arith, a, claimed));
   row = row_later opening old.history new.history more claim on tied.row;
@@ -124,9 +124,9 @@ claimed_on opening old new more on same n m is (Some claim) claimed = (
   row_later opening old.history new.history more claim on claimed.3,
 )
 
-module _ (image : Loaded) (opening : Shared) (system : Recorded) (slots : List Placed) (waiting : Option Claimed) (order : List Happened)
-    (kept : AreKept image opening system slots waiting order) where
-  abbrev log_in : Placed → Log
+module _ {A : Type 0} (ans : Answering A) (image : Loaded) (opening : Shared) (system : Recorded) (slots : List (Placed A)) (waiting : Option Claimed) (order : List Happened)
+    (kept : AreKept ans image opening system slots waiting order) where
+  abbrev log_in : Placed A → Log
   log_in s = s.job.run.log
 
   abbrev history : History
@@ -136,15 +136,15 @@ module _ (image : Loaded) (opening : Shared) (system : Recorded) (slots : List P
   state = state_of opening system.history
 
   same : state_of opening history ≡ state
-  same = same_state image opening system slots waiting order kept
+  same = same_state ans image opening system slots waiting order kept
 
   -- ---- a slot's job goes on
 
-  module _ (k : ℕ) (slot slot' : Placed) (here : slice_get slots k ≡ Some slot) (numbered : slot'.claim.job ≡ slot.claim.job) where
-    abbrev slots' : List Placed
+  module _ (k : ℕ) (slot slot' : Placed A) (here : slice_get slots k ≡ Some slot) (numbered : slot'.claim.job ≡ slot.claim.job) where
+    abbrev slots' : List (Placed A)
     slots' = slice_set slots k slot'
 
-    at : IsSlotOf image opening system history (suc k) slot
+    at : IsSlotOf ans image opening system history (suc k) slot
     at = kept.tied k slot here
 
     log_here : slice_get (logs_of slots) k ≡ Some slot.job.run.log
@@ -161,8 +161,8 @@ module _ (image : Loaded) (opening : Shared) (system : Recorded) (slots : List P
           IsLive state.rows job × IsReplyTold state job a late reply (state_of opening system'.history)
           × (system' ≡ record system { history = system.history ++ shared_of (event job ∷ []) })
 
-      module _ (room : length order < history_limit) (placed : IsPlaced image opening system' slot') (log : slot'.job.run.log ≡ slot.job.run.log ++ (a, reply) ∷ [])
-          (behind : (name : List ℕ) → is_some (session_of name slot'.sessions.sessions) ≡ has_behind state name a (is_some (session_of name slot.sessions.sessions)))
+      module _ (room : length order < history_limit) (placed : IsPlaced ans image opening system' slot') (log : slot'.job.run.log ≡ slot.job.run.log ++ (a, reply) ∷ [])
+          (behind : AreBehind ans state a slot.answerer slot'.answerer)
           (made : Made (suc k)) where
         abbrev e : Event
         e = event (suc k)
@@ -194,7 +194,7 @@ module _ (image : Loaded) (opening : Shared) (system : Recorded) (slots : List P
                   (made.0, shared, (late, made.1.shared shared ∙ ap (λ t. Some (reply, t)) (sym (left state (suc k) a late reply (state_of opening system'.history) (made.1.shared shared))))),
             )
 
-        own : IsSlotOf image opening system' history' (suc k) slot'
+        own : IsSlotOf ans image opening system' history' (suc k) slot'
         own = record {
           numbered = numbered ∙ at.numbered;
           placed = placed;
@@ -202,11 +202,13 @@ module _ (image : Loaded) (opening : Shared) (system : Recorded) (slots : List P
               ap (log_of (suc k)) history_on ∙ log_of_append (suc k) history (e ∷ []) ∙ ap (λ l. l ++ log_of (suc k) (e ∷ [])) at.logged
               ∙ ap (λ l. slot.job.run.log ++ l) (log_own (suc k) e refl) ∙ sym log;
           held = λ name.
-              behind name ∙ ap (has_behind state name a) (at.held name) ∙ ap (λ s. has_behind s name a (has_session opening (suc k) name history)) (sym same)
-              ∙ sym (ap (has_session opening (suc k) name) history_on ∙ has_own opening (suc k) name history e refl);
+              subst (λ has. ans.Has slot'.answerer name has)
+              (ap (λ s. has_behind s name a (has_session opening (suc k) name history)) (sym same)
+              ∙ sym (ap (has_session opening (suc k) name) history_on ∙ has_own opening (suc k) name history e refl))
+              (behind name (has_session opening (suc k) name history) (at.held name));
         }
 
-        other : (j : ℕ) (s : Placed) → (j ≡ k → ⊥) → slice_get slots j ≡ Some s → IsSlotOf image opening system' history' (suc j) s
+        other : (j : ℕ) (s : Placed A) → (j ≡ k → ⊥) → slice_get slots j ≡ Some s → IsSlotOf ans image opening system' history' (suc j) s
         other j s apart there =
             let old = kept.tied j s there in
             let not_it : suc k ≡ suc j → ⊥ = λ is. apart (let i : suc k ≡ suc j = is in omega (arith, i)) in
@@ -215,24 +217,25 @@ module _ (image : Loaded) (opening : Shared) (system : Recorded) (slots : List P
             record {
               numbered = old.numbered;
               placed =
-                  tied_beside image opening system system' (shared_of (e ∷ [])) s.claim s.job s.sessions.sessions old.placed system_on
+                  tied_beside ans image opening system system' (shared_of (e ∷ [])) s.claim s.job s.answerer old.placed system_on
                   (let same_many = claimed_same in omega (arith, same_many)) (no_events s.claim.job (shared_of (e ∷ [])) silent);
               logged =
                   ap (log_of (suc j)) history_on ∙ log_of_append (suc j) history (e ∷ []) ∙ ap (λ l. log_of (suc j) history ++ l) (log_other (suc j) e not_it)
                   ∙ append-nil (log_of (suc j) history) ∙ old.logged;
-              held = λ name. old.held name ∙ sym (ap (has_session opening (suc j) name) history_on ∙ has_other opening (suc j) name history e not_it);
+              held = λ name.
+                  subst (λ has. ans.Has s.answerer name has) (sym (ap (has_session opening (suc j) name) history_on ∙ has_other opening (suc j) name history e not_it)) (old.held name);
             }
 
-        tied_on : (j : ℕ) (s : Placed) → slice_get slots' j ≡ Some s → IsSlotOf image opening system' history' (suc j) s
+        tied_on : (j : ℕ) (s : Placed A) → slice_get slots' j ≡ Some s → IsSlotOf ans image opening system' history' (suc j) s
         tied_on j s there = by (get_set slots k j slot' s there) where
-          by : ((j ≡ k) × (s ≡ slot')) ⊎ ((j ≡ k → ⊥) × (slice_get slots j ≡ Some s)) → IsSlotOf image opening system' history' (suc j) s
+          by : ((j ≡ k) × (s ≡ slot')) ⊎ ((j ≡ k → ⊥) × (slice_get slots j ≡ Some s)) → IsSlotOf ans image opening system' history' (suc j) s
           by (inl is) =
-              let P : ℕ → Type 0 = λ i. IsSlotOf image opening system' history' (suc i) slot' in
-              let Q : Placed → Type 0 = λ p. IsSlotOf image opening system' history' (suc j) p in
+              let P : ℕ → Type 0 = λ i. IsSlotOf ans image opening system' history' (suc i) slot' in
+              let Q : Placed A → Type 0 = λ p. IsSlotOf ans image opening system' history' (suc j) p in
               subst Q (sym is.1) (subst P (sym is.0) own)
           by (inr is) = other j s is.0 is.1
 
-        kept_event : AreKept image opening system' slots' waiting order'
+        kept_event : AreKept ans image opening system' slots' waiting order'
         kept_event = record {
           history = ap shared_of history_on ∙ shared_append history (e ∷ []) ∙ ap (λ h. h ++ shared_of (e ∷ [])) kept.history ∙ sym system_on;
           tied = tied_on;
@@ -245,11 +248,11 @@ module _ (image : Loaded) (opening : Shared) (system : Recorded) (slots : List P
         }
 
       -- what is known of the event, by the number of its claim
-      pub keeps_event : length order < history_limit → IsPlaced image opening system' slot' → slot'.job.run.log ≡ slot.job.run.log ++ (a, reply) ∷ []
-          → ((name : List ℕ) → is_some (session_of name slot'.sessions.sessions) ≡ has_behind state name a (is_some (session_of name slot.sessions.sessions)))
+      pub keeps_event : length order < history_limit → IsPlaced ans image opening system' slot' → slot'.job.run.log ≡ slot.job.run.log ++ (a, reply) ∷ []
+          → AreBehind ans state a slot.answerer slot'.answerer
           → IsLive state.rows slot.claim.job → IsReplyTold state slot.claim.job a late reply (state_of opening system'.history)
           → system' ≡ record system { history = system.history ++ shared_of (event slot.claim.job ∷ []) }
-          → AreKept image opening system' slots' waiting (order ++ record { job = suc k; at = length slot.job.run.log } ∷ [])
+          → AreKept ans image opening system' slots' waiting (order ++ record { job = suc k; at = length slot.job.run.log } ∷ [])
       keeps_event room placed log behind live told new = kept_event room placed log behind (subst Made at.numbered (live, told, new))
 
       -- and what is seen of the history then
@@ -260,34 +263,34 @@ module _ (image : Loaded) (opening : Shared) (system : Recorded) (slots : List P
           ∙ woven_on (logs_of slots) k slot.job.run.log (a, reply) order log_here kept.there
 
     -- and has none
-    module _ (placed : IsPlaced image opening system slot') (log : slot'.job.run.log ≡ slot.job.run.log) (sessions : slot'.sessions.sessions ≡ slot.sessions.sessions) where
+    module _ (placed : IsPlaced ans image opening system slot') (log : slot'.job.run.log ≡ slot.job.run.log) (stays : HasStill ans slot.answerer slot'.answerer) where
       logs_same : logs_of slots' ≡ logs_of slots
       logs_same = map-set_same log_in slots k slot' slot (log ∙ ap log_in (sym (get_or_from_slice_get slots k slot slot here)))
 
       pub shows_still : woven (logs_of slots') order ≡ history
       shows_still = ap (λ l. woven l order) logs_same
 
-      still : IsSlotOf image opening system history (suc k) slot'
+      still : IsSlotOf ans image opening system history (suc k) slot'
       still = record {
         numbered = numbered ∙ at.numbered;
         placed = placed;
         logged = at.logged ∙ sym log;
-        held = λ name. ap (λ xs. is_some (session_of name xs)) sessions ∙ at.held name;
+        held = λ name. stays name (has_session opening (suc k) name history) (at.held name);
       }
 
-      tied_still : (j : ℕ) (s : Placed) → slice_get slots' j ≡ Some s → IsSlotOf image opening system history (suc j) s
+      tied_still : (j : ℕ) (s : Placed A) → slice_get slots' j ≡ Some s → IsSlotOf ans image opening system history (suc j) s
       tied_still j s there = by (get_set slots k j slot' s there) where
-        by : ((j ≡ k) × (s ≡ slot')) ⊎ ((j ≡ k → ⊥) × (slice_get slots j ≡ Some s)) → IsSlotOf image opening system history (suc j) s
+        by : ((j ≡ k) × (s ≡ slot')) ⊎ ((j ≡ k → ⊥) × (slice_get slots j ≡ Some s)) → IsSlotOf ans image opening system history (suc j) s
         by (inl is) =
-            let P : ℕ → Type 0 = λ i. IsSlotOf image opening system history (suc i) slot' in
-            let Q : Placed → Type 0 = λ p. IsSlotOf image opening system history (suc j) p in
+            let P : ℕ → Type 0 = λ i. IsSlotOf ans image opening system history (suc i) slot' in
+            let Q : Placed A → Type 0 = λ p. IsSlotOf ans image opening system history (suc j) p in
             subst Q (sym is.1) (subst P (sym is.0) still)
         by (inr is) = kept.tied j s is.1
 
-      pub keeps_still : AreKept image opening system slots' waiting order
+      pub keeps_still : AreKept ans image opening system slots' waiting order
       keeps_still = record {
         history = ap shared_of shows_still ∙ kept.history;
-        tied = λ j s there. (let P : History → Type 0 = λ h. IsSlotOf image opening system h (suc j) s in subst P (sym shows_still) (tied_still j s there));
+        tied = λ j s there. (let P : History → Type 0 = λ h. IsSlotOf ans image opening system h (suc j) s in subst P (sym shows_still) (tied_still j s there));
         happen = (let P : History → Type 0 = λ h. AllHappen opening h in subst P (sym shows_still) kept.happen);
         there = (let P : Logs → Type 0 = λ l. AreThere l order in subst P (sym logs_same) kept.there);
         claimed = subst (λ n. IsClaimed opening system n waiting) (sym (length-set slots k slot')) kept.claimed;
@@ -296,12 +299,12 @@ module _ (image : Loaded) (opening : Shared) (system : Recorded) (slots : List P
 
 -- ---- a job more
 
-module _ (image : Loaded) (opening : Shared) (system : Recorded) (slots : List Placed) (claim : Claimed) (order : List Happened)
-    (kept : AreKept image opening system slots (Some claim) order) where
+module _ {A : Type 0} (ans : Answering A) (image : Loaded) (opening : Shared) (system : Recorded) (slots : List (Placed A)) (claim : Claimed) (order : List Happened)
+    (kept : AreKept ans image opening system slots (Some claim) order) where
   -- the job of a row that waited for its slot is tied, where it hasn't gone on yet
-  pub tied_first : (job : Running) (xs : List Named) → IsRunOf image (start_in claim.job claim.start) job → AreTold job.run.log xs → IsTied image opening system claim job xs
+  pub tied_first : (job : Running) (xs : A) → IsRunOf image (start_in claim.job claim.start) job → ans.IsOf xs job.run.log → IsTied ans image opening system claim job xs
   tied_first job xs run told =
-      let none = none_past image opening system slots (Some claim) order kept (length slots) (slice_get_end slots) in
+      let none = none_past ans image opening system slots (Some claim) order kept (length slots) (slice_get_end slots) in
       let silent : log_of (suc (length slots)) system.history ≡ [] =
       ap (log_of (suc (length slots))) (sym kept.history) ∙ shared_silent (suc (length slots)) (woven (logs_of slots) order) none in
       record {
@@ -313,44 +316,44 @@ module _ (image : Loaded) (opening : Shared) (system : Recorded) (slots : List P
         told = told;
       }
 
-  module _ (slot : Placed) (is : slot.claim ≡ claim) (log : slot.job.run.log ≡ []) (placed : IsPlaced image opening system slot)
-      (held : (name : List ℕ) → is_some (session_of name slot.sessions.sessions) ≡ bytes_eq principal name) where
+  module _ (slot : Placed A) (is : slot.claim ≡ claim) (log : slot.job.run.log ≡ []) (placed : IsPlaced ans image opening system slot)
+      (held : HasAll ans slot.answerer (bytes_eq principal)) where
     abbrev old_history : History
     old_history = woven (logs_of slots) order
 
-    abbrev more : List Placed
+    abbrev more : List (Placed A)
     more = slots ++ slot ∷ []
 
     logs_more : logs_of more ≡ logs_of slots ++ [] ∷ []
-    logs_more = map-append (λ (s : Placed). s.job.run.log) slots (slot ∷ []) ∙ ap (λ l. logs_of slots ++ l ∷ []) log
+    logs_more = map-append (λ (s : Placed A). s.job.run.log) slots (slot ∷ []) ∙ ap (λ l. logs_of slots ++ l ∷ []) log
 
     pub shows_slot : woven (logs_of more) order ≡ old_history
     shows_slot = ap (λ l. woven l order) logs_more ∙ woven_still (logs_of slots) (logs_of slots ++ [] ∷ []) order (jobs_stay (logs_of slots)) kept.there
 
     none : log_of (suc (length slots)) old_history ≡ []
-    none = none_past image opening system slots (Some claim) order kept (length slots) (slice_get_end slots)
+    none = none_past ans image opening system slots (Some claim) order kept (length slots) (slice_get_end slots)
 
-    first : IsSlotOf image opening system old_history (suc (length slots)) slot
+    first : IsSlotOf ans image opening system old_history (suc (length slots)) slot
     first = record {
       numbered = ap (λ (c : Claimed). c.job) is ∙ kept.claimed.1;
       placed = placed;
       logged = none ∙ sym log;
-      held = λ name. held name ∙ sym (has_first opening (suc (length slots)) name (bytes_eq principal name) old_history none);
+      held = λ name. subst (λ has. ans.Has slot.answerer name has) (sym (has_first opening (suc (length slots)) name (bytes_eq principal name) old_history none)) (held name);
     }
 
-    tied_more : (j : ℕ) (s : Placed) → slice_get more j ≡ Some s → IsSlotOf image opening system old_history (suc j) s
+    tied_more : (j : ℕ) (s : Placed A) → slice_get more j ≡ Some s → IsSlotOf ans image opening system old_history (suc j) s
     tied_more j s there = by (get_end slots j slot s there) where
-      by : ((j ≡ length slots) × (s ≡ slot)) ⊎ (slice_get slots j ≡ Some s) → IsSlotOf image opening system old_history (suc j) s
+      by : ((j ≡ length slots) × (s ≡ slot)) ⊎ (slice_get slots j ≡ Some s) → IsSlotOf ans image opening system old_history (suc j) s
       by (inl e) =
-          let P : ℕ → Type 0 = λ i. IsSlotOf image opening system old_history (suc i) slot in
-          let Q : Placed → Type 0 = λ p. IsSlotOf image opening system old_history (suc j) p in
+          let P : ℕ → Type 0 = λ i. IsSlotOf ans image opening system old_history (suc i) slot in
+          let Q : Placed A → Type 0 = λ p. IsSlotOf ans image opening system old_history (suc j) p in
           subst Q (sym e.1) (subst P (sym e.0) first)
       by (inr e) = kept.tied j s e
 
-    pub keeps_slot : AreKept image opening system more None order
+    pub keeps_slot : AreKept ans image opening system more None order
     keeps_slot = record {
       history = ap shared_of shows_slot ∙ kept.history;
-      tied = λ j s there. (let P : History → Type 0 = λ h. IsSlotOf image opening system h (suc j) s in subst P (sym shows_slot) (tied_more j s there));
+      tied = λ j s there. (let P : History → Type 0 = λ h. IsSlotOf ans image opening system h (suc j) s in subst P (sym shows_slot) (tied_more j s there));
       happen = (let P : History → Type 0 = λ h. AllHappen opening h in subst P (sym shows_slot) kept.happen);
       there =
           (let P : Logs → Type 0 = λ l. AreThere l order in
@@ -360,11 +363,11 @@ module _ (image : Loaded) (opening : Shared) (system : Recorded) (slots : List P
     }
 
 -- a row is claimed, and waits for its slot
-pub keeps_claim : (image : Loaded) (opening : Shared) (old new : Recorded) (slots : List Placed) (order : List Happened) (claim : Claimed)
-    → AreKept image opening old slots None order → new.history ≡ old.history → new.claimed ≡ old.claimed + 1 → claim.job ≡ old.claimed + 1 → claim.events ≡ 0
+pub keeps_claim : {A : Type 0} (ans : Answering A) (image : Loaded) (opening : Shared) (old new : Recorded) (slots : List (Placed A)) (order : List Happened) (claim : Claimed)
+    → AreKept ans image opening old slots None order → new.history ≡ old.history → new.claimed ≡ old.claimed + 1 → claim.job ≡ old.claimed + 1 → claim.events ≡ 0
     → (row : Row) × (row_at (state_of opening old.history).rows claim.job ≡ Some row) × (row.start ≡ claim.start)
-    → AreKept image opening new slots (Some claim) order
-keeps_claim image opening old new slots order claim kept same claimed job events row =
+    → AreKept ans image opening new slots (Some claim) order
+keeps_claim ans image opening old new slots order claim kept same claimed job events row =
     let on : new.history ≡ old.history ++ [] = same ∙ sym (append-nil old.history) in
     record {
       history = kept.history ∙ sym same;
@@ -372,7 +375,7 @@ keeps_claim image opening old new slots order claim kept same claimed job events
           (let at = kept.tied k slot here in
           record {
             numbered = at.numbered;
-            placed = tied_beside image opening old new [] slot.claim slot.job slot.sessions.sessions at.placed on (omega (arith, claimed)) refl;
+            placed = tied_beside ans image opening old new [] slot.claim slot.job slot.answerer at.placed on (omega (arith, claimed)) refl;
             logged = at.logged;
             held = at.held;
           });
@@ -385,8 +388,8 @@ keeps_claim image opening old new slots order claim kept same claimed job events
     }
 
 -- no row was claimed yet, and nothing was asked
-pub keeps_new : (image : Loaded) (opening : Shared) → AreKept image opening (record { history = []; claimed = 0 }) [] None []
-keeps_new image opening = record {
+pub keeps_new : {A : Type 0} (ans : Answering A) (image : Loaded) (opening : Shared) → AreKept ans image opening (record { history = []; claimed = 0 }) [] None []
+keeps_new ans image opening = record {
   history = refl;
   tied = λ k slot here. absurd (let no : None ≡ Some slot = here in cc);
   happen = tt;

@@ -4,6 +4,8 @@ pub mod Logs
 mod Behind
 mod Telling
 mod Stepping
+mod Serving
+mod Hearing
 mod Histories
 mod Keeping
 mod Views

@@ -20,6 +20,7 @@ use Rattle.mj_core.specs.declared.seen.Ready.{Ready}
 use Rattle.mj_core.specs.declared.seen.Ready.TheVariants as readies
 use Rattle.mj_core.specs.Gives.{Readies, GivesReady}
 use Rattle.mj_core.specs.Asking.{IfAsks, IsAtAsk}
+use Rattle.mj_core.specs.Answering.{Answering}
 use Rattle.mj_core.specs.Ties.{Placed}
 use Rattle.mj_core.specs.Kept.{AreKept, logs_of, turns_of, shown}
 use Rattle.mj_core.proofs.Answering.{shown_same, ready_made, ready_done, ready_short, seen_as, done_as}
@@ -28,18 +29,18 @@ use Rattle.mj_core.proofs.Answering.{shown_same, ready_made, ready_done, ready_s
 pub stands_at : (over : List Bool) (at : ℕ) (b test : Bool) → length over ≡ 255 → at < 255 → b ≡ get_or over at b → b ≡ test → slice_index_or over at false ≡ test
 stands_at over at b test long few value is = get_or_default over at false b (omega (arith, long, few)) ∙ sym value ∙ is
 
-module _ (image : Loaded) (opening : Shared) (system : Recorded) (slots : List Placed) (waiting : Option Claimed) (order : List Happened)
-    (kept : AreKept image opening system slots waiting order) (over : List Bool) (self : Shown) (view : shown image slots order over 255 ≡ self)
+module _ {A : Type 0} (ans : Answering A) (image : Loaded) (opening : Shared) (system : Recorded) (slots : List (Placed A)) (waiting : Option Claimed) (order : List Happened)
+    (kept : AreKept ans image opening system slots waiting order) (over : List Bool) (self : Shown) (view : shown image slots order over 255 ≡ self)
     (job at : ℕ) (is : job ≡ suc at) (some : IsSome (row_at (state_of opening self.history).rows job))
     (b : Bool) (long : length over ≡ 255) (few : at < 255) (value : b ≡ get_or over at b) (goes : b ≡ false) where
   goes_on : slice_index_or self.over at false ≡ false
-  goes_on = seen_as image opening system slots waiting order kept over 255 self view at false (stands_at over at b false long few value goes)
+  goes_on = seen_as ans image opening system slots waiting order kept over 255 self view at false (stands_at over at b false long few value goes)
 
   pub readied_done : (IsLive (state_of opening system.history).rows job → ⊥) → GivesReady opening self job (Ok turns.Ended) self
-  readied_done done = ready_done opening self job at is some goes_on (done_as image opening system slots waiting order kept over 255 self view job done)
+  readied_done done = ready_done opening self job at is some goes_on (done_as ans image opening system slots waiting order kept over 255 self view job done)
 
   -- slots came, in which nothing was asked yet
-  module _ (slots1 : List Placed) (order1 : List Happened) (same : order1 ≡ order) (history : woven (logs_of slots1) order1 ≡ woven (logs_of slots) order1)
+  module _ (slots1 : List (Placed A)) (order1 : List Happened) (same : order1 ≡ order) (history : woven (logs_of slots1) order1 ≡ woven (logs_of slots) order1)
       (counts : (n : ℕ) → turns_of n slots1 ≡ turns_of n slots) where
     seen_still : shown image slots1 order over 255 ≡ self
     seen_still =
@@ -51,7 +52,7 @@ module _ (image : Loaded) (opening : Shared) (system : Recorded) (slots : List P
         let P : Shown → Type 0 = λ s. GivesReady opening self job (Err refusals.Memory) s in
         subst P (sym seen_still) (ready_short opening self job at is some goes_on)
 
-    pub readied : (lent new : List Placed) (order2 : List Happened) → lent ≡ slots1 → order2 ≡ order → (answer : Result Turn Refusal)
+    pub readied : (lent new : List (Placed A)) (order2 : List Happened) → lent ≡ slots1 → order2 ≡ order → (answer : Result Turn Refusal)
         → ((ends : List Bool) (row : Row) → row_at (state_of opening (woven (logs_of lent) order2)).rows (suc at) ≡ Some row
         → Readies opening (shown image lent order2 ends 255) (suc at) row answer (shown image new order2 ends 255))
         → GivesReady opening self job answer (shown image new order over 255)
@@ -64,7 +65,7 @@ module _ (image : Loaded) (opening : Shared) (system : Recorded) (slots : List P
         subst Q again (subst P e (gives over row there)))
 
     -- where it asks then, it stands at its ask
-    pub readied_at : (lent : List Placed) (order2 : List Happened) → lent ≡ slots1 → order2 ≡ order → (found : Running)
+    pub readied_at : (lent : List (Placed A)) (order2 : List Happened) → lent ≡ slots1 → order2 ≡ order → (found : Running)
         → IsAtAsk image opening (woven (logs_of lent) order2) (suc at) found → IsAtAsk self.image opening self.history job found
     readied_at lent order2 as_lent again found asks =
         let e : shown image lent order2 over 255 ≡ self =

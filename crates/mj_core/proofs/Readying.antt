@@ -1,6 +1,6 @@
 -- A job among all that is let go on, and isn't served.
 use Rattle.std.specs.Prelude.{slice_get, slice_set, Ok, Err}
-use Rattle.std.proofs.Common.{◌≡◌, ℕ, suc, ◌<◌, List, Bool, false, Option, Some, refl, sym, ◌∙◌, subst}
+use Rattle.std.proofs.Common.{◌≡◌, ℕ, suc, ◌<◌, List, Bool, false, Option, Some, None, refl, sym, ◌∙◌, subst}
 use Rattle.std.specs.declared.alloc.AllocError.{AllocError}
 use Rattle.mj_ask.specs.declared.ask.Ask.{Ask}
 use Rattle.mj_load.specs.Image.{Loaded, routines_of}
@@ -13,7 +13,6 @@ use Rattle.mj_jobvm.specs.Jobs.{Running, IsRunOf}
 use Rattle.mj_jobvm.specs.Told.{AdvanceTells, spent_after}
 use Rattle.mj_jobvm.specs.declared.job.Turn.{Turn}
 use Rattle.mj_jobvm.specs.declared.job.Turn.TheVariants as turns
-use Rattle.mj_sessions.specs.Named.{AreTold}
 use Rattle.mj_sys.specs.Shared.{Shared}
 use Rattle.mj_sys.specs.History.{state_of, log_of}
 use Rattle.mj_sys.specs.System.{Recorded, Claimed}
@@ -23,6 +22,7 @@ use Rattle.mj_steps.specs.declared.step.Refusal.TheVariants as refusals
 use Rattle.mj_core.specs.Runs.{start_in}
 use Rattle.mj_core.specs.Gives.{Makes, Readies}
 use Rattle.mj_core.specs.Asking.{IsAtAsk}
+use Rattle.mj_core.specs.Answering.{Answering}
 use Rattle.mj_core.specs.Ties.{Placed, IsPlaced, start_of}
 use Rattle.mj_core.specs.Kept.{AreKept, logs_of, shown}
 use Rattle.mj_core.proofs.Histories.{is_run}
@@ -31,20 +31,20 @@ use Rattle.mj_core.proofs.Ended.{has_halted}
 use Rattle.mj_core.proofs.Giving.{shown_still, gives_ran, move}
 use Rattle.mj_core.proofs.Views.{shown_run}
 
-module _ (image : Loaded) (opening : Shared) (system : Recorded) (slots : List Placed) (waiting : Option Claimed) (order : List Happened)
-    (kept : AreKept image opening system slots waiting order) (k : ℕ) (slot : Placed) (here : slice_get slots k ≡ Some slot) (job : Running)
+module _ {A : Type 0} (ans : Answering A) (image : Loaded) (opening : Shared) (system : Recorded) (slots : List (Placed A)) (waiting : Option Claimed) (order : List Happened)
+    (kept : AreKept ans image opening system slots waiting order) (k : ℕ) (slot : Placed A) (here : slice_get slots k ≡ Some slot) (job : Running)
     (run : (start : Start) → IsRunOf image start slot.job → IsRunOf image start job) (log : job.run.log ≡ slot.job.run.log) where
   -- the slot with its job behind some turns
-  abbrev pub slot_on : Placed
+  abbrev pub slot_on : Placed A
   slot_on = record slot { job = job }
 
   -- it can go on
-  pub is_placed : IsPlaced image opening system slot
+  pub is_placed : IsPlaced ans image opening system slot
   is_placed = (kept.tied k slot here).placed
 
-  placed_on : IsPlaced image opening system slot_on
+  placed_on : IsPlaced ans image opening system slot_on
   placed_on =
-      let T : Log → Type 0 = λ l. AreTold l slot.sessions.sessions in
+      let T : Log → Type 0 = λ l. ans.IsOf slot.answerer l in
       record {
         numbered = is_placed.numbered;
         claimed = is_placed.claimed;
@@ -54,12 +54,12 @@ module _ (image : Loaded) (opening : Shared) (system : Recorded) (slots : List P
         told = subst T (sym log) is_placed.told;
       }
 
-  pub keeps_ready : AreKept image opening system (slice_set slots k slot_on) waiting order
-  keeps_ready = keeps_still image opening system slots waiting order kept k slot slot_on here refl placed_on log refl
+  pub keeps_ready : AreKept ans image opening system (slice_set slots k slot_on) waiting order
+  keeps_ready = keeps_still ans image opening system slots waiting order kept k slot slot_on here refl placed_on log (λ name has is. is)
 
   module _ (over : List Bool) (n : ℕ) (few : k < n) (row : Row) (is : row_at (state_of opening (woven (logs_of slots) order)).rows (suc k) ≡ Some row) where
     still : job.run.spent ≡ slot.job.run.spent → shown image (slice_set slots k slot_on) order over n ≡ shown image slots order over n
-    still spent = shown_still image opening system slots waiting order kept over n k few slot slot_on here refl row is false log refl placed_on spent
+    still spent = shown_still ans image opening system slots waiting order kept over n k few slot slot_on here refl row is false None log (λ name has is. is) placed_on spent
 
     -- what its turns say is what is seen of it
     readies_by : (turn : Turn) → AdvanceTells (routines_of image) (start_of slot) turn job.run → job.run.spent ≡ spent_after {E = AllocError} (Ok turn) 10000 slot.job.run.spent
@@ -68,17 +68,17 @@ module _ (image : Loaded) (opening : Shared) (system : Recorded) (slots : List P
         let F : ℕ → Start → Log → Shared → Type 0 = λ j st l s. (a : Ask) × Makes (routines_of image) st l a in
         let L : Log → Type 0 = λ l. Makes (routines_of image) (start_of slot) l told.0 in
         let makes : Makes (routines_of image) (start_of slot) job.run.log told.0 = (told.2.0, job.run.at.state.locals, places job.run.at.state, told.2.1) in (
-          move image opening system slots waiting order kept over n k few slot slot_on here refl row is false F (told.0, subst L log makes),
+          move ans image opening system slots waiting order kept over n k few slot slot_on here refl row is false None F (told.0, subst L log makes),
           still spent,
         )
     readies_by turns.Ran told spent =
         let L : Log → Type 0 = λ l. GoesOn (routines_of image) (start_of slot) l job.run.spent in
-        gives_ran image opening system slots waiting order kept over n k few slot slot_on here refl row is false log refl placed_on spent (subst L log told)
+        gives_ran ans image opening system slots waiting order kept over n k few slot slot_on here refl row is false None log (λ name has is. is) placed_on spent (subst L log told)
     readies_by turns.Ended told spent =
         let F : ℕ → Start → Log → Shared → Type 0 = λ j st l s. HasEnded (routines_of image) st l in
         let L : Log → Type 0 = λ l. HasEnded (routines_of image) (start_of slot) l in
-        let over_now = move image opening system slots waiting order kept over n k few slot slot_on here refl row is false F (subst L log told) in
-        let run = is_run image opening system slots waiting order kept in
+        let over_now = move ans image opening system slots waiting order kept over n k few slot slot_on here refl row is false None F (subst L log told) in
+        let run = is_run ans image opening system slots waiting order kept in
         ((has_halted (routines_of image) opening (woven (logs_of slots) order) run (suc k) row is over_now).1, still spent)
 
     pub readies : (turn went : Turn) → turn ≡ went → AdvanceTells (routines_of image) (start_of slot) turn job.run
@@ -98,7 +98,7 @@ module _ (image : Loaded) (opening : Shared) (system : Recorded) (slots : List P
   pub at_ask : (turn : Turn) → turn ≡ turns.Asks → ((start : Start) → IsRunOf image start slot.job → AdvanceTells (routines_of image) start turn job.run)
       → IsAtAsk image opening (woven (logs_of slots) order) (suc k) job
   at_ask turn same told =
-      let its = shown_run image opening system slots waiting order kept k slot here in
+      let its = shown_run ans image opening system slots waiting order kept k slot here in
       let start = start_in (suc k) its.0.start in
       let logged : job.run.log ≡ log_of (suc k) (woven (logs_of slots) order) = log ∙ sym (kept.tied k slot here).logged in
       let T : Turn → Type 0 = λ t. AdvanceTells (routines_of image) start t job.run in

@@ -1,6 +1,6 @@
 -- What is told fits.
 use Rattle.std.proofs.Common.{◌≡◌, ℕ, List, [], ◌∷◌, Bool, true, false, cond, Option, Some, None, refl, sym, ap, ◌∙◌, subst, inl, inr}
-use Rattle.std.specs.Prelude.{◌⊎◌, IsTrue}
+use Rattle.std.specs.Prelude.{◌⊎◌}
 use Rattle.mj_ask.proofs.Fitting.{answered}
 use Rattle.mj_ask.specs.declared.ask.Ask.{Ask}
 use Rattle.mj_ask.specs.declared.ask.Ask.TheVariants as asks
@@ -13,11 +13,24 @@ use Rattle.mj_sessions.specs.declared.answer.Answer.{Answer}
 use Rattle.mj_sessions.specs.declared.answer.Answer.TheVariants as answers
 use Rattle.mj_ask.specs.Late.{is_timed_out}
 use Rattle.mj_sessions.specs.Answers.{Answers, Asked, SessionEnds, IsEnding, IsReading}
-use Rattle.mj_sessions.specs.Named.{Named, is_named, session_of, with_session}
+use Rattle.mj_dev.specs.declared.talk.State.TheVariants as states
+use Rattle.mj_sessions.specs.Events.{device_of}
+use Rattle.mj_sessions.specs.Named.{Named, is_named, session_of, with_session, AreLeft}
 use Rattle.mj_dev.specs.Heard.{Heard}
 use Rattle.mj_sys.specs.Shared.{Shared, served}
 use Rattle.mj_sys.proofs.Fitting.{Fit, served_fits}
-use Rattle.mj_core.specs.Ties.{IsQuietOf, IsShut}
+
+-- a session that serves the ask is there, open, and no rest of a line is left on it
+abbrev pub IsQuietOf : List Named → Ask → Type 0
+IsQuietOf xs a =
+    (name : List ℕ) × (device_of a ≡ Some name)
+    × ((s : Named) × (session_of name xs ≡ Some s) × (s.session.state ≡ states.Open) × (s.session.rest ≡ None))
+
+-- none of these sessions can serve the ask: there is none with its device, or it isn't open
+abbrev pub IsShut : List Named → Ask → Type 0
+IsShut xs a =
+    (name : List ℕ) × (device_of a ≡ Some name)
+    × ((session_of name xs ≡ None) ⊎ ((s : Named) × (session_of name xs ≡ Some s) × (s.session.state ≡ states.Open → ⊥)))
 
 -- by the system
 pub fits_served : (s : Shared) (job : ℕ) (ask : Ask) (late : Bool) (reply : Reply) (t : Shared) → is_shared ask ≡ true → served s job ask late ≡ Some (reply, t) → fits ask reply ≡ true
@@ -71,20 +84,20 @@ left_so : (name : List ℕ) (xs new : List Named) (s : Named) (h : Heard) → se
 left_so name xs new s h is same new_is = new_is ∙ ap (λ k. with_session name k xs) same ∙ with_same name xs s is
 
 abbrev Waits : List Named → List Named → Ask → Bool → Type 0
-Waits xs new ask late = IsReading ask × (is_timed_out (timeout_of ask) late ≡ false) × IsQuietOf xs ask × (new ≡ xs)
+Waits xs new ask late = IsReading ask × (is_timed_out (timeout_of ask) late ≡ false) × IsQuietOf xs ask × AreLeft xs new
 
 module _ (xs new : List Named) (late : Bool) where
   call_waits : (device : List ℕ) (ask : DeviceAsk) → Asked device xs ask late answers.NotYet new → Waits xs new (asks.Device device ask) late
   call_waits device ask (inl absent) = absurd (let no : answers.NotYet ≡ answers.Unfit = absent.1 in cc)
-  call_waits device ask (inr t) = (t.2.1.1, t.2.1.3, (device, refl, (t.0, t.1, t.2.1.0, t.2.1.2)), left_so device xs new t.0 t.2.0 t.1 t.2.1.4 t.2.2)
+  call_waits device ask (inr t) = (t.2.1.1, t.2.1.3, (device, refl, (t.0, t.1, t.2.1.0, t.2.1.2)), inr (device, t.0, t.1, (t.2.0, t.2.1.4, t.2.2)))
 
   call_unfit : (device : List ℕ) (ask : DeviceAsk) → Asked device xs ask late answers.Unfit new → IsShut xs (asks.Device device ask) × (new ≡ xs)
   call_unfit device ask (inl absent) = ((device, refl, inl absent.0), absent.2)
   call_unfit device ask (inr t) = ((device, refl, inr (t.0, t.1, t.2.1.0)), left_so device xs new t.0 t.2.0 t.1 t.2.1.1 t.2.2)
 
-  call_short : (device : List ℕ) (ask : DeviceAsk) → Asked device xs ask late answers.Memory new → new ≡ xs
+  call_short : (device : List ℕ) (ask : DeviceAsk) → Asked device xs ask late answers.Memory new → AreLeft xs new
   call_short device ask (inl absent) = absurd (let no : answers.Memory ≡ answers.Unfit = absent.1 in cc)
-  call_short device ask (inr t) = left_so device xs new t.0 t.2.0 t.1 t.2.1.1 t.2.2
+  call_short device ask (inr t) = inr (device, t.0, t.1, (t.2.0, t.2.1.1, t.2.2))
 
   not_told : (answer : Answer) (h : Heard) → ((r : Reply) → answer ≡ answers.Told r → ⊥) → IsEnding h answer → ⊥
   not_told answer h never t = by t.1 where
@@ -122,11 +135,11 @@ module _ (xs new : List Named) (late : Bool) where
   unfit_answer (asks.Rest t) a = absurd (let no : answers.Unfit ≡ answers.Told replies.Done = a.0 in cc)
   unfit_answer (asks.Shared x) a = absurd a
 
-  pub short_answer : (ask : Ask) → Answers xs ask late answers.Memory new → new ≡ xs
+  pub short_answer : (ask : Ask) → Answers xs ask late answers.Memory new → AreLeft xs new
   short_answer (asks.Device d device_asks.Begin) a = call_short d device_asks.Begin a
   short_answer (asks.Device d (device_asks.Write bytes)) a = call_short d (device_asks.Write bytes) a
   short_answer (asks.Device d (device_asks.Line t)) a = call_short d (device_asks.Line t) a
   short_answer (asks.Device d (device_asks.Byte t)) a = call_short d (device_asks.Byte t) a
   short_answer (asks.Device d device_asks.End) a = absurd (end_short d a)
-  short_answer (asks.Rest t) a = a.1
+  short_answer (asks.Rest t) a = inl a.1
   short_answer (asks.Shared x) a = absurd a

@@ -2,7 +2,7 @@
 use Rattle.std.specs.Prelude.{IsSome, slice_get, nat_lt}
 use Rattle.std.specs.List.{slice_index_or}
 use Rattle.std.specs.Option.{option_map}
-use Rattle.std.proofs.Common.{◌≡◌, ℕ, zero, suc, ◌<◌, ◌≤◌, Bool, true, false, List, [], ◌∷◌, length, Option, Some, None, refl, sym, ap, ◌∙◌, subst, arith}
+use Rattle.std.proofs.Common.{◌≡◌, ℕ, zero, suc, ◌<◌, ◌≤◌, true, false, List, [], ◌∷◌, length, Option, Some, None, refl, sym, ap, ◌∙◌, subst, arith}
 use Rattle.std.proofs.lemmas.Option.{slice_get-map, slice_get_read, slice_get_past, none-some}
 use Rattle.mj_ask.specs.declared.ask.Ask.{Ask}
 use Rattle.mj_ask.specs.declared.ask.Reply.{Reply}
@@ -18,6 +18,7 @@ use Rattle.mj_sys.specs.System.{Recorded, Claimed}
 use Rattle.mj_core.specs.declared.happened.Happened.{Happened}
 use Rattle.mj_core.specs.Woven.{Logs, entry_at, woven, AreThere}
 use Rattle.mj_core.specs.Runs.{start_in, out_of}
+use Rattle.mj_core.specs.Answering.{Answering}
 use Rattle.mj_core.specs.Ties.{Placed}
 use Rattle.mj_core.specs.Kept.{AreKept, logs_of}
 use Rattle.mj_core.proofs.Histories.{same_state, none_past, starts}
@@ -75,35 +76,35 @@ pub missed_at : {X : Type 0} (xs ys : List X) (i : ℕ) → xs ≡ ys → false 
 missed_at xs ys i same less = (let past : length xs ≤ i = grind (arith, less) in ap (λ l. slice_get l i) (sym same) ∙ slice_get_past xs i past)
 
 -- an entry of a log that is there stands in the slot of its job
-pub entry_slot : (slots : List Placed) (job at : ℕ) (e : Ask × Reply) → entry_at (logs_of slots) job at ≡ Some e
-    → (k : ℕ) × (job ≡ suc k) × (slot : Placed) × (slice_get slots k ≡ Some slot) × (slice_get slot.job.run.log at ≡ Some e)
+pub entry_slot : {A : Type 0} (slots : List (Placed A)) (job at : ℕ) (e : Ask × Reply) → entry_at (logs_of slots) job at ≡ Some e
+    → (k : ℕ) × (job ≡ suc k) × (slot : Placed A) × (slice_get slots k ≡ Some slot) × (slice_get slot.job.run.log at ≡ Some e)
 entry_slot slots zero at e is = absurd (none-some e is)
-entry_slot slots (suc k) at e is = by (slice_get slots k) refl where
-  mapped : (found : Option Placed) → slice_get slots k ≡ found
-      → entry_at (logs_of slots) (suc k) at ≡ (elim (option_map (λ (s : Placed). s.job.run.log) found) as (λ _. Option (Ask × Reply)) [ None ↦ None | Some log ↦ slice_get log at ])
+entry_slot {A = A} slots (suc k) at e is = by (slice_get slots k) refl where
+  mapped : (found : Option (Placed A)) → slice_get slots k ≡ found
+      → entry_at (logs_of slots) (suc k) at ≡ (elim (option_map (λ (s : Placed A). s.job.run.log) found) as (λ _. Option (Ask × Reply)) [ None ↦ None | Some log ↦ slice_get log at ])
   mapped found here =
       ap (λ (o : Option Log). elim o as (λ _. Option (Ask × Reply)) [ None ↦ None | Some log ↦ slice_get log at ])
-      (slice_get-map (λ (s : Placed). s.job.run.log) slots k ∙ ap (option_map (λ (s : Placed). s.job.run.log)) here)
+      (slice_get-map (λ (s : Placed A). s.job.run.log) slots k ∙ ap (option_map (λ (s : Placed A). s.job.run.log)) here)
 
-  by : (found : Option Placed) → slice_get slots k ≡ found
-      → (j : ℕ) × (suc k ≡ suc j) × (slot : Placed) × (slice_get slots j ≡ Some slot) × (slice_get slot.job.run.log at ≡ Some e)
+  by : (found : Option (Placed A)) → slice_get slots k ≡ found
+      → (j : ℕ) × (suc k ≡ suc j) × (slot : Placed A) × (slice_get slots j ≡ Some slot) × (slice_get slot.job.run.log at ≡ Some e)
   by None past = absurd (none-some e (sym (mapped None past) ∙ is))
   by (Some slot) here = (k, refl, slot, here, sym (mapped (Some slot) here) ∙ is)
 
-module _ (image : Loaded) (opening : Shared) (system : Recorded) (slots : List Placed) (waiting : Option Claimed) (order : List Happened)
-    (kept : AreKept image opening system slots waiting order) (k : ℕ) (name : List ℕ) (i : ℕ) where
+module _ {A : Type 0} (ans : Answering A) (image : Loaded) (opening : Shared) (system : Recorded) (slots : List (Placed A)) (waiting : Option Claimed) (order : List Happened)
+    (kept : AreKept ans image opening system slots waiting order) (k : ℕ) (name : List ℕ) (i : ℕ) where
   -- the bytes that a session of a job took, by the log of its slot; without a slot there are none
-  pub out_here : (slot : Placed) → slice_get slots k ≡ Some slot → output_of_log slot.job.run.log name i ≡ out_of (woven (logs_of slots) order) (suc k) name i
+  pub out_here : (slot : Placed A) → slice_get slots k ≡ Some slot → output_of_log slot.job.run.log name i ≡ out_of (woven (logs_of slots) order) (suc k) name i
   out_here slot here = ap (λ l. output_of_log l name i) (sym (kept.tied k slot here).logged)
 
   pub out_none : slice_get slots k ≡ None → out_of (woven (logs_of slots) order) (suc k) name i ≡ []
-  out_none past = ap (λ l. output_of_log l name i) (none_past image opening system slots waiting order kept k past)
+  out_none past = ap (λ l. output_of_log l name i) (none_past ans image opening system slots waiting order kept k past)
 
-module _ (image : Loaded) (opening : Shared) (system : Recorded) (slots : List Placed) (waiting : Option Claimed) (order : List Happened)
-    (kept : AreKept image opening system slots waiting order) where
+module _ {A : Type 0} (ans : Answering A) (image : Loaded) (opening : Shared) (system : Recorded) (slots : List (Placed A)) (waiting : Option Claimed) (order : List Happened)
+    (kept : AreKept ans image opening system slots waiting order) where
   -- what is written down at a place stands in the log of a slot, and is the event at that place
   pub there_at : (i : ℕ) (h : Happened) → slice_get order i ≡ Some h
-      → (e : Ask × Reply) × (k : ℕ) × (h.job ≡ suc k) × (slot : Placed) × (slice_get slots k ≡ Some slot) × (slice_get slot.job.run.log h.at ≡ Some e)
+      → (e : Ask × Reply) × (k : ℕ) × (h.job ≡ suc k) × (slot : Placed A) × (slice_get slots k ≡ Some slot) × (slice_get slot.job.run.log h.at ≡ Some e)
       × (slice_get (woven (logs_of slots) order) i ≡ Some (record { job = h.job; ask = e.0; reply = e.1 }))
   there_at i h is =
       let found = event_at (logs_of slots) order kept.there i h is in
@@ -111,12 +112,12 @@ module _ (image : Loaded) (opening : Shared) (system : Recorded) (slots : List P
       (found.0, s.0, s.1, s.2, s.3, s.4, found.2)
 
   -- a slot's job is that of the row at its place, and runs from that row's start
-  pub shown_run : (k : ℕ) (slot : Placed) → slice_get slots k ≡ Some slot
+  pub shown_run : (k : ℕ) (slot : Placed A) → slice_get slots k ≡ Some slot
       → (row : Row) × (row_at (state_of opening (woven (logs_of slots) order)).rows (suc k) ≡ Some row) × IsRunOf image (start_in (suc k) row.start) slot.job
   shown_run k slot here =
       let at = kept.tied k slot here in
       let row = at.placed.row in
       let there : row_at (state_of opening (woven (logs_of slots) order)).rows (suc k) ≡ Some row.0 =
-      ap (λ (s : Shared). row_at s.rows (suc k)) (same_state image opening system slots waiting order kept)
+      ap (λ (s : Shared). row_at s.rows (suc k)) (same_state ans image opening system slots waiting order kept)
       ∙ ap (λ j. row_at (state_of opening system.history).rows j) (sym at.numbered) ∙ row.1 in
-      (row.0, there, subst (λ s. IsRunOf image s slot.job) (starts image opening system slots waiting order kept k slot row.0 here there) at.placed.run)
+      (row.0, there, subst (λ s. IsRunOf image s slot.job) (starts ans image opening system slots waiting order kept k slot row.0 here there) at.placed.run)

@@ -14,8 +14,6 @@ use Rattle.mj_jobvm.specs.declared.job.Turn.{Turn}
 use Rattle.mj_jobvm.specs.declared.job.Turn.TheVariants as turns
 use Rattle.mj_jobvm.specs.Run.{Log, replies_of, GoesOn}
 use Rattle.mj_ask.specs.Late.{is_timed_out}
-use Rattle.mj_sessions.specs.Answers.{IsReading}
-use Rattle.mj_sys.specs.declared.event.Event.{Event}
 use Rattle.mj_sys.specs.Shared.{Shared, served}
 use Rattle.mj_sys.specs.History.{state_of, log_of}
 use Rattle.mj_sys.specs.System.{KeepsBusy, history_limit}
@@ -27,7 +25,9 @@ use Rattle.mj_steps.specs.declared.step.Step.{Step}
 use Rattle.mj_steps.specs.declared.step.Way.{Way}
 use Rattle.mj_steps.specs.declared.step.Way.TheVariants as ways
 use Rattle.mj_core.specs.Shown.{Shown, was_over, with_over, spent_by, with_spent}
-use Rattle.mj_core.specs.Having.{IsQuiet, IsUnfit}
+use Rattle.mj_core.specs.Having.{has_session}
+use Rattle.mj_core.specs.Meaning.{Means}
+use Rattle.mj_core.specs.Serving.{serving}
 use Rattle.mj_core.specs.Runs.{start_in}
 
 -- the turns that a step lets a job go on for
@@ -64,26 +64,25 @@ RunsOn image job start old new =
     (turns : ℕ) × (turns ≡ min (spent_by old.spent job + fuel) spent_limit) × GoesOn image start (log_of job old.history) turns
     × (new ≡ record old { spent = with_spent old.spent job turns })
 
--- What a step of a live job gives: an event, of what the job asks after its events so far, which is told its reply; what keeps it busy; that there
--- is nothing to read yet; that no session of the job can serve it; or that it goes on for all turns of the step.
-abbrev pub LiveStepGives : List Routine → Shared → ℕ → Start → Bool → Shown → Seen → Shown → Type 0
-LiveStepGives image opening job start late old (seen.Event at) new =
+-- What a step of a live job gives, for which this reply of a device is given or none: an event, of what the job asks after its events so far, which is
+-- told its reply; what keeps it busy; that there is nothing to read yet; that nobody can answer it; or that it goes on for all turns of the step.
+abbrev pub LiveStepGives : Means → List Routine → Shared → ℕ → Start → Bool → Option Reply → Shown → Seen → Shown → Type 0
+LiveStepGives means image opening job start late given old (seen.Event at) new =
     (a : Ask) × (reply : Reply) × Makes image start (log_of job old.history) a × IsTimely late a
     × IsReplyTold (state_of opening old.history) job a late reply (state_of opening new.history)
-    × (at ≡ length old.history)
-    × (new ≡ record old { history = old.history ++ record { job = job; ask = a; reply = reply } ∷ []; spent = with_spent old.spent job 0 })
-LiveStepGives image opening job start late old (seen.Busy holder held) new =
+    × means.Told given a reply ((at ≡ length old.history)
+    × (new ≡ record old { history = old.history ++ record { job = job; ask = a; reply = reply } ∷ []; spent = with_spent old.spent job 0 }))
+LiveStepGives means image opening job start late given old (seen.Busy holder held) new =
     (a : Ask) × Makes image start (log_of job old.history) a × IsTimely late a
     × (served (state_of opening old.history) job a late ≡ None) × KeepsBusy (state_of opening old.history) job a holder held
     × (new ≡ old)
-LiveStepGives image opening job start late old seen.NotYet new =
+LiveStepGives means image opening job start late given old seen.NotYet new =
+    (a : Ask) × Makes image start (log_of job old.history) a × IsTimely late a × means.NotYet (log_of job old.history) a late (new ≡ old)
+LiveStepGives means image opening job start late given old seen.Unfit new =
     (a : Ask) × Makes image start (log_of job old.history) a × IsTimely late a
-    × IsReading a × (is_timed_out (timeout_of a) late ≡ false) × IsQuiet (log_of job old.history) a
-    × (new ≡ old)
-LiveStepGives image opening job start late old seen.Unfit new =
-    (a : Ask) × Makes image start (log_of job old.history) a × IsTimely late a × IsUnfit opening old.history job a × (new ≡ old)
-LiveStepGives image opening job start late old seen.Ran new = RunsOn image job start old new
-LiveStepGives image opening job start late old seen.Ended new = ⊥
+    × means.Unfit (state_of opening old.history) (log_of job old.history) (λ name. has_session opening job name old.history) a late given (new ≡ old)
+LiveStepGives means image opening job start late given old seen.Ran new = RunsOn image job start old new
+LiveStepGives means image opening job start late given old seen.Ended new = ⊥
 
 -- the job's row isn't that of a job that goes on
 abbrev pub IsDone : Shared → Shown → ℕ → Type 0
@@ -91,11 +90,11 @@ IsDone opening old job = IsLive (state_of opening old.history).rows job → ⊥
 
 -- What a step of a job gives that has a row, whose end wasn't seen, where the history has room: its job has halted, which is seen now, and no other
 -- job's end is; or it goes on; or its step isn't made.
-abbrev pub Made : Shared → Shown → ℕ → Row → Bool → Result Seen Refusal → Shown → Type 0
-Made opening old job row late (Ok seen.Ended) new = IsDone opening old job × (new ≡ record old { over = with_over old.over job })
-Made opening old job row late (Ok what) new =
-    IsLive (state_of opening old.history).rows job × LiveStepGives (routines_of old.image) opening job (start_in job row.start) late old what new
-Made opening old job row late (Err why) new =
+abbrev pub JobStepGives : Means → Shared → Shown → ℕ → Row → Bool → Option Reply → Result Seen Refusal → Shown → Type 0
+JobStepGives means opening old job row late given (Ok seen.Ended) new = IsDone opening old job × (new ≡ record old { over = with_over old.over job })
+JobStepGives means opening old job row late given (Ok what) new =
+    IsLive (state_of opening old.history).rows job × LiveStepGives means (routines_of old.image) opening job (start_in job row.start) late given old what new
+JobStepGives means opening old job row late given (Err why) new =
     IsStepRefused (routines_of old.image) (start_in job row.start) (log_of job old.history) late why × (new ≡ old)
 
 -- whether a step is late
@@ -103,14 +102,24 @@ abbrev pub is_late : Way → Bool
 is_late ways.Go = false
 is_late ways.Late = true
 
--- What a step gives. That there is no such job is tested first; then that its end was seen; then that the history is full.
-abbrev pub CoreStepGives : Shared → Shown → Step → Result Seen Refusal → Shown → Type 0
-CoreStepGives opening old step answer new =
+-- What a step gives, for which this reply of a device is given or none. That there is no such job is tested first; then that its end was seen; then that
+-- the history is full.
+abbrev pub StepGivesBy : Means → Shared → Shown → Step → Option Reply → Result Seen Refusal → Shown → Type 0
+StepGivesBy means opening old step given answer new =
     ((row_at (state_of opening old.history).rows step.job ≡ None) × (answer ≡ Err refusals.NoJob) × (new ≡ old))
     ⊎ ((row : Row) × (row_at (state_of opening old.history).rows step.job ≡ Some row)
     × (((was_over old.over step.job ≡ true) × (answer ≡ Err refusals.Ended) × (new ≡ old))
     ⊎ ((was_over old.over step.job ≡ false) × (history_limit ≤ length old.history) × (answer ≡ Err refusals.Full) × (new ≡ old))
-    ⊎ ((was_over old.over step.job ≡ false) × (length old.history < history_limit) × Made opening old step.job row (is_late step.way) answer new)))
+    ⊎ ((was_over old.over step.job ≡ false) × (length old.history < history_limit)
+    × JobStepGives means opening old step.job row (is_late step.way) given answer new)))
+
+-- What a step gives where a job's own sessions serve what it asks a device.
+abbrev pub CoreStepGives : Shared → Shown → Step → Result Seen Refusal → Shown → Type 0
+CoreStepGives opening old step answer new = StepGivesBy serving opening old step None answer new
+
+-- and so of a job
+abbrev pub Made : Shared → Shown → ℕ → Row → Bool → Result Seen Refusal → Shown → Type 0
+Made opening old job row late answer new = JobStepGives serving opening old job row late None answer new
 
 -- these steps give these answers, one for each, one after the other
 abbrev pub RunGives : Shared → Shown → List Step → List (Result Seen Refusal) → Shown → Type 0

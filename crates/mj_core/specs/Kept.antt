@@ -1,12 +1,10 @@
 -- What a core keeps.
 use Rattle.std.specs.Prelude.{◌≡◌, ℕ, zero, suc, ◌≤◌, List, [], ◌∷◌, length, map, slice_get, Bool, Option, Some, None}
 use Rattle.std.specs.Borrow.{Bor}
-use Rattle.std.specs.Option.{is_some}
 use Rattle.mj_ask.specs.declared.ask.Ask.{Ask}
 use Rattle.mj_ask.specs.declared.ask.Reply.{Reply}
 use Rattle.mj_load.specs.Image.{Loaded}
 use Rattle.mj_jobs.specs.Rows.{Row, row_at}
-use Rattle.mj_sessions.specs.Named.{Named, session_of}
 use Rattle.mj_sys.specs.declared.event.Event.{Event}
 use Rattle.mj_sys.specs.Shared.{Shared}
 use Rattle.mj_sys.specs.History.{History, state_of, log_of}
@@ -16,20 +14,21 @@ use Rattle.mj_core.specs.Happen.{AllHappen, shared_of}
 use Rattle.mj_core.specs.Woven.{Logs, woven, AreThere}
 use Rattle.mj_core.specs.Having.{has_session}
 use Rattle.mj_core.specs.Shown.{Shown}
+use Rattle.mj_core.specs.Answering.{Answering, HasAll}
 use Rattle.mj_core.specs.Ties.{Placed, IsPlaced}
 
 -- the logs of jobs
-abbrev pub logs_of : List Placed → Logs
+abbrev pub logs_of : {A : Type 0} → List (Placed A) → Logs
 logs_of slots = map (λ s. s.job.run.log) slots
 
 -- for so many jobs the turns that each was let go on for since its last reply: one without a slot for none
-abbrev pub turns_of : ℕ → List Placed → List ℕ
+abbrev pub turns_of : {A : Type 0} → ℕ → List (Placed A) → List ℕ
 turns_of zero slots = []
-turns_of (suc n) [] = 0 ∷ turns_of n []
+turns_of {A = A} (suc n) [] = 0 ∷ turns_of {A = A} n []
 turns_of (suc n) (slot ∷ slots) = slot.job.run.spent ∷ turns_of n slots
 
 -- what is seen of a core, for so many jobs
-abbrev pub shown : Loaded → List Placed → List Happened → List Bool → ℕ → Shown
+abbrev pub shown : {A : Type 0} → Loaded → List (Placed A) → List Happened → List Bool → ℕ → Shown
 shown image slots order over n = record { image = image; history = woven (logs_of slots) order; over = over; spent = turns_of n slots }
 
 -- the claim of a row that waits for its slot
@@ -45,21 +44,22 @@ IsClaimed opening system n (Some claim) =
     × ((row : Row) × (row_at (state_of opening system.history).rows claim.job ≡ Some row) × (row.start ≡ claim.start))
 
 -- a job has just the sessions that its history says
-abbrev pub AreHeld : Shared → ℕ → History → List Named → Type 0
-AreHeld opening job history xs = (name : List ℕ) → is_some (session_of name xs) ≡ has_session opening job name history
+abbrev pub AreHeld : {A : Type 0} → Answering A → Shared → ℕ → History → A → Type 0
+AreHeld by opening job history x = HasAll by x (λ name. has_session opening job name history)
 
 -- a slot is that of this job, tied to the system, and the history of all jobs has its log, and says which sessions it has
-pub record IsSlotOf (image : Loaded) (opening : Shared) (system : Recorded) (history : History) (job : ℕ) (slot : Placed) : Type 0 where
+pub record IsSlotOf {A : Type 0} (by : Answering A) (image : Loaded) (opening : Shared) (system : Recorded) (history : History) (job : ℕ) (slot : Placed A) : Type 0 where
   pub numbered : slot.claim.job ≡ job
-  pub placed : IsPlaced image opening system slot
+  pub placed : IsPlaced by image opening system slot
   pub logged : log_of job history ≡ slot.job.run.log
-  pub held : AreHeld opening job history slot.sessions.sessions
+  pub held : AreHeld by opening job history slot.answerer
 
 -- The history that is woven of the jobs' logs has what the system served; each slot is that of the job at its place; each event of it came where it
 -- could; and the jobs of the first rows, which were claimed, have a slot, but for one that may wait for it.
-pub record AreKept (image : Loaded) (opening : Shared) (system : Recorded) (slots : List Placed) (waiting : Option Claimed) (order : List Happened) : Type 0 where
+pub record AreKept {A : Type 0} (by : Answering A) (image : Loaded) (opening : Shared) (system : Recorded) (slots : List (Placed A)) (waiting : Option Claimed)
+    (order : List Happened) : Type 0 where
   pub history : shared_of (woven (logs_of slots) order) ≡ system.history
-  pub tied : (k : ℕ) (slot : Placed) → slice_get slots k ≡ Some slot → IsSlotOf image opening system (woven (logs_of slots) order) (suc k) slot
+  pub tied : (k : ℕ) (slot : Placed A) → slice_get slots k ≡ Some slot → IsSlotOf by image opening system (woven (logs_of slots) order) (suc k) slot
   pub happen : AllHappen opening (woven (logs_of slots) order)
   pub there : AreThere (logs_of slots) order
   pub claimed : IsClaimed opening system (length slots) waiting

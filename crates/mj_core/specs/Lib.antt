@@ -3,8 +3,15 @@ pub mod Woven
 pub mod Runs
 pub mod Shown
 pub mod Having
+pub mod Meaning
+pub mod Serving
 pub mod Gives
 pub mod Asking
+pub mod Silent
+pub mod Answering
+pub mod BySessions
+pub mod Recorded
+pub mod ByRecord
 pub mod Ties
 pub mod Kept
 pub mod Ended

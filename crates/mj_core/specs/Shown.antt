@@ -1,5 +1,5 @@
 -- What is seen of many jobs on one thread.
-use Rattle.std.specs.Prelude.{ℕ, zero, suc, List, Bool, true, false, slice_set}
+use Rattle.std.specs.Prelude.{ℕ, zero, suc, List, [], Bool, true, false, replicate, slice_set}
 use Rattle.std.specs.List.{slice_index_or}
 use Rattle.mj_load.specs.Image.{Loaded}
 use Rattle.mj_sys.specs.History.{History}
@@ -11,6 +11,10 @@ pub record Shown : Type 0 where
   pub history : History
   pub over : List Bool
   pub spent : List ℕ
+
+-- a core of which nothing was asked yet, for each job that there may be
+abbrev pub begun : Loaded → Shown
+begun image = record { image = image; history = []; over = replicate 255 false; spent = replicate 255 0 }
 
 -- whether the end of a job was seen
 abbrev pub was_over : List Bool → ℕ → Bool

@@ -16,7 +16,7 @@ pub enum Seen {
     },
     /// there is nothing to read yet
     NotYet,
-    /// no session of the job can serve what it asks
+    /// nobody can answer what the job asks: it has no session for it, or what is recorded can't be the reply
     Unfit,
     /// the job asked nothing within 10,000 turns
     Ran,

@@ -1,6 +1,6 @@
 // One job among many.
 
-ghost use Rattle.std.specs.Prelude.{◌≡◌, ◌<◌, ◌++◌, ◌∷◌, [], ℕ, length, true, false, Some, IsSome, IfOk, IfErr, OnErr};
+ghost use Rattle.std.specs.Prelude.{◌≡◌, ◌<◌, length, true, Some, IsSome, IfOk, IfErr, OnErr, option_copied};
 ghost use Rattle.mj_ask.specs.Fits.{is_shared};
 ghost use Rattle.mj_ask.specs.declared.ask.Ask as asks;
 ghost use Rattle.mj_jobs.specs.Rows.{IsLive};
@@ -8,14 +8,17 @@ ghost use Rattle.mj_load.specs.Image.{routines_of};
 ghost use Rattle.mj_sys.specs.History.{state_of};
 ghost use Rattle.mj_sys.specs.System.{history_limit};
 ghost use Rattle.mj_sys.specs.Told.{IsTurn};
+ghost use Rattle.mj_core.specs.Answering.{Stays, IsPlace, IsUnplaced};
 ghost use Rattle.mj_core.specs.Gives.{IsStepRefused};
-ghost use Rattle.mj_core.specs.Ties.{IsPlaced, start_of, Steps, IsStill, JobIsTold, Talks, Shares, IsMuted, IsPlace, IsUnplaced};
+ghost use Rattle.mj_core.specs.Meaning.{IsOfDevice};
+ghost use Rattle.mj_core.specs.Ties.{IsPlaced, start_of, Steps, IsStill, JobIsTold, Talks, Shares, IsMuted};
 
+use crate::answerer::{Answerer, Fresh, Unplaced};
 use mj_ask::{Ask, Reply, SharedAsk};
 use mj_dev::Device;
 use mj_jobvm::{Job, Turn};
 use mj_load::Image;
-use mj_sessions::{Answer, Sessions};
+use mj_sessions::Answer;
 use mj_steps::Refusal;
 use mj_sys::{Claim, Held, Opening, Refused, Served, System};
 use mj_text::Text;
@@ -35,36 +38,38 @@ pub enum Made {
     Ended,
 }
 
-// A job with its claim and its sessions.
+// A job with its claim, and who answers what it asks devices.
 #[derive(Drop)]
-pub struct Slot<D: Device> {
+pub struct Slot<A> {
     pub claim: Claim,
     pub job: Job,
-    pub sessions: Sessions<D>,
+    pub answerer: A,
 }
 
-impl<D: Device> Model for Slot<D> {
+impl<A> Model for Slot<A> {
     ghost use Rattle.mj_core.specs.Ties.{Placed};
 
-    ghost Value = { Placed };
+    ghost Value = { Placed A };
 
-    ghost view = { λ s. record { claim = s.claim; job = s.job; sessions = s.sessions } };
+    ghost view = { λ s. record { claim = s.claim; job = s.job; answerer = s.answerer } };
 }
 
-// One step of one job: it goes on to its next ask, which is served.
-pub fn step_slot<D: Device, O: Opening>(
+// Makes a step of one job: it goes on to its next ask, which is served. A reply of a device is given with it, or none.
+pub fn step_slot<D: Device, A: Answerer<Fresh<D>>, O: Opening>(
     image: &Image,
     system: &mut System<D, O>,
-    slot: &mut Slot<D>,
+    slot: &mut Slot<A>,
     late: bool,
+    given: Option<&Reply>,
 ) -> Result<Made, Refusal>
-    requires tied { IsPlaced image.now O.opening system.old slot.old }
+    requires tied { IsPlaced A.answering image.now O.opening system.old slot.old }
     requires live { IsLive (state_of O.opening system.old.history).rows slot.old.claim.job }
     requires room { length system.old.history < history_limit }
-    ensures gives { IfOk result (λ made. Steps (routines_of image.now) O.opening late system.old slot.old made system.new slot.new) }
+    ensures gives { IfOk result
+        (λ made. Steps A.answering (routines_of image.now) O.opening late (option_copied given.entry) system.old slot.old made system.new slot.new) }
     ensures refused { IfErr result (λ why. IsStepRefused (routines_of image.now) (start_of slot.old) slot.old.job.run.log late why) }
-    ensures kept { OnErr result ((system.new ≡ system.old) × IsStill slot.old slot.new) }
-    ensures tied { IsPlaced image.now O.opening system.new slot.new }
+    ensures kept { OnErr result ((system.new ≡ system.old) × IsStill A.answering slot.old slot.new) }
+    ensures tied { IsPlaced A.answering image.now O.opening system.new slot.new }
     ensures claim { (slot.new.claim.job ≡ slot.old.claim.job) × (slot.new.claim.start ≡ slot.old.claim.start) }
 {
     match slot.job.advance(image, FUEL) {
@@ -75,27 +80,30 @@ pub fn step_slot<D: Device, O: Opening>(
             system,
             &mut slot.claim,
             &mut slot.job,
-            &mut slot.sessions,
+            &mut slot.answerer,
             late,
+            given,
         ),
     }
 }
 
-// Serves what a job asks, and tells it.
-fn ask<D: Device, O: Opening>(
+// Serves what a job asks, and tells it. A rest is over at once.
+fn ask<D: Device, A: Answerer<Fresh<D>>, O: Opening>(
     system: &mut System<D, O>,
     claim: &mut Claim,
     job: &mut Job,
-    sessions: &mut Sessions<D>,
+    answerer: &mut A,
     late: bool,
+    given: Option<&Reply>,
 ) -> Result<Made, Refusal>
     requires asks { IsSome job.old.run.pending }
     requires turn { IsTurn O.opening system.old claim.old }
     requires room { length system.old.history < history_limit }
-    ensures ok { IfOk result
-        (λ made. JobIsTold O.opening system.old claim.old job.old sessions.old.sessions late made system.new claim.new job.new sessions.new.sessions) }
+    ensures ok { IfOk result (λ made. JobIsTold A.answering O.opening system.old claim.old job.old answerer.old late (option_copied given.entry) made
+        system.new claim.new job.new answerer.new) }
     ensures refused { IfErr result (λ why. IsMuted job.old late why) }
-    ensures kept { OnErr result ((system.new ≡ system.old) × (claim.new ≡ claim.old) × (job.new ≡ job.old) × (sessions.new.sessions ≡ sessions.old.sessions)) }
+    ensures kept { OnErr result
+        ((system.new ≡ system.old) × (claim.new ≡ claim.old) × (job.new ≡ job.old) × Stays A.answering answerer.old answerer.new) }
 {
     let Some(ask) = job.ask() else {
         unreachable!();
@@ -103,24 +111,32 @@ fn ask<D: Device, O: Opening>(
     if late && ask.timeout().is_none() {
         return Err(Refusal::NotTimed);
     }
-    if ask.is_shared() {
-        share(system, claim, job, sessions, late)
-    } else {
-        talk(job, sessions, late)
+    match ask {
+        Ask::Shared(_) => share(system, claim, job, answerer, late),
+        Ask::Device(_, _) => talk::<D, A>(job, answerer, late, given),
+        Ask::Rest(_) => {
+            job.answer(Reply::Done);
+            Ok(Made::Event)
+        }
     }
 }
 
-// Lets a job's own sessions serve what it asks, and tells it.
-fn talk<D: Device>(job: &mut Job, sessions: &mut Sessions<D>, late: bool) -> Result<Made, Refusal>
-    requires asks { (a : asks.Ask) × (job.old.run.pending ≡ Some a) × (is_shared a ≡ false) }
-    ensures ok { IfOk result
-        (λ made. (a : asks.Ask) × (job.old.run.pending ≡ Some a) × Talks job.old sessions.old.sessions a late made job.new sessions.new.sessions) }
-    ensures err { IfErr result (λ why. (why ≡ Refusal.Memory) × (job.new ≡ job.old) × (sessions.new.sessions ≡ sessions.old.sessions)) }
+// Lets who answers for a job answer what it asks a device, and tells it.
+fn talk<D: Device, A: Answerer<Fresh<D>>>(
+    job: &mut Job,
+    answerer: &mut A,
+    late: bool,
+    given: Option<&Reply>,
+) -> Result<Made, Refusal>
+    requires asks { (a : asks.Ask) × (job.old.run.pending ≡ Some a) × IsOfDevice a }
+    ensures ok { IfOk result (λ made. (a : asks.Ask) × (job.old.run.pending ≡ Some a)
+        × Talks A.answering job.old answerer.old a late (option_copied given.entry) made job.new answerer.new) }
+    ensures err { IfErr result (λ why. (why ≡ Refusal.Memory) × (job.new ≡ job.old) × Stays A.answering answerer.old answerer.new) }
 {
     let Some(ask) = job.ask() else {
         unreachable!();
     };
-    match sessions.serve(ask, late) {
+    match answerer.answer(ask, late, given) {
         Answer::Told(reply) => {
             job.answer(reply);
             Ok(Made::Event)
@@ -132,30 +148,33 @@ fn talk<D: Device>(job: &mut Job, sessions: &mut Sessions<D>, late: bool) -> Res
 }
 
 // Lets the system serve what a job asks, and tells it. What would give the job a session with a device with which it has one isn't served.
-fn share<D: Device, O: Opening>(
+fn share<D: Device, A: Answerer<Fresh<D>>, O: Opening>(
     system: &mut System<D, O>,
     claim: &mut Claim,
     job: &mut Job,
-    sessions: &mut Sessions<D>,
+    answerer: &mut A,
     late: bool,
 ) -> Result<Made, Refusal>
     requires asks { (a : asks.Ask) × (job.old.run.pending ≡ Some a) × (is_shared a ≡ true) }
     requires turn { IsTurn O.opening system.old claim.old }
     requires room { length system.old.history < history_limit }
     ensures ok { IfOk result (λ made. (a : asks.Ask) × (job.old.run.pending ≡ Some a)
-        × Shares O.opening system.old claim.old job.old sessions.old.sessions a late made system.new claim.new job.new sessions.new.sessions) }
+        × Shares A.answering O.opening system.old claim.old job.old answerer.old a late made system.new claim.new job.new answerer.new) }
     ensures err { IfErr result (λ why. (why ≡ Refusal.Memory) × (system.new ≡ system.old) × (claim.new ≡ claim.old) × (job.new ≡ job.old)
-        × (sessions.new.sessions ≡ sessions.old.sessions)) }
+        × Stays A.answering answerer.old answerer.new) }
 {
     let Some(ask) = job.ask() else {
         unreachable!();
     };
-    let place = match place_for(sessions, ask, system.takes_session(ask)) {
+    let Ask::Shared(shared) = ask else {
+        unreachable!();
+    };
+    let place = match place_for::<D, A>(answerer, ask, system.takes_session(ask)) {
         Ok(place) => place,
         Err(Unplaced::Taken) => return Ok(Made::Unfit),
         Err(Unplaced::Memory) => return Err(Refusal::Memory),
     };
-    match system.serve(claim, ask, late) {
+    match system.serve_shared(claim, shared, late) {
         Ok(Served::Reply(reply)) => {
             job.answer(reply);
             Ok(Made::Event)
@@ -164,7 +183,7 @@ fn share<D: Device, O: Opening>(
             let Some(name) = place else {
                 unreachable!();
             };
-            sessions.open(name, session);
+            answerer.open(name, Fresh::new(session));
             job.answer(Reply::Got);
             Ok(Made::Event)
         }
@@ -174,22 +193,15 @@ fn share<D: Device, O: Opening>(
     }
 }
 
-// Why there is no place for a session.
-#[derive(Clone, Copy)]
-enum Unplaced {
-    Taken,
-    Memory,
-}
-
-// A place for the session that goes to the job by an ask, where one does, and the name for it.
-fn place_for<D: Device>(
-    sessions: &mut Sessions<D>,
+// Makes a place for the session that goes to the job by an ask, where one does, and the name for it.
+fn place_for<D: Device, A: Answerer<Fresh<D>>>(
+    answerer: &mut A,
     ask: &Ask,
     takes: bool,
 ) -> Result<Option<Text>, Unplaced>
-    ensures sessions { sessions.new.sessions ≡ sessions.old.sessions }
-    ensures place { IfOk result (λ place. takes ≡ true → IsPlace sessions.new ask.now place) }
-    ensures none { IfErr result (λ why. (takes ≡ true) × IsUnplaced sessions.old.sessions ask.now why) }
+    ensures stays { Stays A.answering answerer.old answerer.new }
+    ensures place { IfOk result (λ place. takes ≡ true → IsPlace A.answering answerer.new ask.now place) }
+    ensures none { IfErr result (λ why. (takes ≡ true) × IsUnplaced A.answering answerer.old ask.now why) }
 {
     if !takes {
         return Ok(None);
@@ -197,14 +209,9 @@ fn place_for<D: Device>(
     let Ask::Shared(SharedAsk::Open(name, _)) = ask else {
         return Ok(None);
     };
-    if sessions.has(name) {
-        return Err(Unplaced::Taken);
+    answerer.make_room(name)?;
+    match name.try_clone() {
+        Ok(copy) => Ok(Some(copy)),
+        Err(_) => Err(Unplaced::Memory),
     }
-    let Ok(copy) = name.try_clone() else {
-        return Err(Unplaced::Memory);
-    };
-    if sessions.reserve().is_err() {
-        return Err(Unplaced::Memory);
-    }
-    Ok(Some(copy))
 }

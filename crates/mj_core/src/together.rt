@@ -1,8 +1,7 @@
 // Many jobs over one system.
 
-ghost use Rattle.std.specs.Prelude.{◌≡◌, ◌<◌, ◌≤◌, ℕ, suc, List, [], length, replicate, Bool, true, false, Option, Some, None, IsSome, slice_get, vec_len, vec_capacity, IfOk, IfErr, OnOk, OnErr, IfSome, IfNone};
+ghost use Rattle.std.specs.Prelude.{◌≡◌, ◌<◌, ◌≤◌, ℕ, suc, List, [], length, replicate, Bool, true, false, Option, Some, None, IsSome, slice_get, vec_len, vec_capacity, IfOk, IfErr, OnOk, OnErr, IfSome, IfNone, option_copied};
 ghost use Rattle.mj_load.specs.Image.{routines_of};
-ghost use Rattle.mj_dev.specs.Heard.{IsNew};
 ghost use Rattle.mj_dev.specs.Shelves.{principal, left_of};
 ghost use Rattle.mj_jobs.specs.Rows.{Row, row_at, rows_limit, IsLive};
 ghost use Rattle.mj_jobvm.specs.Jobs.{IsRunOf};
@@ -13,50 +12,51 @@ ghost use Rattle.mj_sys.specs.Shared.{are_global};
 ghost use Rattle.mj_sys.specs.System.{Claimed, history_limit};
 ghost use Rattle.mj_core.specs.Woven.{woven};
 ghost use Rattle.mj_core.specs.Runs.{IsRun, start_in, out_of};
-ghost use Rattle.mj_core.specs.Gives.{CoreStepGives, Made as StepGives, Readies, RunGives, GivesReady};
+ghost use Rattle.mj_core.specs.Gives.{StepGivesBy, JobStepGives, Readies, GivesReady};
 ghost use Rattle.mj_core.specs.Asking.{turn_of, IfAsks, IsAtAsk};
+ghost use Rattle.mj_core.specs.Shown.{begun};
 ghost use Rattle.mj_core.specs.Kept.{AreKept, logs_of, turns_of, claim_of, shown, shown_event};
 ghost use Rattle.std.specs.Fn.{FnOnceReturnsAt};
 
+use crate::answerer::{Answerer, Fresh};
 use crate::happened::Happened;
 use crate::seen::{Ready, Seen};
 use crate::slot::{FUEL, Made, Slot, step_slot};
 use mj_ask::{Ask, Reply, Start};
-use mj_dev::{Device, Pool, Session};
+use mj_dev::{Device, Pool};
 use mj_globs::Globals;
 use mj_jobs::ROWS_LIMIT;
 use mj_jobvm::{Job, Turn};
 use mj_load::Image;
 use mj_locktab::LockTable;
-use mj_sessions::{Sessions, output};
+use mj_sessions::output;
 use mj_steps::{Refusal, Step, Way};
 use mj_sys::{Claim, HISTORY_LIMIT, Opening, System, Unmade};
 use mj_text::Text;
 use std::alloc::{AllocError, Global};
 use std::marker::Model;
 
-/// The routines, the system, and the jobs with their sessions, on one thread.
+/// The routines, the system, and the jobs, each with an answerer of what it asks devices, on one thread.
 #[derive(Drop)]
-pub struct Core<D: Device, O: Opening> {
+pub struct Core<D: Device, A: Answerer<Fresh<D>>, O: Opening> {
     alloc: Global,
     image: Image,
     system: System<D, O>,
     // the jobs whose rows were claimed, by their numbers
-    slots: Vec<Slot<D>>,
+    slots: Vec<Slot<A>>,
     // a row that was claimed, and whose job isn't started yet for want of memory
-    waiting: Option<(Claim, Session<D>)>,
+    waiting: Option<(Claim, Fresh<D>)>,
     // which entry of which job's log came when
     order: Vec<Happened>,
     // of each job that there may be, whether its end was seen
     over: Vec<bool>,
 }
 
-impl<D: Device, O: Opening> Model for Core<D, O> {
+impl<D: Device, A: Answerer<Fresh<D>>, O: Opening> Model for Core<D, A, O> {
     ghost use Rattle.std.specs.Coded.{codes};
-    ghost use Rattle.std.specs.Prelude.{◌≡◌, length, IfSome};
+    ghost use Rattle.std.specs.Prelude.{◌≡◌, length};
     ghost use Rattle.mj_ast.specs.contracts.routine.Routine as routine;
     ghost use Rattle.mj_pcode.specs.contracts.instr.Unit as unit;
-    ghost use Rattle.mj_dev.specs.Heard.{IsNew};
     ghost use Rattle.mj_core.specs.Woven.{woven};
     ghost use Rattle.mj_core.specs.Shown.{Shown};
     ghost use Rattle.mj_core.specs.Kept.{AreKept, logs_of, turns_of, claim_of};
@@ -73,12 +73,11 @@ impl<D: Device, O: Opening> Model for Core<D, O> {
     } };
 
     ghost invariant = { λ c.
-        AreKept c.image O.opening c.system c.slots.items (claim_of c.waiting) c.order.items
-        × (length c.over.items ≡ 255)
-        × IfSome c.waiting (λ w. IsNew w.1) };
+        AreKept A.answering c.image O.opening c.system c.slots.items (claim_of c.waiting) c.order.items
+        × (length c.over.items ≡ 255) };
 }
 
-impl<D: Device, O: Opening> Core<D, O> {
+impl<D: Device, A: Answerer<Fresh<D>>, O: Opening> Core<D, A, O> {
     /// A core of a system of which nothing was asked yet, with a row for each of the starts. Only names of globals may have texts in its globals.
     /// At want of memory all comes back that the system was to be made of.
     pub fn new(
@@ -87,13 +86,13 @@ impl<D: Device, O: Opening> Core<D, O> {
         globals: Globals,
         pool: Pool<D>,
         starts: Vec<Start>,
-    ) -> Result<Core<D, O>, Unmade<D>>
+    ) -> Result<Core<D, A, O>, Unmade<D>>
         requires opening { opening_of globals pool starts.items ≡ O.opening }
         requires global { are_global globals ≡ true }
         requires some { 1 ≤ length starts.items }
         requires few { length starts.items ≤ rows_limit }
         requires fits { length starts.items ≤ left_of principal pool }
-        ensures ok { IfOk result (λ core. core ≡ record { image = image; history = []; over = replicate 255 false; spent = replicate 255 0 }) }
+        ensures ok { IfOk result (λ core. core ≡ begun image) }
         ensures globals { IfErr result (λ back. back.globals ≡ globals) }
         ensures pool { IfErr result (λ back. back.pool ≡ pool) }
         ensures starts { IfErr result (λ back. back.starts.items ≡ starts.items) }
@@ -117,9 +116,9 @@ impl<D: Device, O: Opening> Core<D, O> {
         })
     }
 
-    /// Makes a step: the job goes on for at most 10,000 turns to its next ask, which is served. Where it isn't made, nothing is asked or told.
-    pub fn step(&mut self, step: Step) -> Result<Seen, Refusal>
-        ensures { CoreStepGives O.opening self.old step result self.new }
+    // Makes a step, for which a reply of a device is given or none.
+    pub(crate) fn make(&mut self, step: Step, given: Option<&Reply>) -> Result<Seen, Refusal>
+        ensures { StepGivesBy A.answering.means O.opening self.old step (option_copied given.entry) result self.new }
     {
         let Some(at) = self.place(step.job) else {
             return Err(Refusal::NoJob);
@@ -156,34 +155,13 @@ impl<D: Device, O: Opening> Core<D, O> {
             &mut self.over,
             at,
             step.way == Way::Late,
+            given,
         )
     }
 
-    /// Makes every step in order, and gives one answer for each. Room for the answers is taken first.
-    pub fn run(&mut self, steps: &[Step]) -> Result<Vec<Result<Seen, Refusal>>, AllocError>
-        ensures gives { IfOk result (λ answers. RunGives O.opening self.old steps.now answers.items self.new) }
-        ensures run { IsRun (routines_of self.new.image) O.opening self.new.history }
-        ensures apart { LocksApart (state_of O.opening self.new.history).locks }
-        ensures err { OnErr result (self.new ≡ self.old) }
-    {
-        let answers = self.answers(steps);
-        // what is kept behind each step is kept behind the last
-        let _events = self.len();
-        let _locks = self.locks();
-        answers
-    }
-
-    // Makes every step in order.
-    fn answers(&mut self, steps: &[Step]) -> Result<Vec<Result<Seen, Refusal>>, AllocError>
-        ensures gives { IfOk result (λ answers. RunGives O.opening self.old steps.now answers.items self.new) }
-        ensures err { OnErr result (self.new ≡ self.old) }
-    {
-        let mut answers = Vec::with_capacity(self.alloc, steps.len())?;
-        for step in steps {
-            let answer = self.step(*step);
-            answers.push_reserved(answer);
-        }
-        Ok(answers)
+    // The allocator.
+    pub(crate) fn alloc(&self) -> Global {
+        self.alloc
     }
 
     /// Lets a job go on for at most 10,000 turns to its next ask, and serves nothing.
@@ -330,21 +308,19 @@ impl<D: Device, O: Opening> Core<D, O> {
 }
 
 // Gives each row up to this place a slot. Where memory is refused, those that have one keep it.
-fn admit<D: Device, O: Opening>(
+fn admit<D: Device, A: Answerer<Fresh<D>>, O: Opening>(
     alloc: Global,
     image: &Image,
     system: &mut System<D, O>,
-    slots: &mut Vec<Slot<D>>,
-    waiting: &mut Option<(Claim, Session<D>)>,
+    slots: &mut Vec<Slot<A>>,
+    waiting: &mut Option<(Claim, Fresh<D>)>,
     order: &[Happened],
     at: usize,
 ) -> Result<(), AllocError>
-    requires kept { AreKept image.now O.opening system.old slots.old.items (claim_of waiting.old) order.now }
-    requires new { IfSome waiting.old (λ w. IsNew w.1) }
+    requires kept { AreKept A.answering image.now O.opening system.old slots.old.items (claim_of waiting.old) order.now }
     requires few { at < 255 }
     requires row { at < length (state_of O.opening system.old.history).rows }
-    ensures kept { AreKept image.now O.opening system.new slots.new.items (claim_of waiting.new) order.now }
-    ensures new { IfSome waiting.new (λ w. IsNew w.1) }
+    ensures kept { AreKept A.answering image.now O.opening system.new slots.new.items (claim_of waiting.new) order.now }
     ensures history { system.new.history ≡ system.old.history }
     ensures woven { woven (logs_of slots.new.items) order.now ≡ woven (logs_of slots.old.items) order.now }
     ensures turns { (n : ℕ) → turns_of n slots.new.items ≡ turns_of n slots.old.items }
@@ -358,49 +334,52 @@ fn admit<D: Device, O: Opening>(
 }
 
 // Claims the next row, if none waits for its slot yet.
-fn claim_next<D: Device, O: Opening>(
+fn claim_next<D: Device, A: Answerer<Fresh<D>>, O: Opening>(
     image: &Image,
     system: &mut System<D, O>,
-    slots: &[Slot<D>],
-    waiting: &mut Option<(Claim, Session<D>)>,
+    slots: &[Slot<A>],
+    waiting: &mut Option<(Claim, Fresh<D>)>,
     order: &[Happened],
 ) -> Result<(), AllocError>
-    requires kept { AreKept image.now O.opening system.old slots.now (claim_of waiting.old) order.now }
-    requires new { IfSome waiting.old (λ w. IsNew w.1) }
+    requires kept { AreKept A.answering image.now O.opening system.old slots.now (claim_of waiting.old) order.now }
     requires row { length slots.now < length (state_of O.opening system.old.history).rows }
-    ensures kept { AreKept image.now O.opening system.new slots.now (claim_of waiting.new) order.now }
-    ensures new { IfSome waiting.new (λ w. IsNew w.1) }
+    ensures kept { AreKept A.answering image.now O.opening system.new slots.now (claim_of waiting.new) order.now }
     ensures history { system.new.history ≡ system.old.history }
     ensures waits { OnOk result (IsSome waiting.new) }
 {
     if waiting.is_none() {
-        *waiting = system.claim()?;
+        let Some((claim, session)) = system.claim()? else {
+            unreachable!();
+        };
+        *waiting = Some((claim, Fresh::new(session)));
     }
     Ok(())
 }
 
 // Gives the row that waits a slot, with its principal session.
-fn start_next<D: Device, O: Opening>(
+fn start_next<D: Device, A: Answerer<Fresh<D>>, O: Opening>(
     alloc: Global,
     image: &Image,
     system: &System<D, O>,
-    slots: &mut Vec<Slot<D>>,
-    waiting: &mut Option<(Claim, Session<D>)>,
+    slots: &mut Vec<Slot<A>>,
+    waiting: &mut Option<(Claim, Fresh<D>)>,
     order: &[Happened],
 ) -> Result<(), AllocError>
-    requires kept { AreKept image.now O.opening system.now slots.old.items (claim_of waiting.old) order.now }
-    requires new { IfSome waiting.old (λ w. IsNew w.1) }
+    requires kept { AreKept A.answering image.now O.opening system.now slots.old.items (claim_of waiting.old) order.now }
     requires waits { IsSome waiting.old }
-    ensures kept { AreKept image.now O.opening system.now slots.new.items (claim_of waiting.new) order.now }
-    ensures new { IfSome waiting.new (λ w. IsNew w.1) }
+    ensures kept { AreKept A.answering image.now O.opening system.now slots.new.items (claim_of waiting.new) order.now }
     ensures woven { woven (logs_of slots.new.items) order.now ≡ woven (logs_of slots.old.items) order.now }
     ensures turns { (n : ℕ) → turns_of n slots.new.items ≡ turns_of n slots.old.items }
     ensures more { OnOk result (length slots.new.items ≡ suc (length slots.old.items)) }
     ensures same { OnErr result (length slots.new.items ≡ length slots.old.items) }
 {
     slots.reserve(1)?;
-    let mut sessions = Sessions::new(alloc);
-    sessions.reserve()?;
+    let principal = Text::from_number(alloc, 0);
+    let mut answerer = A::new(alloc);
+    // it has no session yet, so memory alone can be wanting
+    if answerer.make_room(&principal).is_err() {
+        return Err(AllocError);
+    }
     let Some((claim, _)) = &*waiting else {
         unreachable!();
     };
@@ -408,45 +387,46 @@ fn start_next<D: Device, O: Opening>(
     let Some((claim, session)) = waiting.take() else {
         unreachable!();
     };
-    sessions.open(Text::from_number(alloc, 0), session);
+    answerer.open(principal, session);
     let job = Job::start(alloc, image, claim.job(), entry, values);
     slots.push_reserved(Slot {
         claim,
         job,
-        sessions,
+        answerer,
     });
     Ok(())
 }
 
 // Makes a step of a live job that has a slot, and writes down what happened, and whose end was seen.
-fn go<D: Device, O: Opening>(
+fn go<D: Device, A: Answerer<Fresh<D>>, O: Opening>(
     image: &Image,
     system: &mut System<D, O>,
-    slots: &mut [Slot<D>],
+    slots: &mut [Slot<A>],
     order: &mut Vec<Happened>,
     over: &mut [bool],
     at: usize,
     late: bool,
+    given: Option<&Reply>,
 ) -> Result<Seen, Refusal>
     requires few { at < 255 }
     requires there { at < length slots.old }
     requires all { length over.old ≡ 255 }
-    requires kept { (waiting : Option Claimed) × AreKept image.now O.opening system.old slots.old waiting order.old.items }
+    requires kept { (waiting : Option Claimed) × AreKept A.answering image.now O.opening system.old slots.old waiting order.old.items }
     requires live { IsLive (state_of O.opening system.old.history).rows (suc at) }
     requires short { length order.old.items < history_limit }
     requires room { vec_len order.old < vec_capacity order.old }
-    ensures kept { (waiting : Option Claimed) → AreKept image.now O.opening system.old slots.old waiting order.old.items
-        → AreKept image.now O.opening system.new slots.new waiting order.new.items }
+    ensures kept { (waiting : Option Claimed) → AreKept A.answering image.now O.opening system.old slots.old waiting order.old.items
+        → AreKept A.answering image.now O.opening system.new slots.new waiting order.new.items }
     ensures made { (row : Row) → row_at (state_of O.opening (woven (logs_of slots.old) order.old.items)).rows (suc at) ≡ Some row
-        → StepGives O.opening (shown image.now slots.old order.old.items over.old 255) (suc at) row late result
-        (shown image.now slots.new order.new.items over.new 255) }
+        → JobStepGives A.answering.means O.opening (shown image.now slots.old order.old.items over.old 255) (suc at) row late
+        (option_copied given.entry) result (shown image.now slots.new order.new.items over.new 255) }
 {
     let slot = &mut slots[at];
     let happened = Happened {
         job: at as u32 + 1,
         at: slot.job.log().len(),
     };
-    match step_slot(image, system, slot, late)? {
+    match step_slot(image, system, slot, late, given)? {
         Made::Event => {
             let place = order.len();
             order.push_reserved(happened);
@@ -464,20 +444,20 @@ fn go<D: Device, O: Opening>(
 }
 
 // Lets a job that has a slot go on to its next ask, and looks at it there.
-fn go_ready<D: Device, O: Opening, R, F: FnOnce(&Job) -> R + Drop>(
+fn go_ready<D: Device, A: Answerer<Fresh<D>>, O: Opening, R, F: FnOnce(&Job) -> R + Drop>(
     image: &Image,
     system: &System<D, O>,
-    slots: &mut [Slot<D>],
+    slots: &mut [Slot<A>],
     order: &[Happened],
     at: usize,
     look: F,
 ) -> Result<Ready<R>, Refusal>
     requires few { at < 255 }
     requires there { at < length slots.old }
-    requires kept { (waiting : Option Claimed) × AreKept image.now O.opening system.now slots.old waiting order.now }
+    requires kept { (waiting : Option Claimed) × AreKept A.answering image.now O.opening system.now slots.old waiting order.now }
     requires callable { F.IsAlwaysCallable look }
-    ensures kept { (waiting : Option Claimed) → AreKept image.now O.opening system.now slots.old waiting order.now
-        → AreKept image.now O.opening system.now slots.new waiting order.now }
+    ensures kept { (waiting : Option Claimed) → AreKept A.answering image.now O.opening system.now slots.old waiting order.now
+        → AreKept A.answering image.now O.opening system.now slots.new waiting order.now }
     ensures readies { (over : List Bool) → (row : Row) → row_at (state_of O.opening (woven (logs_of slots.old) order.now)).rows (suc at) ≡ Some row
         → Readies O.opening (shown image.now slots.old order.now over 255) (suc at) row (turn_of result) (shown image.now slots.new order.now over 255) }
     ensures looked { IfAsks result (λ seen. (found : _) × IsAtAsk image.now O.opening (woven (logs_of slots.old) order.now) (suc at) found

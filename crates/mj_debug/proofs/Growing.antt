@@ -58,11 +58,11 @@ module _ (opening : Shared) (old new : Shown) (room : length old.history < histo
   made_grows (Ok seen.Ended) made = still old new (ap image_of made.1) (ap history_of made.1)
   made_grows (Ok (seen.Event at)) made =
       let goes = made.1 in
-      let is = goes.6 in
+      let is = goes.5.1 in
       one old new (record { job = job; ask = goes.0; reply = goes.1 }) (ap image_of is) (ap history_of is) room
   made_grows (Ok (seen.Busy holder held)) made = same old new made.1.5
-  made_grows (Ok seen.NotYet) made = same old new made.1.6
-  made_grows (Ok seen.Unfit) made = same old new made.1.4
+  made_grows (Ok seen.NotYet) made = same old new made.1.3.3
+  made_grows (Ok seen.Unfit) made = same old new made.1.3.1
   made_grows (Ok seen.Ran) made = still old new (ap image_of made.1.3) (ap history_of made.1.3)
   made_grows (Err why) made = same old new made.1
 

@@ -66,7 +66,8 @@ module _ (image : Loaded) (line : Place) (on : Bool) (other : Place) where
       (changed marks k d mark (omega (arith, within)) here (λ j below. before (suc j) (omega (arith, below))) same is_on)
 
   -- a line without a mark gets one
-  pub marked : (marks : List BreakMark) (mark : BreakMark) → line_of mark ≡ line → mark.on ≡ on → ((j : ℕ) (d : BreakMark) → j < length marks → is_same (line_of (slice_index_or marks j d)) line ≡ false)
+  pub marked : (marks : List BreakMark) (mark : BreakMark)
+      → line_of mark ≡ line → mark.on ≡ on → ((j : ℕ) (d : BreakMark) → j < length marks → is_same (line_of (slice_index_or marks j d)) line ≡ false)
       → is_breakpoint image (marks ++ mark ∷ []) other ≡ now (is_breakpoint image marks other)
   marked [] mark new is_on none =
       ap (λ p. if is_same p other then mark.on else is_breakpoint image [] other) new ∙ ap (λ b. if is_same line other then b else is_breakpoint image [] other) is_on

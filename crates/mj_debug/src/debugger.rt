@@ -15,6 +15,7 @@ ghost use Rattle.mj_sys.specs.Opening.{opening_of};
 ghost use Rattle.mj_sys.specs.Shared.{are_global};
 ghost use Rattle.mj_sys.specs.System.{history_limit};
 ghost use Rattle.mj_core.specs.Gives.{CoreStepGives, GivesReady};
+ghost use Rattle.mj_core.specs.Shown.{begun};
 ghost use Rattle.mj_debug.specs.Breaks.{AreMarked, is_there};
 ghost use Rattle.mj_debug.specs.Goes.{GoGives, IsTurnOf, IsStop, IsUnasked, IsPassed, line_in};
 ghost use Rattle.mj_debug.specs.Replicas.{Replayed, IsReplica, IsFull, IsUnshown};
@@ -26,7 +27,7 @@ ghost use Rattle.mj_views.specs.Views.{Window};
 use crate::breaks::{BreakMark, is_breakpoint, put_mark};
 use crate::replica::{Kept, Replica, Unshown, bring, keep};
 use mj_ask::Start;
-use mj_core::{Core, Ready, Refusal, Seen, Step, Way};
+use mj_core::{Answerer, Core, Fresh, Ready, Refusal, Seen, Step, Way};
 use mj_dev::{Device, Pool};
 use mj_frames::Frame;
 use mj_globs::Globals;
@@ -34,6 +35,7 @@ use mj_jobvm::Job;
 use mj_load::Image;
 use mj_locals::Locals;
 use mj_locktab::LockTable;
+use mj_sessions::Sessions;
 use mj_sys::{Opening, Unmade};
 use mj_text::Text;
 use mj_views::{View, Views};
@@ -76,9 +78,9 @@ pub enum Gone {
 /// where the place is before what was played last. Such a replay makes views of the last places before the place, up to 1,000, as far as there is room for
 /// them (`docs/DEBUGGER.md`): so many steps back, each with a show, cost one replay from the opening.
 #[derive(Drop)]
-pub struct Debugger<D: Device, O: Opening> {
+pub struct Debugger<D: Device, A: Answerer<Fresh<D>>, O: Opening> {
     alloc: Global,
-    core: Core<D, O>,
+    core: Core<D, A, O>,
     place: usize,
     kept: Kept,
     // the run played again up to a place that was shown
@@ -89,7 +91,7 @@ pub struct Debugger<D: Device, O: Opening> {
     turn: u32,
 }
 
-impl<D: Device, O: Opening> Model for Debugger<D, O> {
+impl<D: Device, A: Answerer<Fresh<D>>, O: Opening> Model for Debugger<D, A, O> {
     ghost use Rattle.std.specs.Coded.{codes};
     ghost use Rattle.std.specs.Prelude.{◌≤◌, length, IfSome};
     ghost use Rattle.mj_ast.specs.contracts.routine.Routine as routine;
@@ -119,7 +121,7 @@ impl<D: Device, O: Opening> Model for Debugger<D, O> {
         × AreViews d.core.image O.opening d.core.history d.views };
 }
 
-impl<D: Device, O: Opening> Debugger<D, O> {
+impl<D: Device, O: Opening> Debugger<D, Sessions<D>, O> {
     /// A debugger of jobs of which nothing was asked yet, with the arguments of `Core::new`. Nothing may have been taken of the pool. A job
     /// stops at the lines that hold BREAK. At want of memory all comes back that the system was to be made of.
     pub fn new(
@@ -128,14 +130,14 @@ impl<D: Device, O: Opening> Debugger<D, O> {
         globals: Globals,
         pool: Pool<D>,
         starts: Vec<Start>,
-    ) -> Result<Debugger<D, O>, Unmade<D>>
+    ) -> Result<Debugger<D, Sessions<D>, O>, Unmade<D>>
         requires opening { opening_of globals pool starts.items ≡ O.opening }
         requires global { are_global globals ≡ true }
         requires some { 1 ≤ length starts.items }
         requires few { length starts.items ≤ rows_limit }
         requires fits { length starts.items ≤ left_of principal pool }
         requires whole { AreWhole pool }
-        ensures core { IfOk result (λ d. d.core ≡ record { image = image; history = []; over = replicate 255 false; spent = replicate 255 0 }) }
+        ensures core { IfOk result (λ d. d.core ≡ begun image) }
         ensures image { IfOk result (λ d. d.core.image ≡ image) }
         ensures record { IfOk result (λ d. d.core.history ≡ []) }
         ensures place { IfOk result (λ d. d.place ≡ 0) }
@@ -152,7 +154,7 @@ impl<D: Device, O: Opening> Debugger<D, O> {
                 starts,
             });
         };
-        let core = Core::new(alloc, image, globals, pool, starts)?;
+        let core = Core::<D, Sessions<D>, O>::new(alloc, image, globals, pool, starts)?;
         Ok(Debugger {
             alloc,
             core,
@@ -166,10 +168,31 @@ impl<D: Device, O: Opening> Debugger<D, O> {
     }
 
     /// The jobs as they stand at the record's end, wherever the place is: their events are the record.
-    pub fn core(&self) -> &Core<D, O>
+    pub fn core(&self) -> &Core<D, Sessions<D>, O>
         ensures { result.now ≡ self.now.core }
     {
         &self.core
+    }
+
+    /// Its core, which is left of it.
+    pub fn into_core(self) -> Core<D, Sessions<D>, O>
+        ensures { result ≡ self.core }
+    {
+        let Debugger {
+            alloc: _,
+            core,
+            place: _,
+            kept,
+            replica,
+            views,
+            marks,
+            turn: _,
+        } = self;
+        drop(kept);
+        drop(replica);
+        drop(views);
+        drop(marks);
+        core
     }
 
     /// The place in the record: how many events are before it.
@@ -290,7 +313,7 @@ impl<D: Device, O: Opening> Debugger<D, O> {
         }
     }
 
-    /// A line is a breakpoint from now on. Whether there is such a line isn't asked.
+    /// Sets a breakpoint at a line. Whether there is such a line isn't asked.
     pub fn set(&mut self, routine: &Text, line: u32) -> Result<(), AllocError>
         ensures ok { OnOk result (AreMarked self.old.core.image (record { routine = routine.now; line = line }) true self.old.marks self.new.marks) }
         ensures rest { self.new ≡ record self.old { marks = self.new.marks } }
@@ -299,7 +322,7 @@ impl<D: Device, O: Opening> Debugger<D, O> {
         put_mark(&mut self.marks, routine, line, true)
     }
 
-    /// A line is no breakpoint from now on, even if it holds BREAK.
+    /// Clears the breakpoint of a line, even if it holds BREAK.
     pub fn clear(&mut self, routine: &Text, line: u32) -> Result<(), AllocError>
         ensures ok { OnOk result (AreMarked self.old.core.image (record { routine = routine.now; line = line }) false self.old.marks self.new.marks) }
         ensures rest { self.new ≡ record self.old { marks = self.new.marks } }
@@ -441,7 +464,10 @@ fn at_hand<O: Opening>(replica: &Option<Replica<O>>) -> &Replica<O>
 }
 
 // Makes a step. What was played of the record stays played, and views of it are views of it still.
-fn step_on<D: Device, O: Opening>(core: &mut Core<D, O>, step: Step) -> Result<Seen, Refusal>
+fn step_on<D: Device, O: Opening>(
+    core: &mut Core<D, Sessions<D>, O>,
+    step: Step,
+) -> Result<Seen, Refusal>
     requires { length core.old.history ≤ history_limit }
     ensures gives { CoreStepGives O.opening core.old step result core.new }
     ensures short { length core.new.history ≤ history_limit }
@@ -455,7 +481,7 @@ fn step_on<D: Device, O: Opening>(core: &mut Core<D, O>, step: Step) -> Result<S
 // Lets a job go on to its next ask, and copies the line at which it stands there. The record stays as it is, and so does what was played of it and what
 // views show.
 fn ready_on<D: Device, O: Opening>(
-    core: &mut Core<D, O>,
+    core: &mut Core<D, Sessions<D>, O>,
     job: u32,
 ) -> Result<Ready<Result<Option<(Text, u32)>, AllocError>>, Refusal>
     ensures gives { GivesReady O.opening core.old job (turn_of result) core.new }

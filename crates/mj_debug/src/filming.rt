@@ -8,6 +8,7 @@ ghost use Rattle.mj_debug.specs.Views.{view_of, AreViews, AreBefore, IsPutOrGone
 use crate::replica::{Replica, Unshown};
 use mj_core::Core;
 use mj_dev::Device;
+use mj_sessions::Sessions;
 use mj_subs::Subs;
 use mj_sys::Opening;
 use mj_text::Text;
@@ -29,7 +30,7 @@ const JOB: usize = 4;
 // isn't, or memory is wanting for one, they all go, and some events may be left to be played.
 pub fn film<D: Device, O: Opening>(
     alloc: Global,
-    core: &Core<D, O>,
+    core: &Core<D, Sessions<D>, O>,
     views: &mut Views,
     replica: &mut Replica<O>,
     place: usize,

@@ -1,7 +1,8 @@
 // One job of a replay.
 
 ghost use Rattle.std.specs.Prelude.{◌≡◌, ◌<◌, ◌↔◌, length, true, Some, IsTrue, IfOk, OnErr, option_copied};
-ghost use Rattle.mj_ask.specs.Fits.{fits, is_shared};
+ghost use Rattle.mj_ask.specs.Fits.{fits};
+ghost use Rattle.mj_ask.specs.declared.ask.Ask.TheVariants as asks;
 ghost use Rattle.mj_jobs.specs.Rows.{IsLive};
 ghost use Rattle.mj_semantics.specs.Job.{Start as Starts};
 ghost use Rattle.mj_jobvm.specs.Jobs.{IsRunOf, IsIn};
@@ -10,9 +11,9 @@ ghost use Rattle.mj_sys.specs.System.{history_limit};
 ghost use Rattle.mj_sys.specs.Told.{IsTurn};
 ghost use Rattle.mj_debug.specs.Playing.{IsPlaying, AsksIt, ServesIt, IsToldOn, Plays};
 
-use mj_ask::{Ask, Reply};
+use mj_ask::{Ask, Reply, SharedAsk, is_same_ask, is_same_reply};
 use mj_dev::Device;
-use mj_expect::{Heeds, is_same_ask, is_same_reply};
+use mj_expect::Heeds;
 use mj_jobvm::{Job, Turn};
 use mj_load::Image;
 use mj_sys::{Claim, Opening, Refused, Served, System};
@@ -57,16 +58,20 @@ pub fn play<D: Device, O: Opening>(
     if !asks_it(image, job, ask, reply)? {
         return Ok(false);
     }
-    if ask.is_shared() {
-        if !serves_it(system, claim, ask, reply)? {
-            return Ok(false);
+    match ask {
+        Ask::Shared(shared) => {
+            if !serves_it(system, claim, shared, reply)? {
+                return Ok(false);
+            }
+            tell(job, ask, reply)
         }
-        return tell(job, ask, reply);
+        Ask::Device(_, _) | Ask::Rest(_) => {
+            if !heeds.hear(ask, reply)? {
+                return Ok(false);
+            }
+            tell(job, ask, reply)
+        }
     }
-    if !heeds.hear(ask, reply)? {
-        return Ok(false);
-    }
-    tell(job, ask, reply)
 }
 
 // Tells a job the reply to what it asks.
@@ -84,7 +89,8 @@ fn asks_it(image: &Image, job: &mut Job, ask: &Ask, reply: &Reply) -> Result<boo
     requires { IsIn image.now job.old }
     ensures run { (start : Starts) → IsRunOf image.now start job.old → IsRunOf image.now start job.new }
     ensures log { job.new.run.log ≡ job.old.run.log }
-    ensures asks { IfOk result (λ made. (start : Starts) → IsRunOf image.now start job.old → AsksIt image.now start job.old ask.now reply.now made job.new) }
+    ensures asks { IfOk result
+        (λ made. (start : Starts) → IsRunOf image.now start job.old → AsksIt image.now start job.old ask.now reply.now made job.new) }
 {
     match job.advance(image, TURNS)? {
         Turn::Ran => Ok(false),
@@ -107,15 +113,14 @@ fn is_it(asked: Option<&Ask>, ask: &Ask) -> bool
 fn serves_it<D: Device, O: Opening>(
     system: &mut System<D, O>,
     claim: &mut Claim,
-    ask: &Ask,
+    ask: &SharedAsk,
     reply: &Reply,
 ) -> Result<bool, AllocError>
-    requires shared { is_shared ask.now ≡ true }
     requires turn { IsTurn O.opening system.old claim.old }
     requires room { length system.old.history < history_limit }
-    ensures { IfOk result (λ made. ServesIt O.opening system.old claim.old ask.now reply.now made system.new claim.new) }
+    ensures { IfOk result (λ made. ServesIt O.opening system.old claim.old (asks.Shared ask.now) reply.now made system.new claim.new) }
 {
-    match system.serve(claim, ask, true) {
+    match system.serve_shared(claim, ask, true) {
         Ok(Served::Reply(told)) => Ok(is_same_reply(&told, reply)),
         Ok(Served::Opened(_)) => Ok(is_same_reply(&Reply::Got, reply)),
         Ok(Served::Busy { .. }) => Ok(false),

@@ -24,6 +24,7 @@ use mj_jobvm::Job;
 use mj_load::Image;
 use mj_locals::Locals;
 use mj_locktab::LockTable;
+use mj_sessions::Sessions;
 use mj_sys::{Opening, System};
 use mj_text::Text;
 use mj_views::{View, Views};
@@ -94,7 +95,11 @@ impl<O: Opening> Replica<O> {
     }
 
     // Plays the next event of a record.
-    pub fn play<D: Device>(&mut self, alloc: Global, core: &Core<D, O>) -> Result<(), Unshown>
+    pub fn play<D: Device>(
+        &mut self,
+        alloc: Global,
+        core: &Core<D, Sessions<D>, O>,
+    ) -> Result<(), Unshown>
         requires replica { IsReplica core.now.image O.opening core.now.history self.old }
         requires more { self.old.made < length core.now.history }
         requires short { length core.now.history ≤ history_limit }
@@ -129,7 +134,7 @@ impl<O: Opening> Replica<O> {
     pub fn play_to<D: Device>(
         &mut self,
         alloc: Global,
-        core: &Core<D, O>,
+        core: &Core<D, Sessions<D>, O>,
         place: usize,
     ) -> Result<(), Unshown>
         requires replica { IsReplica core.now.image O.opening core.now.history self.old }
@@ -252,7 +257,7 @@ impl<O: Opening> Replica<O> {
 // run is begun anew, and where the place isn't the record's end views are made on the way then.
 pub fn bring<D: Device, O: Opening>(
     alloc: Global,
-    core: &Core<D, O>,
+    core: &Core<D, Sessions<D>, O>,
     kept: &Kept,
     views: &mut Views,
     replica: Option<Replica<O>>,
@@ -282,7 +287,7 @@ pub fn bring<D: Device, O: Opening>(
 // A run that isn't beyond a place, played on up to it, where each job that has a row there was started.
 fn finish<D: Device, O: Opening>(
     alloc: Global,
-    core: &Core<D, O>,
+    core: &Core<D, Sessions<D>, O>,
     mut replica: Replica<O>,
     place: usize,
 ) -> Result<Replica<O>, Unshown>
@@ -318,7 +323,7 @@ fn behind<O: Opening>(replica: Option<Replica<O>>, place: usize) -> Option<Repli
 // run without.
 fn again<D: Device, O: Opening>(
     alloc: Global,
-    core: &Core<D, O>,
+    core: &Core<D, Sessions<D>, O>,
     kept: &Kept,
     views: &mut Views,
     place: usize,
@@ -408,7 +413,7 @@ fn add(alloc: Global, pool: &mut Pool<Memory>, name: &Text, count: u32) -> Resul
     Ok(())
 }
 
-// The same starts once more.
+// Copies starts.
 fn clone_starts(alloc: Global, starts: &[Start]) -> Result<Vec<Start>, AllocError>
     ensures { IfOk result (λ copies. copies.items ≡ starts.now) }
 {

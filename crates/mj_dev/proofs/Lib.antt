@@ -1,3 +1,4 @@
 pub mod Talks
 mod Places
 pub mod Shelves
+mod Adding

@@ -10,7 +10,7 @@ use Rattle.mj_dev.specs.declared.talk.Code.{Code}
 use Rattle.mj_dev.specs.declared.talk.Code.TheVariants as codes
 use Rattle.mj_dev.specs.Did.{IsAnswered}
 use Rattle.mj_dev.specs.Rest.{TakesOne}
-use Rattle.mj_dev.specs.Heard.{Heard, Lines, Bytes, Firsts, IsNew, IsFew, after_line}
+use Rattle.mj_dev.specs.Heard.{Heard, Lines, Bytes, Firsts, IsNew, IsFew, called, after_line}
 use Rattle.mj_dev.specs.Talk.{Exchange, Begun, Written, LineRead, ByteRead, Ended, written_by, output_of, Exchanges, Talks, TalkStand, stand_of, AllowsOpen, AllowsLine, AllowsByte, Allows, FollowsProtocol, beginning, BeginsOnce, IsTalk}
 
 -- reading a line writes nothing
@@ -32,7 +32,7 @@ Firsts-taken old new (byte ∷ bytes) code e = ap (λ (h : Heard). h.taken) e.1
 
 -- reading a byte writes nothing
 Bytes-taken : (old new : Heard) (rest : Option (List ℕ)) (code : Code) → Bytes old rest code new → new.taken ≡ old.taken
-Bytes-taken old new None (codes.Byte byte) e = Firsts-taken (after_line old e.0) new e.0 (codes.Byte byte) e.2
+Bytes-taken old new None (codes.Byte byte) e = Firsts-taken (after_line (called old new) e.0) new e.0 (codes.Byte byte) e.2
 Bytes-taken old new None codes.End e = ap (λ (h : Heard). h.taken) e
 Bytes-taken old new None codes.NotYet e = ap (λ (h : Heard). h.taken) e
 Bytes-taken old new None codes.Failed e = ap (λ (h : Heard). h.taken) e
@@ -81,7 +81,7 @@ Firsts-allowed old new (byte ∷ bytes) code e = ((e.0, ap (λ (h : Heard). h.re
 
 Bytes-allowed : (old new : Heard) (rest : Option (List ℕ)) (code : Code) → Bytes old rest code new → AllowsByte (stand_of old) rest code (stand_of new)
 Bytes-allowed old new None (codes.Byte byte) e =
-    let taken : TakesOne e.0 (codes.Byte byte) new.rest × (new.state ≡ old.state) = Firsts-allowed (after_line old e.0) new e.0 (codes.Byte byte) e.2 in
+    let taken : TakesOne e.0 (codes.Byte byte) new.rest × (new.state ≡ old.state) = Firsts-allowed (after_line (called old new) e.0) new e.0 (codes.Byte byte) e.2 in
     (e.0, e.1, taken.0, taken.1)
 Bytes-allowed old new None codes.End e = ap stand_of e
 Bytes-allowed old new None codes.NotYet e = ap stand_of e

@@ -13,12 +13,13 @@ use Rattle.mj_dev.specs.declared.talk.Code.TheVariants as codes
 use Rattle.mj_dev.specs.Cursor.{cursor_behind}
 use Rattle.mj_dev.specs.Did.{failures_of}
 
--- A session: the rest of a line that was begun, whether it may be used, where its next byte stands, and of its device how many calls failed, the
--- bytes that it took and the lines that it gave.
+-- A session: the rest of a line that was begun, whether it may be used, where its next byte stands, and of its device a number for what it keeps, how
+-- many calls failed, the bytes that it took and the lines that it gave.
 pub record Heard : Type 0 where
   pub rest : Option (List ℕ)
   pub state : State
   pub cursor : Cursor
+  pub inside : ℕ
   pub failures : ℕ
   pub taken : List ℕ
   pub given : List (List ℕ)
@@ -38,6 +39,10 @@ pub record IsFresh (failures : ℕ) (taken : List ℕ) (given : List (List ℕ))
   pub nothing_taken : taken ≡ []
   pub nothing_given : given ≡ []
 
+-- the session once its device was called, which keeps now what it keeps in the new session
+abbrev pub called : Heard → Heard → Heard
+called old new = record old { inside = new.inside }
+
 -- the session once its device has failed
 abbrev pub after_failure : Heard → Heard
 after_failure old = record old { state = states.Failed; failures = old.failures + 1 }
@@ -52,25 +57,25 @@ after_bytes old bytes = record old { taken = old.taken ++ bytes; cursor = cursor
 
 -- the device begins
 abbrev pub DeviceBegins : Heard → Did → Heard → Type 0
-DeviceBegins old did.Done new = new ≡ old
-DeviceBegins old did.Failed new = new ≡ after_failure old
-DeviceBegins old did.Memory new = new ≡ old
+DeviceBegins old did.Done new = new ≡ called old new
+DeviceBegins old did.Failed new = new ≡ after_failure (called old new)
+DeviceBegins old did.Memory new = new ≡ called old new
 
 -- some bytes are written
 abbrev pub Writes : Heard → List ℕ → Did → Heard → Type 0
-Writes old bytes did.Done new = new ≡ after_bytes old bytes
-Writes old bytes did.Failed new = new ≡ after_failure old
-Writes old bytes did.Memory new = new ≡ old
+Writes old bytes did.Done new = new ≡ after_bytes (called old new) bytes
+Writes old bytes did.Failed new = new ≡ after_failure (called old new)
+Writes old bytes did.Memory new = new ≡ called old new
 
 -- the device gives its next line, or says why there is none
 abbrev pub DeviceReads : Heard → Input → Heard → Type 0
-DeviceReads old (input.Line line) new = new ≡ after_line old line
-DeviceReads old input.End new = new ≡ old
-DeviceReads old input.NotYet new = new ≡ old
-DeviceReads old input.Failed new = new ≡ after_failure old
-DeviceReads old input.Memory new = new ≡ old
+DeviceReads old (input.Line line) new = new ≡ after_line (called old new) line
+DeviceReads old input.End new = new ≡ called old new
+DeviceReads old input.NotYet new = new ≡ called old new
+DeviceReads old input.Failed new = new ≡ after_failure (called old new)
+DeviceReads old input.Memory new = new ≡ called old new
 
--- the rest of a line is given and is no rest any more, or memory is refused
+-- the rest of a line is given and is no rest any more, or memory is refused; the device isn't called
 abbrev pub Rests : Heard → List ℕ → Input → Heard → Type 0
 Rests old rest (input.Line line) new = (line ≡ rest) × (new ≡ record old { rest = None })
 Rests old rest input.End new = ⊥
@@ -90,13 +95,13 @@ Firsts old (byte ∷ bytes) code new = (code ≡ codes.Byte byte) × (new ≡ re
 
 -- the first byte's code of the device's next line, or why there is none
 abbrev pub Codes : Heard → Code → Heard → Type 0
-Codes old (codes.Byte byte) new = (line : List ℕ) × (length line ≤ TEXT_LIMIT) × Firsts (after_line old line) line (codes.Byte byte) new
-Codes old codes.End new = new ≡ old
-Codes old codes.NotYet new = new ≡ old
-Codes old codes.Failed new = new ≡ after_failure old
-Codes old codes.Memory new = new ≡ old
+Codes old (codes.Byte byte) new = (line : List ℕ) × (length line ≤ TEXT_LIMIT) × Firsts (after_line (called old new) line) line (codes.Byte byte) new
+Codes old codes.End new = new ≡ called old new
+Codes old codes.NotYet new = new ≡ called old new
+Codes old codes.Failed new = new ≡ after_failure (called old new)
+Codes old codes.Memory new = new ≡ called old new
 
--- a byte's code is read: of a line that was begun, else of the device's next
+-- a byte's code is read: of a line that was begun, for which the device isn't called, else of the device's next
 abbrev pub Bytes : Heard → Option (List ℕ) → Code → Heard → Type 0
 Bytes old None code new = Codes old code new
 Bytes old (Some rest) code new = Firsts old rest code new

@@ -8,3 +8,4 @@ pub mod Talk
 pub mod Supply
 pub mod Failing
 pub mod Shelves
+pub mod Pools

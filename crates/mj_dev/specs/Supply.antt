@@ -1,9 +1,14 @@
--- A device in memory: the lines that it gives.
+-- The lines of some bytes, and a device in memory that gives them.
 use Rattle.std.specs.Prelude.{ℕ, ◌+◌, ◌<◌, ◌≤◌, ◌==◌, ◌≡◌, Bool, List, [], length, take, drop}
 use Rattle.std.specs.List.{position_or_len}
 use Rattle.mj_text.specs.declared.text.TheConstants.{TEXT_LIMIT}
 use Rattle.mj_dev.specs.declared.device.Input.{Input}
 use Rattle.mj_dev.specs.declared.device.Input.TheVariants as input
+
+-- some bytes whose lines weren't read yet, and the lines that were
+pub record Supplied : Type 0 where
+  pub ahead : List ℕ
+  pub given : List (List ℕ)
 
 -- a device in memory: the bytes of its lines that weren't read yet, how many calls failed, the bytes that it took and the lines that it gave
 pub record Supply : Type 0 where

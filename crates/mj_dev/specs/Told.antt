@@ -23,17 +23,23 @@ IsCodeOf input.NotYet code = code ≡ codes.NotYet
 IsCodeOf input.Failed code = code ≡ codes.Failed
 IsCodeOf input.Memory code = code ≡ codes.Memory
 
--- these are the counts of the session's device
-pub record AreOf (session : Heard) (failures : ℕ) (taken : List ℕ) (given : List (List ℕ)) : Type 0 where
+-- these are the number and the counts of the session's device
+pub record AreOf (session : Heard) (inside : ℕ) (failures : ℕ) (taken : List ℕ) (given : List (List ℕ)) : Type 0 where
+  pub of_inside : inside ≡ session.inside
   pub of_failures : failures ≡ session.failures
   pub of_taken : taken ≡ session.taken
   pub of_given : given ≡ session.given
 
--- some device with a session's counts, whose members these are, was told so
-abbrev pub IsToldBy : {D : Type 0} → (D → ℕ) → (D → List ℕ) → (D → List (List ℕ)) → (D → DeviceCall → Type 0) → Heard → DeviceCall → Type 0
-IsToldBy {D} failures taken given is_told heard told = (device : D) × AreOf heard (failures device) (taken device) (given device) × is_told device told
+-- Some device, whose members these are and which is as the new session has it, was told so where the old session had it: so between the two there was
+-- this call alone.
+abbrev pub IsToldBy : {D : Type 0} → (D → ℕ) → (D → ℕ) → (D → List ℕ) → (D → List (List ℕ)) → (D → ℕ → DeviceCall → Type 0) → Heard → Heard → DeviceCall
+    → Type 0
+IsToldBy {D} inside failures taken given is_told old new told =
+    (device : D) × AreOf new (inside device) (failures device) (taken device) (given device) × is_told device old.inside told
 
 -- some such device was asked for a line, of which this is the code that is read
-abbrev pub IsToldCodeBy : {D : Type 0} → (D → ℕ) → (D → List ℕ) → (D → List (List ℕ)) → (D → DeviceCall → Type 0) → Heard → Code → Type 0
-IsToldCodeBy {D} failures taken given is_told heard code =
-    (device : D) × AreOf heard (failures device) (taken device) (given device) × ((read : Input) × IsCodeOf read code × is_told device (Gave read))
+abbrev pub IsToldCodeBy : {D : Type 0} → (D → ℕ) → (D → ℕ) → (D → List ℕ) → (D → List (List ℕ)) → (D → ℕ → DeviceCall → Type 0) → Heard → Heard → Code
+    → Type 0
+IsToldCodeBy {D} inside failures taken given is_told old new code =
+    (device : D) × AreOf new (inside device) (failures device) (taken device) (given device)
+    × ((read : Input) × IsCodeOf read code × is_told device old.inside (Gave read))

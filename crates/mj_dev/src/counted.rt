@@ -26,6 +26,8 @@ impl<D: Device> Device for Counted<D> {
 
     ghost given = { λ c. D.given c.device };
 
+    ghost inside = { λ c. D.inside c.device };
+
     ghost IsTold = { λ c. D.IsTold c.device };
 
     fn begin(&mut self) -> Did {

@@ -44,8 +44,12 @@ pub trait Device: Drop {
     /// the lines that were read
     ghost given: { Self → List (List ℕ) };
 
-    /// this was its last call, and so it was answered. Of any device, of which nothing else is known, it is known by such a call alone.
-    ghost IsTold: { Self → DeviceCall → Type 0 };
+    /// a number for all that it keeps
+    ghost inside: { Self → ℕ };
+
+    /// Its last call was this, which was answered so, and before it the number was that. Of any device, of which nothing else is known, only that one call
+    /// shows this: so what shows it of a number and of the device that came of it made just one call.
+    ghost IsTold: { Self → ℕ → DeviceCall → Type 0 };
 
     /// The first call to a device.
     fn begin(&mut self) -> Did
@@ -53,7 +57,7 @@ pub trait Device: Drop {
         ensures failures { failures self.new ≡ failures self.old + failures_of result }
         ensures taken { taken self.new ≡ taken self.old }
         ensures given { given self.new ≡ given self.old }
-        ensures told { IsTold self.new (DeviceCall.Begun result) };
+        ensures told { IsTold self.new (inside self.old) (DeviceCall.Begun result) };
 
     /// Writes some bytes, all or none.
     fn write(&mut self, bytes: &[u8]) -> Did
@@ -61,7 +65,7 @@ pub trait Device: Drop {
         ensures failures { failures self.new ≡ failures self.old + failures_of result }
         ensures taken { taken self.new ≡ taken self.old ++ bytes_of result bytes.now }
         ensures given { given self.new ≡ given self.old }
-        ensures told { IsTold self.new (DeviceCall.Wrote bytes.now result) };
+        ensures told { IsTold self.new (inside self.old) (DeviceCall.Wrote bytes.now result) };
 
     /// Reads the next line. It is without what ends it.
     fn read(&mut self) -> Input
@@ -69,7 +73,7 @@ pub trait Device: Drop {
         ensures failures { failures self.new ≡ failures self.old + failures_of_reading result }
         ensures taken { taken self.new ≡ taken self.old }
         ensures given { given self.new ≡ given self.old ++ lines_of result }
-        ensures told { IsTold self.new (DeviceCall.Gave result) };
+        ensures told { IsTold self.new (inside self.old) (DeviceCall.Gave result) };
 
     /// The last call to a device. It takes no memory.
     fn end(&mut self) -> Did
@@ -78,7 +82,7 @@ pub trait Device: Drop {
         ensures taken { taken self.new ≡ taken self.old }
         ensures given { given self.new ≡ given self.old }
         ensures answered { IsAnswered result }
-        ensures told { IsTold self.new (DeviceCall.Over result) };
+        ensures told { IsTold self.new (inside self.old) (DeviceCall.Over result) };
 
     /// How many calls failed.
     fn failures(&self) -> u64
@@ -100,6 +104,8 @@ impl Device for Box<dyn Device + Send> {
     ghost taken = { λ b. (Device-box b).taken b.value };
 
     ghost given = { λ b. (Device-box b).given b.value };
+
+    ghost inside = { λ b. (Device-box b).inside b.value };
 
     ghost IsTold = { λ b. (Device-box b).IsTold b.value };
 

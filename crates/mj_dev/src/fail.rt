@@ -78,7 +78,9 @@ impl Device for Fail {
 
     ghost given = { λ _. [] };
 
-    ghost IsTold = { λ _ _. Unit {0} };
+    ghost inside = { λ _. 0 };
+
+    ghost IsTold = { λ _ _ _. Unit {0} };
 
     fn begin(&mut self) -> Did
         requires { self.old.failures < 2 ^ 64 - 1 }

@@ -6,9 +6,11 @@
 // devices of which nothing was asked yet, by name.
 #![tactic(auto)]
 
+mod blank;
 mod counted;
 mod device;
 mod fail;
+mod lines;
 mod memory;
 mod pool;
 mod rest;
@@ -16,10 +18,12 @@ mod row;
 mod session;
 mod talk;
 
+pub use blank::{Blank, pool_of};
 pub use counted::Counted;
 pub use device::{Device, Did, Input};
 pub use fail::Fail;
-pub use memory::{Memory, line_end};
+pub use lines::Lines;
+pub use memory::Memory;
 pub use pool::Pool;
 pub use session::Session;
 pub use talk::{Code, Cursor, State};

@@ -1,11 +1,10 @@
 // A device in memory.
 
-ghost use Rattle.std.specs.Prelude.{◌≡◌, [], length, position};
-ghost use Rattle.std.specs.List.{position_or_len};
-ghost use Rattle.mj_dev.specs.Supply.{is_line_end};
+ghost use Rattle.std.specs.Prelude.{◌≡◌, []};
 
 use crate::device::{Device, Did, Input};
-use mj_text::{TEXT_LIMIT, Text};
+use crate::lines::Lines;
+use mj_text::Text;
 use std::alloc::Global;
 use std::marker::Model;
 
@@ -13,28 +12,22 @@ use std::marker::Model;
 /// stays in it. One that is longer than a text is a failure.
 #[derive(Drop)]
 pub struct Memory {
-    alloc: Global,
-    input: Vec<u8>,
-    place: usize,
+    lines: Lines,
     failures: u64,
     taken: Vec<u8>,
-    given: Vec<Text>,
 }
 
 impl Model for Memory {
-    ghost use Rattle.std.specs.Prelude.{◌≤◌, length, drop};
     ghost use Rattle.mj_dev.specs.Supply.{Supply};
 
     ghost Value = { Supply };
 
     ghost view = { λ m. record {
-      ahead = drop m.place m.input.items;
+      ahead = m.lines.ahead;
       failures = m.failures;
       taken = m.taken.items;
-      given = m.given.items;
+      given = m.lines.given;
     } };
-
-    ghost invariant = { λ m. m.place ≤ length m.input.items };
 }
 
 impl Memory {
@@ -46,12 +39,9 @@ impl Memory {
         ensures given { result.given ≡ [] }
     {
         Memory {
-            alloc,
-            input,
-            place: 0,
+            lines: Lines::new(alloc, input),
             failures: 0,
             taken: Vec::new(alloc),
-            given: Vec::new(alloc),
         }
     }
 }
@@ -67,7 +57,9 @@ impl Device for Memory {
 
     ghost given = { λ m. m.given };
 
-    ghost IsTold = { λ _ _. Unit {0} };
+    ghost inside = { λ _. 0 };
+
+    ghost IsTold = { λ _ _ _. Unit {0} };
 
     fn begin(&mut self) -> Did {
         Did::Done
@@ -87,27 +79,11 @@ impl Device for Memory {
         ensures given { self.new.given ≡ self.old.given ++ lines_of result }
         ensures ahead { ReadsAhead self.old.ahead result self.new.ahead }
     {
-        let ahead = &self.input.as_slice()[self.place..];
-        if ahead.is_empty() {
-            return Input::End;
-        }
-        let end = line_end(ahead);
-        if end > TEXT_LIMIT {
+        let input = self.lines.read();
+        if let Input::Failed = &input {
             self.failures += 1;
-            return Input::Failed;
         }
-        let Ok(line) = Text::from(self.alloc, &ahead[..end]) else {
-            return Input::Memory;
-        };
-        let Ok(copy) = line.try_clone() else {
-            return Input::Memory;
-        };
-        if self.given.reserve(1).is_err() {
-            return Input::Memory;
-        }
-        self.given.push_reserved(copy);
-        self.place += ahead.len().min(end + 1);
-        Input::Line(line)
+        input
     }
 
     fn end(&mut self) -> Did {
@@ -123,23 +99,6 @@ impl Device for Memory {
     }
 
     fn given(&self) -> &[Text] {
-        self.given.as_slice()
+        self.lines.given()
     }
-}
-
-/// Where the first line of some bytes ends.
-pub fn line_end(bytes: &[u8]) -> usize
-    ensures { result ≡ position_or_len is_line_end bytes.now }
-{
-    match found_end(bytes) {
-        Some(end) => end,
-        None => bytes.len(),
-    }
-}
-
-// The place of the first byte that ends a line.
-fn found_end(bytes: &[u8]) -> Option<usize>
-    ensures { result ≡ position is_line_end bytes.now }
-{
-    bytes.iter().position(|byte| *byte == 10)
 }

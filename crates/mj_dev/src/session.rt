@@ -29,6 +29,7 @@ impl<D: Device> Model for Session<D> {
       rest = s.rest;
       state = s.state;
       cursor = s.cursor;
+      inside = D.inside s.device;
       failures = D.failures s.device;
       taken = D.taken s.device;
       given = D.given s.device;
@@ -38,6 +39,7 @@ impl<D: Device> Model for Session<D> {
       rest = s.rest;
       state = s.state;
       cursor = s.cursor;
+      inside = D.inside s.device;
       failures = D.failures s.device;
       taken = D.taken s.device;
       given = D.given s.device;
@@ -49,6 +51,7 @@ impl<D: Device> Session<D> {
     pub fn new(device: D) -> Session<D>
         requires { IsFresh (D.failures device) (D.taken device) (D.given device) }
         ensures new { IsNew result }
+        ensures inside { result.inside ≡ D.inside device }
         ensures failures { result.failures ≡ D.failures device }
     {
         Session {
@@ -87,7 +90,7 @@ impl<D: Device> Session<D> {
     pub fn begin(&mut self) -> Did
         requires { self.old.state ≡ State.Open }
         ensures heard { DeviceBegins self.old result self.new }
-        ensures told { IsToldBy D.failures D.taken D.given D.IsTold self.new (DeviceCall.Begun result) }
+        ensures told { IsToldBy D.inside D.failures D.taken D.given D.IsTold self.old self.new (DeviceCall.Begun result) }
     {
         let did = self.device.begin();
         if did == Did::Failed {
@@ -100,7 +103,7 @@ impl<D: Device> Session<D> {
     pub fn write(&mut self, bytes: &[u8]) -> Did
         requires { self.old.state ≡ State.Open }
         ensures heard { Writes self.old bytes.now result self.new }
-        ensures told { IsToldBy D.failures D.taken D.given D.IsTold self.new (DeviceCall.Wrote bytes.now result) }
+        ensures told { IsToldBy D.inside D.failures D.taken D.given D.IsTold self.old self.new (DeviceCall.Wrote bytes.now result) }
     {
         match self.device.write(bytes) {
             Did::Done => {
@@ -121,7 +124,7 @@ impl<D: Device> Session<D> {
     pub fn line(&mut self) -> Input
         requires { self.old.state ≡ State.Open }
         ensures heard { Lines self.old self.old.rest result self.new }
-        ensures told { self.old.rest ≡ None → IsToldBy D.failures D.taken D.given D.IsTold self.new (DeviceCall.Gave result) }
+        ensures told { self.old.rest ≡ None → IsToldBy D.inside D.failures D.taken D.given D.IsTold self.old self.new (DeviceCall.Gave result) }
     {
         if self.rest.is_begun() {
             return self.rest.take_line();
@@ -137,7 +140,7 @@ impl<D: Device> Session<D> {
     pub fn byte(&mut self) -> Code
         requires { self.old.state ≡ State.Open }
         ensures heard { Bytes self.old self.old.rest result self.new }
-        ensures told { self.old.rest ≡ None → IsToldCodeBy D.failures D.taken D.given D.IsTold self.new result }
+        ensures told { self.old.rest ≡ None → IsToldCodeBy D.inside D.failures D.taken D.given D.IsTold self.old self.new result }
     {
         if !self.rest.is_begun() {
             match self.device.read() {
@@ -156,13 +159,15 @@ impl<D: Device> Session<D> {
         self.rest.take_byte()
     }
 
-    /// Ends and drops the device, which has one failure more exactly where the end failed.
-    pub fn end(self) -> Did
-        ensures answered { IsAnswered result }
-        ensures protocol { GoesToEnd self result }
-        ensures device { (last : D) × DeviceEnds self result (D.failures last) (D.taken last) (D.given last) × D.IsTold last (DeviceCall.Over result) }
+    /// Ends the device, which comes back to be dropped. It has one failure more exactly where the end failed.
+    pub fn end(self) -> (Did, D)
+        ensures answered { IsAnswered result.0 }
+        ensures protocol { GoesToEnd self result.0 }
+        ensures device { DeviceEnds self result.0 (D.failures result.1) (D.taken result.1) (D.given result.1) }
+        ensures told { D.IsTold result.1 self.inside (DeviceCall.Over result.0) }
     {
         let Session { mut device, .. } = self;
-        device.end()
+        let did = device.end();
+        (did, device)
     }
 }

@@ -71,7 +71,7 @@ fn take_opened(
 ) -> Result<TurnOutcome, AllocError>
     requires next { pc + 2 < 2 ^ 64 }
     requires enough { above + 1 ≤ length machine.old.stack.items }
-    requires more { machine.old.replied < 1000000 }
+    requires more { machine.old.replied < told.steps_limit }
     ensures ok { IfOk result (λ step. TakesReply (open_taken machine.old pc above timeout reply.now) machine.old step machine.new) }
     ensures err { OnErr result (Stays machine.old machine.new) }
 {

@@ -2,6 +2,7 @@
 
 ghost use Rattle.std.specs.Prelude.{◌≡◌, ◌+◌, ◌<◌, ◌≤◌, ◌^◌, IfOk, OnErr, length};
 ghost use Rattle.mj_semantics.specs.Devices as devices;
+ghost use Rattle.mj_semantics.specs.Outcome.{steps_limit};
 ghost use Rattle.mj_pcode.specs.Machine as machines;
 ghost use Rattle.mj_pcode.specs.declared.instr.Instr.TheVariants as instrs;
 ghost use Rattle.mj_machine.specs.Kept.{Obeys, TakesReply, Stays, with_value, replied};
@@ -72,8 +73,9 @@ fn take_input(
 ) -> Result<TurnOutcome, AllocError>
     requires next { pc + 1 < 2 ^ 64 }
     requires enough { above ≤ length machine.old.stack.items }
-    requires more { machine.old.replied < 1000000 }
-    ensures ok { IfOk result (λ step. TakesReply (λ next. input_taken machine.old.devices.current mode timeout reply.now (with_value machine.old pc above next)) machine.old step machine.new) }
+    requires more { machine.old.replied < steps_limit }
+    ensures ok { IfOk result (λ step. TakesReply (λ next.
+        input_taken machine.old.devices.current mode timeout reply.now (with_value machine.old pc above next)) machine.old step machine.new) }
     ensures err { OnErr result (Stays machine.old machine.new) }
 {
     if is_failed(reply) {

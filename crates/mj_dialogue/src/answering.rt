@@ -12,6 +12,7 @@ use crate::doing::{back, clear, forward, frames, globals, locals, locks, set};
 use crate::steps::{pass, step};
 use mj_debug::{Debugger, Unshown};
 use mj_dev::Device;
+use mj_sessions::Sessions;
 use mj_sys::Opening;
 use std::alloc::{AllocError, Global};
 use std::io::Write;
@@ -56,7 +57,7 @@ impl From<Unshown> for Trouble {
 /// written as soon as it is made; the first that isn't made ends it.
 pub fn answer<D: Device, O: Opening, W: Write>(
     alloc: Global,
-    debugger: &mut Debugger<D, O>,
+    debugger: &mut Debugger<D, Sessions<D>, O>,
     command: &Command,
     out: &mut W,
 ) -> Result<bool, Trouble>
@@ -97,7 +98,7 @@ fn give<W: Write>(out: &mut W, bytes: &[u8], full: bool) -> Result<bool, Trouble
 // Makes up to so many steps in turn.
 fn go<D: Device, O: Opening, W: Write>(
     alloc: Global,
-    debugger: &mut Debugger<D, O>,
+    debugger: &mut Debugger<D, Sessions<D>, O>,
     count: u32,
     out: &mut W,
 ) -> Result<bool, Trouble>

@@ -9,14 +9,15 @@ use crate::shows::{frames_at, globals_at, locals_at, locks_at};
 use crate::tell::{event, line};
 use mj_debug::{Debugger, Unshown};
 use mj_dev::Device;
+use mj_sessions::Sessions;
 use mj_sys::Opening;
 use mj_text::Text;
 use std::alloc::{AllocError, Global};
 
-// A line is a breakpoint from now on.
+// Sets a breakpoint at a line.
 pub fn set<D: Device, O: Opening>(
     alloc: Global,
-    debugger: &mut Debugger<D, O>,
+    debugger: &mut Debugger<D, Sessions<D>, O>,
     routine: &Text,
     number: u32,
 ) -> Result<Vec<u8>, AllocError>
@@ -27,10 +28,10 @@ pub fn set<D: Device, O: Opening>(
     line(alloc, b"ok")
 }
 
-// A line is no breakpoint from now on.
+// Clears the breakpoint of a line.
 pub fn clear<D: Device, O: Opening>(
     alloc: Global,
-    debugger: &mut Debugger<D, O>,
+    debugger: &mut Debugger<D, Sessions<D>, O>,
     routine: &Text,
     number: u32,
 ) -> Result<Vec<u8>, AllocError>
@@ -41,10 +42,10 @@ pub fn clear<D: Device, O: Opening>(
     line(alloc, b"ok")
 }
 
-// One event back along the record.
+// Goes back by one event of the record.
 pub fn back<D: Device, O: Opening>(
     alloc: Global,
-    debugger: &mut Debugger<D, O>,
+    debugger: &mut Debugger<D, Sessions<D>, O>,
 ) -> Result<Vec<u8>, AllocError>
     ensures ok { IfOk result (λ bytes. Says O.opening debugger.old commands.Back bytes.items false debugger.new) }
     ensures err { OnErr result (IsDone O.opening debugger.old commands.Back debugger.new) }
@@ -53,10 +54,10 @@ pub fn back<D: Device, O: Opening>(
     walked(alloc, debugger, at)
 }
 
-// One event on along the record.
+// Goes on by one event of the record.
 pub fn forward<D: Device, O: Opening>(
     alloc: Global,
-    debugger: &mut Debugger<D, O>,
+    debugger: &mut Debugger<D, Sessions<D>, O>,
 ) -> Result<Vec<u8>, AllocError>
     ensures ok { IfOk result (λ bytes. Says O.opening debugger.old commands.Forward bytes.items false debugger.new) }
     ensures err { OnErr result (IsDone O.opening debugger.old commands.Forward debugger.new) }
@@ -65,10 +66,10 @@ pub fn forward<D: Device, O: Opening>(
     walked(alloc, debugger, at)
 }
 
-// The event that was gone over, or that there is none.
+// Tells the event that was gone over, or that there is none.
 fn walked<D: Device, O: Opening>(
     alloc: Global,
-    debugger: &Debugger<D, O>,
+    debugger: &Debugger<D, Sessions<D>, O>,
     at: Option<usize>,
 ) -> Result<Vec<u8>, AllocError>
     ensures { IfOk result (λ bytes. bytes.items ≡ walked_line debugger.now.core.history at) }
@@ -82,7 +83,7 @@ fn walked<D: Device, O: Opening>(
 // The frames of a job.
 pub fn frames<D: Device, O: Opening>(
     alloc: Global,
-    debugger: &mut Debugger<D, O>,
+    debugger: &mut Debugger<D, Sessions<D>, O>,
     job: u32,
 ) -> Result<Vec<u8>, Unshown>
     ensures ok { IfOk result (λ bytes. Says O.opening debugger.old (commands.Frames job) bytes.items false debugger.new) }
@@ -98,7 +99,7 @@ pub fn frames<D: Device, O: Opening>(
 // The locals of a job.
 pub fn locals<D: Device, O: Opening>(
     alloc: Global,
-    debugger: &mut Debugger<D, O>,
+    debugger: &mut Debugger<D, Sessions<D>, O>,
     job: u32,
 ) -> Result<Vec<u8>, Unshown>
     ensures ok { IfOk result (λ bytes. Says O.opening debugger.old (commands.Locals job) bytes.items false debugger.new) }
@@ -114,7 +115,7 @@ pub fn locals<D: Device, O: Opening>(
 // The names that are held.
 pub fn locks<D: Device, O: Opening>(
     alloc: Global,
-    debugger: &mut Debugger<D, O>,
+    debugger: &mut Debugger<D, Sessions<D>, O>,
 ) -> Result<Vec<u8>, Unshown>
     ensures ok { IfOk result (λ bytes. Says O.opening debugger.old commands.Locks bytes.items false debugger.new) }
     ensures err { IfErr result (λ why. IsHidden O.opening debugger.old why debugger.new) }
@@ -129,7 +130,7 @@ pub fn locks<D: Device, O: Opening>(
 // The committed globals.
 pub fn globals<D: Device, O: Opening>(
     alloc: Global,
-    debugger: &mut Debugger<D, O>,
+    debugger: &mut Debugger<D, Sessions<D>, O>,
 ) -> Result<Vec<u8>, Unshown>
     ensures ok { IfOk result (λ bytes. Says O.opening debugger.old commands.Globals bytes.items false debugger.new) }
     ensures err { IfErr result (λ why. IsHidden O.opening debugger.old why debugger.new) }

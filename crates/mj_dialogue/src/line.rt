@@ -14,7 +14,7 @@ use mj_subs::is_word;
 use mj_text::Text;
 use std::alloc::{AllocError, Global};
 
-/// The command that a line spells, without its end; none where it spells none.
+/// Reads the command that a line spells, without its end; none where it spells none.
 pub fn read(alloc: Global, line: &[u8]) -> Result<Option<Command>, AllocError>
     ensures some { IfOk result (λ found. IfSome found (λ command. IsCommand command × (line.now ≡ command_text command))) }
     ensures none { IfOk result (λ found. IfNone found ((command : CommandOf) → IsCommand command → line.now ≢ command_text command)) }
@@ -31,7 +31,7 @@ pub fn read(alloc: Global, line: &[u8]) -> Result<Option<Command>, AllocError>
     clear(alloc, line)
 }
 
-// A command that is a word alone.
+// Reads a command that is a word alone.
 fn lone(line: &[u8]) -> Option<Command>
     ensures some { IfSome result (λ command. IsCommand command × (line.now ≡ command_text command)) }
     ensures none { IfNone result ((command : CommandOf) → IsLone command → line.now ≢ command_text command) }
@@ -51,7 +51,7 @@ fn lone(line: &[u8]) -> Option<Command>
     }
 }
 
-// A command with a number.
+// Reads a command with a number.
 fn numbered(line: &[u8]) -> Option<Command>
     ensures some { IfSome result (λ command. IsCommand command × (line.now ≡ command_text command)) }
     ensures none { IfNone result ((command : CommandOf) → IsNumbered command → IsCommand command → line.now ≢ command_text command) }
@@ -134,7 +134,8 @@ fn clear(alloc: Global, line: &[u8]) -> Result<Option<Command>, AllocError>
 // The line of a routine that is spelled so.
 fn spot_of(alloc: Global, bytes: &[u8]) -> Result<Option<(Text, u32)>, AllocError>
     ensures some { IfOk result (λ found. IfSome found (λ spot. IsSpot spot.0 spot.1 × (bytes.now ≡ spot_text spot.0 spot.1))) }
-    ensures none { IfOk result (λ found. IfNone found ((routine : List ℕ) (number : ℕ) → IsSpot routine number → bytes.now ≢ spot_text routine number)) }
+    ensures none { IfOk result
+        (λ found. IfNone found ((routine : List ℕ) (number : ℕ) → IsSpot routine number → bytes.now ≢ spot_text routine number)) }
 {
     let Some(colon) = colon(bytes) else {
         return Ok(None);

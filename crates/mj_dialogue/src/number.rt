@@ -5,7 +5,7 @@ ghost use Rattle.std.specs.Prelude.{◌≡◌, ◌<◌, ◌↔◌, ◌^◌, ℕ,
 use itoa::Buffer;
 use std::str;
 
-/// The number that is spelled so, in decimal without leading zeros, up to 4,294,967,295.
+/// Reads a number in decimal without leading zeros, up to 4,294,967,295.
 pub fn count_of(digits: &[u8]) -> Option<u32>
     ensures some { IfSome result (λ count. digits.now ≡ decimal count) }
     ensures none { IfNone result ((count : ℕ) → count < 2 ^ 32 → ¬ (digits.now ≡ decimal count)) }

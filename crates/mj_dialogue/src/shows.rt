@@ -16,14 +16,15 @@ use mj_dev::Device;
 use mj_frames::Frame;
 use mj_gfile::{put_name, put_nodes};
 use mj_locktab::LockTable;
+use mj_sessions::Sessions;
 use mj_subs::Name;
 use mj_sys::Opening;
 use std::alloc::{AllocError, Global};
 
-// The lines of a job's frames, the innermost first.
+// Writes the lines of a job's frames, the innermost first.
 pub fn frames_at<D: Device, O: Opening>(
     alloc: Global,
-    debugger: &Debugger<D, O>,
+    debugger: &Debugger<D, Sessions<D>, O>,
     job: u32,
 ) -> Result<Vec<u8>, AllocError>
     requires { debugger.now.ready ≡ true }
@@ -35,7 +36,7 @@ pub fn frames_at<D: Device, O: Opening>(
     }
 }
 
-// The lines of frames, the last first.
+// Writes the lines of frames, the last first.
 fn frame_lines(alloc: Global, frames: &[Frame]) -> Result<Vec<u8>, AllocError>
     ensures { IfOk result (λ bytes. bytes.items ≡ spot_lines (map (λ f. f.place) (frames_of frames.now))) }
 {
@@ -46,10 +47,10 @@ fn frame_lines(alloc: Global, frames: &[Frame]) -> Result<Vec<u8>, AllocError>
     Ok(bytes)
 }
 
-// The lines of a job's locals.
+// Writes the lines of a job's locals.
 pub fn locals_at<D: Device, O: Opening>(
     alloc: Global,
-    debugger: &Debugger<D, O>,
+    debugger: &Debugger<D, Sessions<D>, O>,
     job: u32,
 ) -> Result<Vec<u8>, AllocError>
     requires { debugger.now.ready ≡ true }
@@ -64,10 +65,10 @@ pub fn locals_at<D: Device, O: Opening>(
     Ok(bytes)
 }
 
-// The lines of the committed globals.
+// Writes the lines of the committed globals.
 pub fn globals_at<D: Device, O: Opening>(
     alloc: Global,
-    debugger: &Debugger<D, O>,
+    debugger: &Debugger<D, Sessions<D>, O>,
 ) -> Result<Vec<u8>, AllocError>
     requires { debugger.now.ready ≡ true }
     ensures { IfOk result (λ bytes. bytes.items ≡ listed_lines (state_of O.opening (front debugger.now)).globals) }
@@ -78,10 +79,10 @@ pub fn globals_at<D: Device, O: Opening>(
     Ok(bytes)
 }
 
-// The lines of the names that are held.
+// Writes the lines of the names that are held.
 pub fn locks_at<D: Device, O: Opening>(
     alloc: Global,
-    debugger: &Debugger<D, O>,
+    debugger: &Debugger<D, Sessions<D>, O>,
 ) -> Result<Vec<u8>, AllocError>
     requires { debugger.now.ready ≡ true }
     ensures { IfOk result (λ bytes. bytes.items ≡ held_lines (state_of O.opening (front debugger.now)).locks) }
@@ -89,7 +90,7 @@ pub fn locks_at<D: Device, O: Opening>(
     lock_lines(alloc, debugger.locks())
 }
 
-// The lines of the names in a table.
+// Writes the lines of the names in a table.
 fn lock_lines(alloc: Global, locks: &LockTable) -> Result<Vec<u8>, AllocError>
     ensures { IfOk result (λ bytes. bytes.items ≡ held_lines locks.now) }
 {

@@ -15,6 +15,7 @@ use crate::tell::{busy, event, line, refusal, stop};
 use mj_core::{Core, Seen};
 use mj_debug::{Debugger, Gone, Unshown, WalkRefusal};
 use mj_dev::Device;
+use mj_sessions::Sessions;
 use mj_steps::{Refusal, Step};
 use mj_sys::Opening;
 use std::alloc::{AllocError, Global};
@@ -29,7 +30,7 @@ pub struct Told {
 // Makes a step.
 pub fn step<D: Device, O: Opening>(
     alloc: Global,
-    debugger: &mut Debugger<D, O>,
+    debugger: &mut Debugger<D, Sessions<D>, O>,
     step: Step,
 ) -> Result<Told, AllocError>
     ensures ok { IfOk result (λ told. (answer : Result SeenOf RefusedOf) × StepGives O.opening debugger.old step answer debugger.new
@@ -40,10 +41,10 @@ pub fn step<D: Device, O: Opening>(
     tell(alloc, debugger.core(), &answer)
 }
 
-// What is told of a step.
+// Tells what came of a step.
 fn tell<D: Device, O: Opening>(
     alloc: Global,
-    core: &Core<D, O>,
+    core: &Core<D, Sessions<D>, O>,
     answer: &Result<Seen, WalkRefusal>,
 ) -> Result<Told, AllocError>
     ensures { IfOk result (λ told. TellsStep core.now.history answer.now told.bytes.items × (told.full ≡ is_full answer.now)) }
@@ -58,10 +59,10 @@ fn tell<D: Device, O: Opening>(
     }
 }
 
-// What is told of a step that was made.
+// Tells what came of a step that was made.
 fn tell_seen<D: Device, O: Opening>(
     alloc: Global,
-    core: &Core<D, O>,
+    core: &Core<D, Sessions<D>, O>,
     seen: &Seen,
 ) -> Result<Told, AllocError>
     ensures { IfOk result (λ told. (told.bytes.items ≡ seen_line core.now.history seen.now) × (told.full ≡ false)) }
@@ -77,7 +78,7 @@ fn tell_seen<D: Device, O: Opening>(
     Ok(Told { bytes, full: false })
 }
 
-// What is told of a step that isn't.
+// Tells why a step isn't made.
 fn tell_refusal(alloc: Global, why: Refusal) -> Result<Told, AllocError>
     ensures { IfOk result (λ told. TellsRefusal why told.bytes.items × (told.full ≡ is_full (Err (refused.Step why)))) }
 {
@@ -98,7 +99,7 @@ pub struct Passed {
 // Makes the next of many steps in turn, `first` at the first of them.
 pub fn pass<D: Device, O: Opening>(
     alloc: Global,
-    debugger: &mut Debugger<D, O>,
+    debugger: &mut Debugger<D, Sessions<D>, O>,
     first: bool,
 ) -> Result<Passed, Unshown>
     ensures ok { IfOk result (λ passed. (gone : GoneOf) × GoTells O.opening debugger.old first gone passed.told.bytes.items debugger.new
@@ -112,10 +113,10 @@ pub fn pass<D: Device, O: Opening>(
     }
 }
 
-// What is told of one step of many in turn.
+// Tells what came of one step of many in turn.
 fn tell_gone<D: Device, O: Opening>(
     alloc: Global,
-    core: &Core<D, O>,
+    core: &Core<D, Sessions<D>, O>,
     gone: &Gone,
 ) -> Result<Passed, AllocError>
     ensures { IfOk result (λ passed. TellsGone core.now.history gone.now passed.told.bytes.items
@@ -135,10 +136,10 @@ fn tell_gone<D: Device, O: Opening>(
     }
 }
 
-// What is told of what a job does whose turn it is.
+// Tells what the job does whose turn it is.
 fn tell_made<D: Device, O: Opening>(
     alloc: Global,
-    core: &Core<D, O>,
+    core: &Core<D, Sessions<D>, O>,
     answer: &Result<Seen, Refusal>,
 ) -> Result<Told, AllocError>
     ensures { IfOk result (λ told. TellsStep core.now.history (as_told answer.now) told.bytes.items × (told.full ≡ is_full (as_told answer.now))) }
@@ -149,7 +150,7 @@ fn tell_made<D: Device, O: Opening>(
     }
 }
 
-// What is told where no step is made, nor any behind it.
+// Tells why no step is made, nor any behind it.
 fn last(bytes: Vec<u8>) -> Passed
     ensures bytes { result.told.bytes ≡ bytes }
     ensures full { result.told.full ≡ false }

@@ -7,11 +7,12 @@ use itoa::Buffer;
 use mj_core::{Core, Refusal};
 use mj_dev::Device;
 use mj_gfile::{put_name, put_text};
+use mj_sessions::Sessions;
 use mj_sys::{Held, Opening};
 use mj_text::{Digits, Text};
 use std::alloc::{AllocError, Global};
 
-// A line of these words.
+// Writes a line of these words.
 pub fn line(alloc: Global, words: &[u8]) -> Result<Vec<u8>, AllocError>
     ensures { IfOk result (λ bytes. bytes.items ≡ words.now ++ 10 ∷ []) }
 {
@@ -21,10 +22,10 @@ pub fn line(alloc: Global, words: &[u8]) -> Result<Vec<u8>, AllocError>
     Ok(bytes)
 }
 
-// The line of the event at a place of the record, from 0, as a trace has it.
+// Writes the line of the event at a place of the record, from 0, as a trace has it.
 pub fn event<D: Device, O: Opening>(
     alloc: Global,
-    core: &Core<D, O>,
+    core: &Core<D, Sessions<D>, O>,
     at: usize,
 ) -> Result<Vec<u8>, AllocError>
     ensures { IfOk result (λ bytes. bytes.items ≡ event_line core.now.history at) }
@@ -37,7 +38,7 @@ pub fn event<D: Device, O: Opening>(
     Ok(bytes)
 }
 
-// The line on what another job has.
+// Writes the line on what another job has.
 pub fn busy(alloc: Global, holder: u32, held: &Held) -> Result<Vec<u8>, AllocError>
     ensures { IfOk result (λ bytes. bytes.items ≡ busy_line holder held.now) }
 {
@@ -50,7 +51,7 @@ pub fn busy(alloc: Global, holder: u32, held: &Held) -> Result<Vec<u8>, AllocErr
     Ok(bytes)
 }
 
-// What is held, as a listing has it: a name, or a device in quotes.
+// Writes what is held, as a listing has it: a name, or a device in quotes.
 fn put_held(bytes: &mut Vec<u8>, held: &Held) -> Result<(), AllocError>
     ensures { OnOk result (bytes.new.items ≡ bytes.old.items ++ held_text held.now) }
 {
@@ -71,7 +72,7 @@ pub fn put_spot(bytes: &mut Vec<u8>, routine: &Text, line: u32) -> Result<(), Al
     Ok(())
 }
 
-// The line on a job that stops at a line of a routine.
+// Writes the line on a job that stops at a line of a routine.
 pub fn stop(alloc: Global, job: u32, routine: &Text, line: u32) -> Result<Vec<u8>, AllocError>
     ensures { IfOk result (λ bytes. bytes.items ≡ stop_line job routine.now line) }
 {
@@ -83,7 +84,7 @@ pub fn stop(alloc: Global, job: u32, routine: &Text, line: u32) -> Result<Vec<u8
     Ok(bytes)
 }
 
-// The line on a step that isn't made; want of memory has none.
+// Writes the line on a step that isn't made; want of memory has none.
 pub fn refusal(alloc: Global, why: Refusal) -> Result<Vec<u8>, AllocError>
     ensures { IfOk result (λ bytes. TellsRefusal why bytes.items) }
 {

@@ -245,12 +245,16 @@ module _ (talk : List Exchange) where
   ends answer s states.Ended (inl is) a = absurd (let no : states.Ended ≡ states.Open = is in cc)
   ends answer s states.Ended (inr is) a = absurd (let no : states.Ended ≡ states.Failed = is in cc)
 
+  -- a talk stands here once its first reading has failed
+  abbrev failed_there : TalkStand
+  failed_there = record beginning { state = states.Failed }
+
   -- a line is read at the beginning
   reach_new_line : (read : Input) → Stood beginning → Reach (new_line read) (LineRead read)
   reach_new_line (input.Line line) f = quiet_by (LineRead (input.Line line)) (go (LineRead (input.Line line)) None beginning beginning f refl refl)
   reach_new_line input.End f = quiet_by (LineRead input.End) (go (LineRead input.End) None beginning beginning f refl refl)
   reach_new_line input.NotYet f = quiet_by (LineRead input.NotYet) (go (LineRead input.NotYet) None beginning beginning f refl refl)
-  reach_new_line input.Failed f = failed_by (LineRead input.Failed) (record beginning { state = states.Failed }) (go (LineRead input.Failed) None (record beginning { state = states.Failed }) (record beginning { state = states.Failed }) f refl refl)
+  reach_new_line input.Failed f = failed_by (LineRead input.Failed) failed_there (go (LineRead input.Failed) None failed_there failed_there f refl refl)
   reach_new_line input.Memory f = quiet_by (LineRead input.Memory) (go (LineRead input.Memory) None beginning beginning f refl refl)
 
   -- a byte's code is read at the beginning: all that may be left of a line
@@ -274,7 +278,7 @@ module _ (talk : List Exchange) where
   )
   reach_new_byte codes.End f = quiet_by (ByteRead codes.End) (go (ByteRead codes.End) None beginning beginning f refl refl)
   reach_new_byte codes.NotYet f = quiet_by (ByteRead codes.NotYet) (go (ByteRead codes.NotYet) None beginning beginning f refl refl)
-  reach_new_byte codes.Failed f = failed_by (ByteRead codes.Failed) (record beginning { state = states.Failed }) (go (ByteRead codes.Failed) None (record beginning { state = states.Failed }) (record beginning { state = states.Failed }) f refl refl)
+  reach_new_byte codes.Failed f = failed_by (ByteRead codes.Failed) failed_there (go (ByteRead codes.Failed) None failed_there failed_there f refl refl)
   reach_new_byte codes.Memory f = quiet_by (ByteRead codes.Memory) (go (ByteRead codes.Memory) None beginning beginning f refl refl)
 
   -- where a stand that is usable was reached

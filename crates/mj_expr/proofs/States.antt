@@ -173,7 +173,8 @@ behind_variable K m scope word (AsNamed f c) k same =
     as_behind R L (step m (Named scope word (AsNamed f c)) k) (same m)
     (behind_facts K m R L f (Var scope word No) c k (λ ks s h. variable_read K m scope word (AsNamed f c) ks s h))
   where
-    as_first : (R : List Symbol → Type 0) (L : Type 0) (x : Next) → Facts K m R L (λ l. after_variable f (Var scope word No) c k) k x → Facts K m R L (λ l. step l (Named scope word (AsNamed f c)) k) k x
+    as_first : (R : List Symbol → Type 0) (L : Type 0) (x : Next)
+        → Facts K m R L (λ l. after_variable f (Var scope word No) c k) k x → Facts K m R L (λ l. step l (Named scope word (AsNamed f c)) k) k x
     as_first R L (Go s) h = (h.0, λ l i. same l ∙ h.1 l i)
     as_first R L Stuck h = λ l i. same l ∙ h l i
     as_first R L Deep h = h

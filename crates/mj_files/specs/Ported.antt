@@ -19,11 +19,6 @@ pub record Ported : Type 0 where
   pub taken : List ℕ
   pub given : List (List ℕ)
 
--- some bytes whose lines weren't read yet, and the lines that were
-pub record Supplied : Type 0 where
-  pub ahead : List ℕ
-  pub given : List (List ℕ)
-
 -- a device of which nothing was asked yet, with these lines
 abbrev pub untouched : Bool → Bool → List ℕ → Ported
 untouched reads_file writes_file lines = record {

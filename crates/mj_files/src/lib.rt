@@ -10,7 +10,6 @@
 
 mod bytes;
 mod devices;
-mod lines;
 mod port;
 
 pub use bytes::{Trouble, whole};

@@ -5,8 +5,7 @@ ghost use Rattle.std.specs.Option.{is_some};
 ghost use Rattle.mj_files.specs.Ported.{untouched, HasFile, PortBegins, Gets};
 
 use crate::bytes::{Trouble, whole};
-use crate::lines::Lines;
-use mj_dev::{Device, Did, Input};
+use mj_dev::{Device, Did, Input, Lines};
 use mj_text::Text;
 use std::alloc::Global;
 use std::fs::File;
@@ -162,7 +161,9 @@ impl<R: Files + Drop> Device for Port<R> {
 
     ghost given = { λ p. p.given };
 
-    ghost IsTold = { λ _ _. Unit {0} };
+    ghost inside = { λ _. 0 };
+
+    ghost IsTold = { λ _ _ _. Unit {0} };
 
     fn begin(&mut self) -> Did
         requires { self.old.failures < 2 ^ 64 - 1 }

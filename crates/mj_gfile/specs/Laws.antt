@@ -3,6 +3,8 @@
 --     Texts      texts in listing quotes
 --     Names      subscripts, lists of them, and names
 --     Listings   lines, and listings as a whole
+--     Refused    what is refused isn't spelled, or is out of place
 pub mod Texts
 pub mod Names
 pub mod Listings
+pub mod Refused

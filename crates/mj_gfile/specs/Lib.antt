@@ -4,4 +4,5 @@ pub mod Begins
 pub mod Reading
 pub mod Units
 pub mod Listing
+pub mod Refused
 pub mod Laws

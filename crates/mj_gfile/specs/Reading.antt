@@ -1,10 +1,9 @@
 -- The fields of a listing: what stands at the front of some bytes, and what follows it, by one pass. Nothing is said here of limits.
 use Rattle.std.specs.Prelude.{ℕ, zero, suc, ◌+◌, ◌-◌, ◌*◌, Bool, true, false, not, ◌&&◌, ◌||◌, ◌==◌, nat_lt, nat_le, if◌then◌else◌, List, [], ◌∷◌, length, Option, None, Some}
-use Rattle.std.specs.List.{list_all}
-use Rattle.std.specs.Char.{is_ascii_digit, is_ascii_alphabetic, is_ascii_alphanumeric}
+use Rattle.std.specs.Char.{is_ascii_digit, is_ascii_alphanumeric}
 use Rattle.mj_num.specs.Number.{is_canonic}
 use Rattle.mj_subs.specs.Name.{Name}
-use Rattle.mj_gfile.specs.Spelling.{is_shown}
+use Rattle.mj_gfile.specs.Spelling.{is_shown, is_any_word}
 
 -- ---- runs of bytes
 
@@ -136,11 +135,6 @@ subscripts_at bs = subscripts_of (length bs) bs
 -- a byte of a word
 abbrev pub is_word_byte : ℕ → Bool
 is_word_byte c = is_ascii_alphanumeric c || c == 37
-
--- a word, of any length: a letter or `%`, then letters and digits
-abbrev pub is_any_word : List ℕ → Bool
-is_any_word [] = false
-is_any_word (c ∷ cs) = (is_ascii_alphabetic c || c == 37) && list_all is_ascii_alphanumeric cs
 
 -- the name of this kind and word, where its subscripts are read
 abbrev pub named : Bool → List ℕ → Option (List (List ℕ) × List ℕ) → Option (Name × List ℕ)

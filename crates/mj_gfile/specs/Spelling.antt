@@ -1,10 +1,17 @@
 -- How globals are listed (this profile): a line for each name that has a text. `"` is byte 34, `(` is 40, `)` is 41, `,` is 44, `=` is
 -- 61, `\` is 92 and `^` is 94. Byte 10 ends each line.
-use Rattle.std.specs.Prelude.{ℕ, ◌+◌, ◌/◌, ◌%◌, Bool, ◌&&◌, ◌==◌, nat_lt, nat_le, if◌then◌else◌, List, [], ◌∷◌, ◌++◌, codes}
+use Rattle.std.specs.Prelude.{ℕ, ◌+◌, ◌/◌, ◌%◌, Bool, false, ◌&&◌, ◌||◌, ◌==◌, nat_lt, nat_le, if◌then◌else◌, List, [], ◌∷◌, ◌++◌, codes}
+use Rattle.std.specs.List.{list_all}
+use Rattle.std.specs.Char.{is_ascii_alphabetic, is_ascii_alphanumeric}
 use Rattle.mj_num.specs.Number.{is_canonic}
 use Rattle.mj_subs.specs.Name.{Name}
 use Rattle.mj_nref.specs.Spelling.{word_text}
 use Rattle.mj_store.specs.Questions.{Content}
+
+-- a word, of any length: a letter or `%`, then letters and digits
+abbrev pub is_any_word : List ℕ → Bool
+is_any_word [] = false
+is_any_word (c ∷ cs) = (is_ascii_alphabetic c || c == 37) && list_all is_ascii_alphanumeric cs
 
 -- a byte that has a sign: a blank, or what can be seen
 abbrev pub is_shown : ℕ → Bool

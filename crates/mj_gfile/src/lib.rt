@@ -1,12 +1,14 @@
 // Listings of globals: a text of lines, one for each name that has a text, by which globals come in and go out.
 //
 // There is one listing for each set of globals, `listing_of` of `specs/Spelling.antt`: `write` gives it, `write_to` writes it part by part, and
-// `read` reads it back. What else it is given it refuses, by the first line that is none: `reading_of` of `specs/Listing.antt`. The fields of a
-// line, names and texts in listing quotes, are read and written by calls of their own.
+// `read` reads it back. What else it is given it refuses, by the first line that is none: `IsListingRefused` of `specs/Refused.antt` says so by the
+// spelling alone, and `reading_of` of `specs/Listing.antt` as it is read. The fields of a line, names and texts in listing quotes, are read and
+// written by calls of their own.
 #![tactic(auto)]
 
 mod error;
 mod field;
+mod laws;
 mod line;
 mod name;
 mod quoted;
@@ -16,6 +18,7 @@ mod writing;
 
 pub use error::ReadError;
 pub use field::Field;
+pub use laws::one_reason;
 pub use line::split_line;
 pub use name::{read_name, read_subscript, read_subscripts};
 pub use quoted::read_text;

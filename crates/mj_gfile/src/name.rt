@@ -4,7 +4,8 @@ ghost use Rattle.std.specs.Prelude.{◌≡◌, ◌++◌, ◌∷◌, [], ℕ, Lis
 ghost use Rattle.std.specs.Option.{option_map};
 ghost use Rattle.std.specs.Char.{is_ascii_alphanumeric};
 ghost use Rattle.std.specs.List.{list_all};
-ghost use Rattle.mj_gfile.specs.Reading.{front_by, rest_by, is_number_byte, is_word_byte, is_any_word, subscript_at, mark_at, item_at, subscripts_at, name_in, name_at};
+ghost use Rattle.mj_gfile.specs.Spelling.{is_any_word};
+ghost use Rattle.mj_gfile.specs.Reading.{front_by, rest_by, is_number_byte, is_word_byte, subscript_at, mark_at, item_at, subscripts_at, name_in, name_at};
 ghost use Rattle.mj_gfile.specs.Listing.{limited, is_short, are_small, is_small, text_field, item_field, subscripts_field, name_field, name};
 
 use crate::field::Field;

@@ -88,7 +88,8 @@ fn read_behind_slash(bytes: &[u8]) -> Option<(Option<u8>, &[u8])>
 // What a backslash and a digit of this value begin: with a second digit they spell a byte without a sign.
 fn read_behind_digit(high: u8, bytes: &[u8]) -> Option<(Option<u8>, &[u8])>
     requires { high < 16 }
-    ensures { (digit : ℕ) → high ≡ digit_value digit → IsUnitOf (quoted_at (Digit digit) bytes.now) bytes.now (option_map (λ p. (p.0, p.1.now)) result) }
+    ensures { (digit : ℕ) → high ≡ digit_value digit
+        → IsUnitOf (quoted_at (Digit digit) bytes.now) bytes.now (option_map (λ p. (p.0, p.1.now)) result) }
 {
     let [low, rest @ ..] = bytes else {
         return None;

@@ -7,6 +7,7 @@ ghost use Rattle.mj_store.specs.Questions.{Content};
 ghost use Rattle.mj_gfile.specs.Spelling.{listing_of};
 ghost use Rattle.mj_gfile.specs.Reading.{line_of};
 ghost use Rattle.mj_gfile.specs.Listing.{AreGlobals, IsPut, judged, lines_of, nodes_of, reading_of};
+ghost use Rattle.mj_gfile.specs.Refused.{IsListingRefused};
 
 use crate::HEADER;
 use crate::error::ReadError;
@@ -17,12 +18,14 @@ use mj_subs::Name;
 use std::alloc::Global;
 
 /// The globals that some bytes list. A listing of globals is refused for want of memory alone, and anything else by the first line that is
-/// none: in a line, one that isn't spelled so before one over a limit, and that before one out of order.
+/// none: in a line, one that isn't spelled so before one over a limit, and that before one out of order. Up to the refused line the bytes
+/// are the listing of some globals.
 pub fn read(alloc: Global, bytes: &[u8]) -> Result<Globals, ReadError>
     ensures ok { IfOk result (λ globals. reading_of bytes.now ≡ Ok globals) }
     ensures err { IfErr result (λ e. (e ≡ error.Memory) ⊎ (reading_of bytes.now ≡ Err e)) }
     ensures lists { IfOk result (λ globals. (bytes.now ≡ listing_of globals) × AreGlobals globals) }
     ensures global { IfOk result (λ globals. list_all (λ e. e.0.global) globals ≡ true) }
+    ensures refused { IfErr result (λ e. IsListingRefused bytes.now e) }
     ensures all { (content : Content) → bytes.now ≡ listing_of content → AreGlobals content → IfErr result (λ e. e ≡ error.Memory) }
 {
     read_lines(alloc, bytes)

@@ -63,7 +63,8 @@ impl<W: Write> Sink for Lines<W> {
     ghost use Rattle.mj_gfile.specs.Spelling.{listed_lines};
     ghost use Rattle.mj_gfile.specs.Waiting.{with_waiting, appends_none, lines_more};
 
-    ghost takes = { λ r nodes s. Appends (with_waiting (W.contents r.out) r.bytes.items) (with_waiting (W.contents s.out) s.bytes.items) (listed_lines nodes) };
+    ghost takes = { λ r nodes s.
+        Appends (with_waiting (W.contents r.out) r.bytes.items) (with_waiting (W.contents s.out) s.bytes.items) (listed_lines nodes) };
 
     ghost nothing = { λ s. appends_none (with_waiting (W.contents s.out) s.bytes.items) };
 

@@ -1,11 +1,13 @@
 -- A job that goes on by a turn of its machine.
-use Rattle.std.proofs.Common.{◌≡◌, ℕ, ◌+◌, ◌≤◌, List, Option, Some, None, Bool, Box, Global, sym, subst}
+use Rattle.std.proofs.Common.{◌≡◌, ℕ, ◌+◌, ◌≤◌, List, Option, Some, None, Bool, Box, Global, sym, subst, arith}
+use Rattle.std.specs.Prelude.{Result, Ok, Err, IsErrAnd}
 use Rattle.mj_ask.specs.declared.ask.Ask.{Ask}
 use Rattle.mj_ask.specs.declared.ask.Reply.{Reply}
 use Rattle.mj_semantics.specs.Job.{Start}
 use Rattle.mj_ast.specs.Syntax.{Routine}
 use Rattle.mj_pcode.specs.declared.instr.Unit.{Unit}
 use Rattle.mj_load.specs.Image.{Loaded, routines_of}
+use Rattle.mj_jobvm.specs.declared.job.Turn.{Turn}
 use Rattle.mj_jobvm.specs.declared.job.Turn.TheVariants as reports
 use Rattle.mj_jobvm.specs.declared.job.Went.{Went}
 use Rattle.mj_jobvm.specs.declared.job.Went.TheVariants as wents
@@ -13,9 +15,9 @@ use Rattle.mj_machine.specs.declared.machine.Machine.{Machine}
 use Rattle.mj_machine.specs.Standing.{Standing, Code, Steps}
 use Rattle.mj_turn.specs.Sound.{IsSound}
 use Rattle.mj_machine.specs.Kept.{standing}
-use Rattle.mj_jobvm.specs.Run.{Log, IsRunAfter}
+use Rattle.mj_jobvm.specs.Run.{Log, Run, IsRunAfter}
 use Rattle.mj_jobvm.specs.Jobs.{running, given_of, code_in, IsRunOfAfter}
-use Rattle.mj_jobvm.specs.Told.{AdvanceTells, told_of}
+use Rattle.mj_jobvm.specs.Told.{AdvanceTells, AreMade, told_of}
 use Rattle.mj_segment.specs.Segments.{StepsBy, Runs}
 use Rattle.mj_jobvm.proofs.Jobs.{run, turned, turned_by, asking, fewer, told_ended}
 
@@ -26,6 +28,21 @@ pub counted_as : (routines : List Routine) (start : Start) (code : Code) (turns 
 counted_as routines start code turns log pending named spent counted at e le r =
     let P : Option Ask → Type 0 = λ p. IsRunAfter routines start code turns (run log p counted at) in
     subst P (sym e) (fewer routines start code log pending counted spent turns at le r)
+
+-- a run after no more turns, and after some more of which some were made before the others
+pub none_more : {routines : List Routine} {start : Start} {code : Code} {job : Run} (turns : ℕ)
+    → IsRunAfter routines start code turns job → IsRunAfter routines start code (turns + 0) job
+none_more {routines} {start} {code} {job} turns = subst (λ k. IsRunAfter routines start code k job) (let e : turns ≡ turns + 0 = omega arith in e)
+
+pub further : {routines : List Routine} {start : Start} {code : Code} {job : Run} (turns done more : ℕ)
+    → IsRunAfter routines start code (turns + done + more) job → IsRunAfter routines start code (turns + (done + more)) job
+further {routines} {start} {code} {job} turns done more =
+    subst (λ k. IsRunAfter routines start code k job) (let e : turns + done + more ≡ turns + (done + more) = omega arith in e)
+
+-- a call that is refused memory may have made no turn
+pub none_made : {E : Type 0} (Q : E → Type 0) (r : Result Turn E) (fuel : ℕ) → IsErrAnd r Q → AreMade r fuel 0
+none_made Q (Ok turn) fuel is = absurd is
+none_made Q (Err e) fuel is = omega arith
 
 -- several turns of its machine
 pub went_ahead : (image : Loaded) (start from : Start) (turns : ℕ) (units : List Unit) (log : Log) → units ≡ image.units → (spent k : ℕ) (old new : Machine) (given : Bool)
@@ -59,7 +76,8 @@ module _ (image : Loaded) (start from : Start) (turns : ℕ) (units : List Unit)
       subst R e (subst Q el (subst P eu steps))
 
   pub went_on : went ≡ wents.On → IsRunOfAfter image start (turns + 1) (running from new log left None (spent + 1))
-  went_on e = turned (routines_of image) start code log spent turns before after (steps_as wents.On e) (let h : IsSound image.units (standing new None) = subst (λ us. IsSound us (standing new None)) eu sound in h) r
+  went_on e = turned (routines_of image) start code log spent turns before after (steps_as wents.On e) (let h : IsSound image.units (standing new None) =
+      subst (λ us. IsSound us (standing new None)) eu sound in h) r
 
   pub went_asks : (a : Box Ask Global) → went ≡ wents.Asks a → IsRunOfAfter image start turns (running from new log left (Some a.value) spent)
   went_asks a e =

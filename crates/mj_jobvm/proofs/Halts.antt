@@ -19,7 +19,7 @@ use Rattle.mj_semantics.proofs.Depth.{one_answer}
 use Rattle.mj_jobvm.specs.Run.{Log, replies_of, IsTrace, begins, goes_on, HasEnded}
 use Rattle.mj_jobvm.specs.Halted.{Halted, EndsByHalt, EndsInHalt}
 use Rattle.mj_jobvm.proofs.Rows as rows
-use Rattle.mj_jobvm.proofs.Rows.{Rule}
+use Rattle.mj_jobvm.proofs.Rule.{Rule}
 
 -- what a restart goes on with is over only so
 record Goes (h : Handler) : Type 0 where

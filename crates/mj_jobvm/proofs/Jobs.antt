@@ -146,7 +146,8 @@ module _ (routines : List Routine) (start : Start) (code : Code) where
     within = let w = r.within in omega (arith, w);
     going = λ n le. one_further (λ k. (replies : List Reply) → next routines start k (replies_of log ++ replies) ≡ More) (r.before + turns) r.going
         (λ replies. sym (r.rest 1 replies) ∙ h 0 replies ∙ idle code new replies) n (let l : n ≤ r.before + turns + 1 = omega (arith, le) in l);
-    rest = λ n replies. sym (h n replies) ∙ r.rest (suc n) replies ∙ ap (λ k. next routines start k (replies_of log ++ replies)) (let e : r.before + turns + suc n ≡ r.before + (turns + 1) + n = omega arith in e);
+    rest = λ n replies. sym (h n replies)
+        ∙ r.rest (suc n) replies ∙ ap (λ k. next routines start k (replies_of log ++ replies)) (let e : r.before + turns + suc n ≡ r.before + (turns + 1) + n = omega arith in e);
     sound = sound;
     asks = tt;
   }
@@ -234,7 +235,8 @@ module _ (routines : List Routine) (start : Start) (code : Code) where
       → IsRunAfter routines start code 0 (run (log ++ (a, r) ∷ []) None 0 (record at { given = Some r }))
   answered log spent turns a r at fit is =
       let back : Handler = handler code.units at.restart in
-      let after : (n : ℕ) (replies : List Reply) → left code at.control at.context at.stack n back at.state (r ∷ replies) ≡ next routines start (is.before + turns + n) (replies_of (log ++ (a, r) ∷ []) ++ replies) =
+      let after : (n : ℕ) (replies : List Reply)
+      → left code at.control at.context at.stack n back at.state (r ∷ replies) ≡ next routines start (is.before + turns + n) (replies_of (log ++ (a, r) ∷ []) ++ replies) =
       λ n replies. ap (λ g. left code at.control at.context at.stack n back at.state (given_first g (r ∷ replies))) (sym is.asks.0)
       ∙ is.rest n (r ∷ replies)
       ∙ ap (next routines start (is.before + turns + n)) (replies_more log a r replies) in

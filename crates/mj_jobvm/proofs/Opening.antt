@@ -20,8 +20,10 @@ module _ (image : Loaded) (is : IsImage image) (start : Start) where
   opens (suc m) [] = refl
   opens (suc m) (r ∷ replies) = by (is_failed r)
     where
-      by : (b : Bool) → (if b then change (broke principal) (fault Device) else calls false (found image.units start.entry) start.values [] (from image.units)) m no_restart (counted (opening start.job)) replies
-          ≡ (if b then change (broke principal) (fault Device) else points_of (routines_of image) (suc (suc m)) (Called false start.entry start.values (λ v. end None))) m no_restart (counted (opening start.job)) replies
+      by : (b : Bool) → (if b then change (broke principal) (fault Device) else calls false (found image.units start.entry) start.values [] (from image.units)) m no_restart
+          (counted (opening start.job)) replies
+          ≡ (if b then change (broke principal) (fault Device) else points_of (routines_of image) (suc (suc m)) (Called false start.entry start.values (λ v. end None))) m no_restart
+          (counted (opening start.job)) replies
       by true = refl
       by false = ap (λ f. f no_restart (counted (opening start.job)) replies) (is.does start.entry start.values (suc m) m (let le : m ≤ suc m = omega arith in le))
 

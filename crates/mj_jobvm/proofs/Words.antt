@@ -17,7 +17,7 @@ use Rattle.mj_semantics.specs.Sharing.{in_time as test_in_time}
 use Rattle.mj_semantics.specs.Transactions.{levels_limit, begin_transaction, in_transaction, is_clash, commit, roll_back, roll_back_for_restart, begin_restart}
 use Rattle.mj_semantics.specs.Commands.{for_again}
 use Rattle.mj_jobvm.specs.Limit.{IsAllowed}
-use Rattle.mj_jobvm.proofs.Rows.{Rule}
+use Rattle.mj_jobvm.proofs.Rule.{Rule}
 
 -- no more asks were replied to than may be, and no more devices are open
 abbrev pub IsFair : State → Type 0
@@ -228,7 +228,10 @@ obtained_keeps name timeout r late got l k =
     (with_room _ (change_keeps late l (test_in_time timeout false) (tests_same timeout false))))
 
 obtain_keeps : (name : List ℕ) (timeout : Option ℤ) (late got : Timed) → Keeps late → Keeps got → Keeps (request_device name timeout late got)
-obtain_keeps name timeout late got l k = record { by = λ n h back s replies a locals at le e. at_state (is_open name s) (nat_lt devices_limit (length s.devices)) n h back s replies a locals at refl le e }
+obtain_keeps name timeout late got l k = record {
+  by =
+      λ n h back s replies a locals at le e. at_state (is_open name s) (nat_lt devices_limit (length s.devices)) n h back s replies a locals at refl le e;
+}
   where
     asks_for : Timed
     asks_for = ask (asks.Shared (shared_asks.Open name timeout)) (λ r. obtained name timeout r late got)

@@ -1,5 +1,5 @@
 -- What a caller sees of a job.
-use Rattle.std.specs.Prelude.{◌≡◌, ℕ, ◌≤◌, [], ◌∷◌, Option, Some, None, Bool, true, false, IsTrue, reverse}
+use Rattle.std.specs.Prelude.{◌≡◌, ℕ, ◌+◌, [], ◌∷◌, Option, Some, None, Bool, true, false, IsTrue, Result, reverse}
 use Rattle.mj_ask.specs.declared.ask.Ask.{Ask}
 use Rattle.mj_ask.specs.declared.ask.Reply.{Reply}
 use Rattle.mj_ask.specs.Fits.{fits}
@@ -10,7 +10,9 @@ use Rattle.mj_machine.specs.declared.machine.Machine.{Machine}
 use Rattle.mj_machine.specs.declared.control.Control.TheVariants.{Begin}
 use Rattle.mj_machine.specs.Standing.{Standing, Code}
 use Rattle.mj_machine.specs.Kept.{standing}
+use Rattle.mj_jobvm.specs.declared.job.Turn.{Turn}
 use Rattle.mj_jobvm.specs.Run.{Log, Run, IsJobRun, IsRunAfter}
+use Rattle.mj_jobvm.specs.Told.{AreMade}
 
 -- a job: how it starts, and its run
 pub record Running : Type 0 where
@@ -56,10 +58,11 @@ IsRunOf image start job = IsJobRun (routines_of image) start (code_in image job.
 abbrev pub IsRunOfAfter : Loaded → Start → ℕ → Running → Type 0
 IsRunOfAfter image start turns job = IsRunAfter (routines_of image) start (code_in image job.start) turns job.run
 
--- the job stands at a later place of the run than it stood, or at the same: wherever it stood so many turns after its last reply, it stands
--- at least as many after it
-abbrev pub GoesForward : Loaded → Start → Running → Running → Type 0
-GoesForward image start old new = (turns : ℕ) → IsRunOfAfter image start turns old → (later : ℕ) × (turns ≤ later) × IsRunOfAfter image start later new
+-- the job stands as many turns further on in the run as a call with this fuel makes: wherever it stood so many turns after its last
+-- reply, it stands that many more after it
+abbrev pub GoesForward : {E : Type 0} → Loaded → Start → Result Turn E → ℕ → Running → Running → Type 0
+GoesForward image start result fuel old new =
+    (turns : ℕ) → IsRunOfAfter image start turns old → (made : ℕ) × AreMade result fuel made × IsRunOfAfter image start (turns + made) new
 
 -- the job was started in this image
 abbrev pub IsIn : Loaded → Running → Type 0

@@ -1,5 +1,5 @@
 -- What a call of `advance` tells.
-use Rattle.std.specs.Prelude.{◌≡◌, ℕ, ◌+◌, ◌^◌, min, List, Some, Result, Ok, Err}
+use Rattle.std.specs.Prelude.{◌≡◌, ℕ, ◌+◌, ◌^◌, ◌≤◌, min, List, Option, Some, None, IsSome, Result, Ok, Err}
 use Rattle.mj_ask.specs.declared.ask.Ask.{Ask}
 use Rattle.mj_ast.specs.Syntax.{Routine}
 use Rattle.mj_semantics.specs.State.{places}
@@ -20,6 +20,20 @@ AdvanceTells routines start Asks job =
     (a : Ask) × (job.pending ≡ Some a) × ((n : ℕ) × (next routines start n (replies_of job.log) ≡ outcomes.Needs a job.at.state.locals (places job.at.state)))
 AdvanceTells routines start Ran job = GoesOn routines start job.log job.spent
 AdvanceTells routines start Ended job = HasEnded routines start job.log
+
+-- after a call a job waits for a reply where it asks, and nowhere else
+abbrev pub IsWaitingAt : Turn → Option Ask → Type 0
+IsWaitingAt Asks pending = IsSome pending
+IsWaitingAt Ran pending = pending ≡ None
+IsWaitingAt Ended pending = pending ≡ None
+
+-- how many turns a call makes that is let make so many: all of them where it ran as far as it was let, whatever is counted, and
+-- no more in any case
+abbrev pub AreMade : {E : Type 0} → Result Turn E → ℕ → ℕ → Type 0
+AreMade (Ok Asks) fuel made = made ≤ fuel
+AreMade (Ok Ran) fuel made = made ≡ fuel
+AreMade (Ok Ended) fuel made = made ≤ fuel
+AreMade (Err e) fuel made = made ≤ fuel
 
 -- the turns that are counted since the last reply: its fuel, where it ran as far as it was let, up to 2 ^ 63
 abbrev pub spent_after : {E : Type 0} → Result Turn E → ℕ → ℕ → ℕ

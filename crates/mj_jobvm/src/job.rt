@@ -1,6 +1,6 @@
 // A job.
 
-ghost use Rattle.std.specs.Prelude.{◌≡◌, ◌++◌, ◌∷◌, [], Some, None, IfOk, OnErr, option_copied};
+ghost use Rattle.std.specs.Prelude.{◌≡◌, ◌++◌, ◌∷◌, [], Some, None, IsSome, Ok, IfOk, OnErr, option_copied};
 ghost use Rattle.mj_ask.specs.declared.ask.Ask as asks;
 ghost use Rattle.mj_semantics.specs.State.{place_of};
 ghost use Rattle.mj_semantics.specs.Job.{Start as Starts};
@@ -14,7 +14,7 @@ ghost use Rattle.mj_machine.specs.Standing.{Steps};
 ghost use Rattle.mj_machine.specs.Kept.{standing, replied};
 ghost use Rattle.mj_jobvm.specs.Run.{IsTrace};
 ghost use Rattle.mj_jobvm.specs.Limit.{IsLimited};
-ghost use Rattle.mj_jobvm.specs.Told.{AdvanceTells, told_of, spent_after};
+ghost use Rattle.mj_jobvm.specs.Told.{AdvanceTells, IsWaitingAt, told_of, spent_after};
 ghost use Rattle.mj_turn.specs.Units.{AreSmall};
 
 use mj_ask::{Ask, Entry, Reply};
@@ -111,13 +111,17 @@ impl Job {
         }
     }
 
-    /// Goes on for at most `fuel` turns, in the image where it started. A job that waits for a reply asks again. With want of
-    /// memory its log and its ask are as before, and it stands at some later or equal place of the same run.
+    /// Goes on for at most `fuel` turns, in the image where it started, and for exactly as many where it answers `Ran`. A job that waits
+    /// for a reply asks again, and stays as it is. With want of memory its log and its ask are as before, and it stands at some later or
+    /// equal place of the same run.
     pub fn advance(&mut self, image: &Image, fuel: u64) -> Result<Turn, AllocError>
         requires { IsIn image.now self.old }
         ensures run { (start : Starts) → IsRunOf image.now start self.old → IsRunOf image.now start self.new }
-        ensures forward { (start : Starts) → GoesForward image.now start self.old self.new }
-        ensures told { (start : Starts) → IsRunOf image.now start self.old → IfOk result (λ turn. AdvanceTells (routines_of image.now) start turn self.new.run) }
+        ensures forward { (start : Starts) → GoesForward image.now start result fuel self.old self.new }
+        ensures again { IsSome self.old.run.pending → (result ≡ Ok Turn.Asks) × (self.new ≡ self.old) }
+        ensures waits { IfOk result (λ turn. IsWaitingAt turn self.new.run.pending) }
+        ensures told { (start : Starts) → IsRunOf image.now start self.old
+            → IfOk result (λ turn. AdvanceTells (routines_of image.now) start turn self.new.run) }
         ensures log { self.new.run.log ≡ self.old.run.log }
         ensures spent { self.new.run.spent ≡ spent_after result fuel self.old.run.spent }
         ensures err { OnErr result (self.new.run.pending ≡ self.old.run.pending) }

@@ -61,7 +61,8 @@ destination_fits listed (Pieces v es) rest h f =
     subst P (sym (append_assoc (more_parts es) (Put Close ∷ []) rest))
     (PieceOpens listed, piece_taken listed, (PieceVariable listed, refl, (PieceComma listed, refl, arguments_fit listed es rest a b f)))
 
-listed_fit : (ds : List Destination) (rest : List Part) → every is_destination ds ≡ true → PartsFit (SetBehind false) rest → PartsFit (SetBehind true) (behind_commas destination_parts ds ++ Put Close ∷ rest)
+listed_fit : (ds : List Destination) (rest : List Part)
+    → every is_destination ds ≡ true → PartsFit (SetBehind false) rest → PartsFit (SetBehind true) (behind_commas destination_parts ds ++ Put Close ∷ rest)
 listed_fit [] rest h f = (SetBehind false, refl, f)
 listed_fit (d ∷ ds) rest h f =
     let P : List Part → Type 0 = λ ps. PartsFit (SetTarget true) ps in (

@@ -96,7 +96,8 @@ last_part listed (Put Close) ps next e h = (No, ps, refl, omega arith, at_node (
 last_part listed (Control v) ps next e h = absurd (none_some _ e.0)
 last_part listed p ps next e h = absurd (none_some _ e)
 
-pub piece_part : (listed : Bool) (more : ℕ) (p : Part) (ps : List Part) (next : Node) → PartLeads (PieceBehind listed (suc more)) p next → Shape next ps → Shape (PieceBehind listed (suc more)) (p ∷ ps)
+pub piece_part : (listed : Bool) (more : ℕ) (p : Part) (ps : List Part) (next : Node)
+    → PartLeads (PieceBehind listed (suc more)) p next → Shape next ps → Shape (PieceBehind listed (suc more)) (p ∷ ps)
 piece_part listed more (Put Comma) ps next e h =
     let x = at_node (PieceText listed more) next ps e h in
     (More x.0 x.1, x.2, before (Put Comma) (Text 1 x.0 ∷ (more_parts x.1 ++ Put Close ∷ x.2)) ps x.3, (let c = x.4 in omega arith), x.5)

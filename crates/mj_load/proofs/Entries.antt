@@ -82,12 +82,14 @@ pub data Lookup (rs : List Routine) (us : List unit.Unit) (i : ℕ) (entry : Ent
   is_absent : Absent rs us i entry → Lookup rs us i entry
 
 -- the routine in front has the unit's name
-lines_front : (r : Routine) (rs : List Routine) (u : unit.Unit) (name : List ℕ) (t : Bool) → IsUnitOf (routine_of r) u → bytes_eq u.name name ≡ t → lines_of (map routine_of (r ∷ rs)) name ≡ (if t then (routine_of r).lines else lines_of (map routine_of rs) name)
+lines_front : (r : Routine) (rs : List Routine) (u : unit.Unit) (name : List ℕ) (t : Bool)
+    → IsUnitOf (routine_of r) u → bytes_eq u.name name ≡ t → lines_of (map routine_of (r ∷ rs)) name ≡ (if t then (routine_of r).lines else lines_of (map routine_of rs) name)
 lines_front r rs u name t code e =
     ap (λ q. if bytes_eq q name then (routine_of r).lines else lines_of (map routine_of rs) name) (sym code.name)
     ∙ ap (λ v. if v then (routine_of r).lines else lines_of (map routine_of rs) name) e
 
-units_front : (u : unit.Unit) (us : List unit.Unit) (i : ℕ) (entry : Entry) (t : Bool) → bytes_eq u.name entry.routine ≡ t → found_from i (u ∷ us) entry ≡ (if t then found_in i u (line_in u entry.label) else found_from (i + 1) us entry)
+units_front : (u : unit.Unit) (us : List unit.Unit) (i : ℕ) (entry : Entry) (t : Bool)
+    → bytes_eq u.name entry.routine ≡ t → found_from i (u ∷ us) entry ≡ (if t then found_in i u (line_in u entry.label) else found_from (i + 1) us entry)
 units_front u us i entry t e = ap (λ v. if v then found_in i u (line_in u entry.label) else found_from (i + 1) us entry) e
 
 looked_up : (rs : List Routine) (us : List unit.Unit) (i : ℕ) (entry : Entry) → AreUnits rs us → Lookup rs us i entry
@@ -126,9 +128,13 @@ looked_up (r ∷ rs) (u ∷ us) i entry h = go (bytes_eq u.name entry.routine) r
 
 module _ (image : List syntax.Routine) (units : List unit.Unit) where
   -- a line and its head at the same place
-  alike_at : (r : syntax.Routine) (u : unit.Unit) (name : List ℕ) (at k : ℕ) (o : Option syntax.Line) (h : Option Head) → IsUnitOf r u → u.name ≡ name → lines_of image name ≡ r.lines → slice_get units at ≡ Some u → 1 ≤ k
+  alike_at : (r : syntax.Routine) (u : unit.Unit) (name : List ℕ) (at k : ℕ) (o : Option syntax.Line) (h : Option Head)
+      → IsUnitOf r u → u.name ≡ name → lines_of image name ≡ r.lines → slice_get units at ≡ Some u → 1 ≤ k
       → slice_get u.heads.items (k - 1) ≡ h → option_map (λ x. x.level) h ≡ option_map (λ x. x.level) o → option_map (λ x. x.formals) h ≡ option_map (λ x. x.formals) o → IsChecked u
-      → IsFound image units (elim o [ None ↦ None | Some line ↦ Some (record { routine = name; line = k }, line) ]) (elim h [ None ↦ None | Some head ↦ Some (record { at = at; unit = u; line = k; head = head }) ])
+      → IsFound image units (elim o [
+        | None ↦ None
+        | Some line ↦ Some (record { routine = name; line = k }, line)
+      ]) (elim h [ None ↦ None | Some head ↦ Some (record { at = at; unit = u; line = k; head = head }) ])
   alike_at r u name at k None None code same lines there some e l f checked = tt
   alike_at r u name at k None (Some head) code same lines there some e l f checked = let p : ◌≡◌ {A = Option ℕ} (Some head.level) None = l in cc
   alike_at r u name at k (Some line) None code same lines there some e l f checked = let p : ◌≡◌ {A = Option ℕ} None (Some line.level) = l in cc
@@ -169,7 +175,8 @@ alike_if rs us entry checked (is_there p) =
     let there : found us entry ≡ found_in p.j u k = p.there ∙ ap (λ m. found_in m u (line_in u entry.label)) at ∙ ap (found_in p.j u) n in
     subst (λ o. IsFound image us o (found us entry)) (sym (ap (entered_in entry) p.lines))
     (subst (IsFound image us (entered_in entry r.lines)) (sym there)
-    (alike_at image us r u entry.routine p.j k (slice_get r.lines (k - 1)) (slice_get u.heads.items (k - 1)) p.code p.same p.lines p.at (from_one entry.label r.lines) refl levels formals (checked p.j u p.at)))
+    (alike_at image us r u entry.routine p.j k
+    (slice_get r.lines (k - 1)) (slice_get u.heads.items (k - 1)) p.code p.same p.lines p.at (from_one entry.label r.lines) refl levels formals (checked p.j u p.at)))
 
 pub lead_alike : (rs : List Routine) (us : List unit.Unit) → AreUnits rs us → AreChecked us → LeadAlike (map routine_of rs) us
 lead_alike rs us h checked entry = alike_if rs us entry checked (looked_up rs us 0 entry h)
@@ -188,7 +195,8 @@ none_of p (x ∷ xs) y h =
     (ap (λ t. t || list_any p xs) both.0 ∙ later.0, later.1)
 
 -- the next name is none of the earlier ones, and none comes again behind it
-next_apart : (earlier : List (List ℕ)) (name : List ℕ) (names : List (List ℕ)) → repeated earlier (name ∷ names) ≡ None → (list_any (λ e. bytes_eq e name) earlier ≡ false) × (repeated (earlier ++ name ∷ []) names ≡ None)
+next_apart : (earlier : List (List ℕ)) (name : List ℕ) (names : List (List ℕ)) → repeated earlier (name ∷ names) ≡ None
+    → (list_any (λ e. bytes_eq e name) earlier ≡ false) × (repeated (earlier ++ name ∷ []) names ≡ None)
 next_apart earlier name names h = go (list_any (λ e. bytes_eq e name) earlier) refl
   where
     go : (t : Bool) → list_any (λ e. bytes_eq e name) earlier ≡ t → (list_any (λ e. bytes_eq e name) earlier ≡ false) × (repeated (earlier ++ name ∷ []) names ≡ None)
@@ -212,7 +220,8 @@ record Owned (rs : List Routine) (u : unit.Unit) : Type 0 where
   code : IsUnitOf (routine_of routine) u
   lines : lines_of (map routine_of rs) routine.name ≡ (routine_of routine).lines
 
-front_lines : (q : Routine) (rs : List Routine) (name : List ℕ) (t : Bool) → bytes_eq q.name name ≡ t → lines_of (map routine_of (q ∷ rs)) name ≡ (if t then (routine_of q).lines else lines_of (map routine_of rs) name)
+front_lines : (q : Routine) (rs : List Routine) (name : List ℕ) (t : Bool) → bytes_eq q.name name ≡ t
+    → lines_of (map routine_of (q ∷ rs)) name ≡ (if t then (routine_of q).lines else lines_of (map routine_of rs) name)
 front_lines q rs name t e = ap (λ v. if v then (routine_of q).lines else lines_of (map routine_of rs) name) e
 
 record Owner (rs : List Routine) (us : List unit.Unit) (j : ℕ) (u : unit.Unit) : Type 0 where
@@ -224,7 +233,8 @@ record Owner (rs : List Routine) (us : List unit.Unit) (j : ℕ) (u : unit.Unit)
 same_unit : (v u : unit.Unit) → ◌≡◌ {A = Option unit.Unit} (Some v) (Some u) → v ≡ u
 same_unit v u e = cc
 
-owner : (rs : List Routine) (us : List unit.Unit) (earlier : List (List ℕ)) → AreUnits rs us → repeated earlier (names_of rs) ≡ None → (j : ℕ) (u : unit.Unit) → slice_get us j ≡ Some u → Owner rs us j u
+owner : (rs : List Routine) (us : List unit.Unit) (earlier : List (List ℕ)) → AreUnits rs us
+    → repeated earlier (names_of rs) ≡ None → (j : ℕ) (u : unit.Unit) → slice_get us j ≡ Some u → Owner rs us j u
 owner [] [] earlier h a j u there = let p : ◌≡◌ {A = Option unit.Unit} None (Some u) = there in cc
 owner [] (v ∷ us) earlier h a j u there = absurd h
 owner (q ∷ rs) [] earlier h a j u there = absurd h
@@ -242,7 +252,8 @@ owner (q ∷ rs) (v ∷ us) earlier h a (suc j) u there =
       routine = later.routine;
       at = later.at;
       code = later.code;
-      lines = front_lines q rs later.routine.name false (none_of (λ e. bytes_eq e later.routine.name) earlier q.name (unlike rs (earlier ++ q.name ∷ []) next j later.routine later.at)).1 ∙ later.lines;
+      lines = front_lines q rs later.routine.name false (none_of (λ e. bytes_eq e later.routine.name) earlier q.name (unlike rs (earlier ++ q.name ∷ []) next j later.routine later.at)).1
+          ∙ later.lines;
     }
 
 module _ (rs : List Routine) (us : List unit.Unit) (h : AreUnits rs us) (apart : repeated [] (names_of rs) ≡ None) (checked : AreChecked us) where

@@ -30,9 +30,11 @@ further rs k r lt e =
     ∙ ap (λ t. if t then Some r.name else repeated (names_of (take k rs) ++ r.name ∷ []) later) (among_names r.name (take k rs))
     ∙ ap (λ l. if has_name r.name (take k rs) then Some r.name else repeated l later) front
 
-pub is_second : (rs : List Routine) (k : ℕ) (r d : Routine) → k < length rs → r ≡ get_or rs k r → from k rs ≡ repeated [] (names_of rs) → has_name r.name (take k rs) ≡ true → repeated [] (names_of rs) ≡ Some (get_or rs k d).name
+pub is_second : (rs : List Routine) (k : ℕ) (r d : Routine)
+    → k < length rs → r ≡ get_or rs k r → from k rs ≡ repeated [] (names_of rs) → has_name r.name (take k rs) ≡ true → repeated [] (names_of rs) ≡ Some (get_or rs k d).name
 is_second rs k r d lt e so_far known =
     sym so_far ∙ further rs k r lt e ∙ ap (λ t. if t then Some r.name else from (k + 1) rs) known ∙ ap (λ x. Some x.name) (e ∙ get_or_default rs k r d lt)
 
-pub goes_on : (rs : List Routine) (k : ℕ) (r : Routine) → k < length rs → r ≡ get_or rs k r → from k rs ≡ repeated [] (names_of rs) → has_name r.name (take k rs) ≡ false → from (k + 1) rs ≡ repeated [] (names_of rs)
+pub goes_on : (rs : List Routine) (k : ℕ) (r : Routine)
+    → k < length rs → r ≡ get_or rs k r → from k rs ≡ repeated [] (names_of rs) → has_name r.name (take k rs) ≡ false → from (k + 1) rs ≡ repeated [] (names_of rs)
 goes_on rs k r lt e so_far unknown = sym (ap (λ t. if t then Some r.name else from (k + 1) rs) unknown) ∙ sym (further rs k r lt e) ∙ so_far

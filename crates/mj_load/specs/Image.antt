@@ -4,6 +4,7 @@ use Rattle.std.specs.List.{list_any}
 use Rattle.std.specs.Str.{bytes_eq}
 use Rattle.mj_ask.specs.declared.entry.Entry.{Entry}
 use Rattle.mj_ast.specs.declared.routine.Routine.{Routine}
+use Rattle.mj_ast.specs.Expressions.{name_limit}
 use Rattle.mj_ast.specs.Trees.{routine_of}
 use Rattle.mj_ast.specs.Syntax as syntax
 use Rattle.mj_semantics.specs.Outcome.{end}
@@ -26,7 +27,7 @@ routines_of image = map routine_of image.routines
 
 -- how long a routine's name is, and how many lines it has, at most
 pub record IsWithinLimits (routine : Routine) : Type 0 where
-  pub short : length routine.name ≤ 31
+  pub short : length routine.name ≤ name_limit
   pub few : length routine.lines.items < 2 ^ 32
 
 -- the first of these names that is one of those before it; `earlier` come before all
@@ -46,7 +47,7 @@ AreUnits (r ∷ routines) (u ∷ units) = IsUnitOf (routine_of r) u × AreUnits 
 
 -- a unit whose name is short, and whose lines can be counted
 pub record IsSmall (u : unit.Unit) : Type 0 where
-  pub short : length u.name ≤ 31
+  pub short : length u.name ≤ name_limit
   pub few : length u.heads.items < 2 ^ 32
 
 -- From an entry on, whatever values it is given, and for each number of turns, the units do what the routines do, as soon as points

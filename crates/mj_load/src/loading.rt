@@ -23,7 +23,8 @@ pub enum LoadError {
     Memory { routines: Vec<Routine> },
 }
 
-/// An image of these routines.
+/// An image of these routines. Each is within the limits if `mj_rou::read` gave it, whose clauses `name` and `lines` say so. No call tests
+/// it again.
 pub fn load(alloc: Global, mut routines: Vec<Routine>) -> Result<Image, LoadError>
     requires { All IsWithinLimits routines.items }
     ensures ok { IfOk result (λ image. image.routines ≡ routines.items) }
@@ -42,7 +43,8 @@ pub fn load(alloc: Global, mut routines: Vec<Routine>) -> Result<Image, LoadErro
 
 // The place of the first routine whose name an earlier one has.
 fn second(routines: &[Routine]) -> Option<usize>
-    ensures { MatchOption result (repeated [] (names_of routines.now) ≡ None) (λ k. (k < length routines.now) × ((d : Routine) → repeated [] (names_of routines.now) ≡ Some (slice_index_or routines.now k d).name)) }
+    ensures { MatchOption result (repeated [] (names_of routines.now) ≡ None) (λ k. (k < length routines.now)
+        × ((d : Routine) → repeated [] (names_of routines.now) ≡ Some (slice_index_or routines.now k d).name)) }
 {
     for (k, routine) in routines.iter().enumerate() {
         if has_name(&routines[..k], &routine.name) {

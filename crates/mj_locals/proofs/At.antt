@@ -20,7 +20,10 @@ room_placed [] w nodes v = refl
 room_placed (k ∷ ks) w nodes v =
     elim (is_eq (W w k.0)) as (λ b. is_some (lookup (is_at (W v)) (cond b ((k.0, nodes) ∷ ks) (k ∷ placed ks w nodes))) ≡ is_some (cond (is_eq (W v k.0)) (Some k.1) (lookup (is_at (W v)) ks))) [
       | true ↦ elim (is_eq (W v k.0)) as (λ b. is_some (cond b (Some nodes) (lookup (is_at (W v)) ks)) ≡ is_some (cond b (Some k.1) (lookup (is_at (W v)) ks))) [ true ↦ refl | false ↦ refl ]
-      | false ↦ elim (is_eq (W v k.0)) as (λ b. is_some (cond b (Some k.1) (lookup (is_at (W v)) (placed ks w nodes))) ≡ is_some (cond b (Some k.1) (lookup (is_at (W v)) ks))) [ true ↦ refl | false ↦ room_placed ks w nodes v ]
+      | false ↦ elim (is_eq (W v k.0)) as (λ b. is_some (cond b (Some k.1) (lookup (is_at (W v)) (placed ks w nodes))) ≡ is_some (cond b (Some k.1) (lookup (is_at (W v)) ks))) [
+        | true ↦ refl
+        | false ↦ room_placed ks w nodes v
+      ]
     ]
 
 -- another word keeps its nodes
@@ -28,16 +31,21 @@ pub at_other : (ts : Trees) (w : List ℕ) (nodes : Subtree) (v : List ℕ) → 
 at_other [] w nodes v ne = refl
 at_other (k ∷ ks) w nodes v ne = by (at_other ks w nodes v ne) (is_eq (W w k.0)) refl
   where
-    by : at (placed ks w nodes) v ≡ at ks v → (b : Bool) → is_eq (W w k.0) ≡ b → nodes_of (lookup (is_at (W v)) (cond b ((k.0, nodes) ∷ ks) (k ∷ placed ks w nodes))) ≡ nodes_of (cond (is_eq (W v k.0)) (Some k.1) (lookup (is_at (W v)) ks))
+    by : at (placed ks w nodes) v ≡ at ks v → (b : Bool) → is_eq (W w k.0) ≡ b
+        → nodes_of (lookup (is_at (W v)) (cond b ((k.0, nodes) ∷ ks) (k ∷ placed ks w nodes))) ≡ nodes_of (cond (is_eq (W v k.0)) (Some k.1) (lookup (is_at (W v)) ks))
     by rest true e =
         let apart : is_eq (W v k.0) ≡ false = ap (λ x. is_eq (W v x)) (sym (same_word w k.0 e)) ∙ ne in
         (λ i. nodes_of (cond (apart i) (Some nodes) (lookup (is_at (W v)) ks))) ∙ sym (ap (λ b. nodes_of (cond b (Some k.1) (lookup (is_at (W v)) ks))) apart)
-    by rest false e = elim (is_eq (W v k.0)) as (λ b. nodes_of (cond b (Some k.1) (lookup (is_at (W v)) (placed ks w nodes))) ≡ nodes_of (cond b (Some k.1) (lookup (is_at (W v)) ks))) [ true ↦ refl | false ↦ rest ]
+    by rest false e = elim (is_eq (W v k.0)) as (λ b. nodes_of (cond b (Some k.1) (lookup (is_at (W v)) (placed ks w nodes))) ≡ nodes_of (cond b (Some k.1) (lookup (is_at (W v)) ks))) [
+      | true ↦ refl
+      | false ↦ rest
+    ]
 
 at_same : (ts : Trees) (w : List ℕ) (nodes : Subtree) → has_room ts w ≡ true → at (placed ts w nodes) w ≡ nodes
 at_same [] w nodes h = absurd cc
 at_same (k ∷ ks) w nodes h =
-    elim (is_eq (W w k.0)) as (λ b. is_eq (W w k.0) ≡ b → is_some (cond b (Some k.1) (lookup (is_at (W w)) ks)) ≡ true → nodes_of (lookup (is_at (W w)) (cond b ((k.0, nodes) ∷ ks) (k ∷ placed ks w nodes))) ≡ nodes) [
+    elim (is_eq (W w k.0)) as (λ b. is_eq (W w k.0) ≡ b
+    → is_some (cond b (Some k.1) (lookup (is_at (W w)) ks)) ≡ true → nodes_of (lookup (is_at (W w)) (cond b ((k.0, nodes) ∷ ks) (k ∷ placed ks w nodes))) ≡ nodes) [
       | true ↦ λ e r. ap (λ b. nodes_of (cond b (Some nodes) (lookup (is_at (W w)) ks))) e
       | false ↦ λ e r. ap (λ b. nodes_of (cond b (Some k.1) (lookup (is_at (W w)) (placed ks w nodes)))) e ∙ at_same ks w nodes r
     ] refl h
@@ -64,7 +72,8 @@ at_placed ts w nodes v h = by (is_eq (W v w)) refl
 pub lookup_pushed : (ts : Trees) (k : List ℕ × Subtree) (v : List ℕ) → lookup (is_at (W v)) (ts ++ k ∷ []) ≡ cond (has_room ts v) (lookup (is_at (W v)) ts) (cond (is_eq (W v k.0)) (Some k.1) None)
 lookup_pushed [] k v = refl
 lookup_pushed (x ∷ xs) k v =
-    elim (is_eq (W v x.0)) as (λ b. cond b (Some x.1) (lookup (is_at (W v)) (xs ++ k ∷ [])) ≡ cond (is_some (cond b (Some x.1) (lookup (is_at (W v)) xs))) (cond b (Some x.1) (lookup (is_at (W v)) xs)) (cond (is_eq (W v k.0)) (Some k.1) None)) [
+    elim (is_eq (W v x.0)) as (λ b. cond b (Some x.1) (lookup (is_at (W v)) (xs ++ k ∷ []))
+    ≡ cond (is_some (cond b (Some x.1) (lookup (is_at (W v)) xs))) (cond b (Some x.1) (lookup (is_at (W v)) xs)) (cond (is_eq (W v k.0)) (Some k.1) None)) [
       | true ↦ refl
       | false ↦ lookup_pushed xs k v
     ]
@@ -150,7 +159,8 @@ at_all_put [] ts v h = refl
 at_all_put (k ∷ ks) ts v h =
     at_placed (all_put ks ts) k.0 k.1 v (room_all_put ks ts k.0 ∙ h.0)
     ∙ ap (λ (n : Subtree). cond (is_eq (W v k.0)) k.1 n) (at_all_put ks ts v h.1)
-    ∙ elim (is_eq (W v k.0)) as (λ b. cond b k.1 (cond (has_room ks v) (at ks v) (at ts v)) ≡ cond (is_some (cond b (Some k.1) (lookup (is_at (W v)) ks))) (nodes_of (cond b (Some k.1) (lookup (is_at (W v)) ks))) (at ts v)) [ true ↦ refl | false ↦ refl ]
+    ∙ elim (is_eq (W v k.0)) as (λ b. cond b k.1 (cond (has_room ks v) (at ks v) (at ts v))
+    ≡ cond (is_some (cond b (Some k.1) (lookup (is_at (W v)) ks))) (nodes_of (cond b (Some k.1) (lookup (is_at (W v)) ks))) (at ts v)) [ true ↦ refl | false ↦ refl ]
 
 pub all_put_pushed : (ks : Trees) (k : List ℕ × Subtree) (ts : Trees) → all_put (ks ++ k ∷ []) ts ≡ all_put ks (placed ts k.0 k.1)
 all_put_pushed [] k ts = refl

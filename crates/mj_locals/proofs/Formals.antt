@@ -37,7 +37,8 @@ values_left (x ∷ xs) (y ∷ ys) zero a f g is = cc
 values_left (x ∷ xs) (y ∷ ys) (suc k) a f g is = values_left xs ys k a (omega arith) (omega arith) is
 
 -- a formal without a value
-pub bound_skip : (xs : List (List ℕ)) (vs : List (Option (List ℕ))) (k : ℕ) (c bs : Content) → k < length xs → k < length vs → get_or vs k None ≡ None → bound (drop k xs) (drop k vs) c ≡ bs → bound (drop (k + 1) xs) (drop (k + 1) vs) c ≡ bs
+pub bound_skip : (xs : List (List ℕ)) (vs : List (Option (List ℕ))) (k : ℕ) (c bs : Content)
+    → k < length xs → k < length vs → get_or vs k None ≡ None → bound (drop k xs) (drop k vs) c ≡ bs → bound (drop (k + 1) xs) (drop (k + 1) vs) c ≡ bs
 bound_skip xs vs k c bs p q none so_far =
     sym (λ i. bound (drop_more xs k [] p i) ((drop_more vs k None q ∙ ap (λ (y : Option (List ℕ)). y ∷ drop (k + 1) vs) none) i) c)
     ∙ so_far

@@ -64,7 +64,8 @@ hides_nothing kept ts hs e =
 pub hides_same : (kept : Option (List (List ℕ))) (ts us xs : Trees) (gs hs js : List Group) → xs ≡ us → js ≡ hs → Hides kept ts us gs hs → Hides kept ts xs gs js
 hides_same kept ts us xs gs hs js e f h = subst (λ (ys : List Group). Hides kept ts xs gs ys) (sym f) (subst (λ (ys : Trees). Hides kept ts ys gs hs) (sym e) h)
 
-pub hides_added : (kept : Option (List (List ℕ))) (ts us : Trees) (w : List ℕ) (gs hs : List Group) → Hides kept ts us gs hs → (Hides kept ts (added us w) gs hs) × (named (added us w) (newest hs) ≡ named us (newest hs))
+pub hides_added : (kept : Option (List (List ℕ))) (ts us : Trees) (w : List ℕ) (gs hs : List Group)
+    → Hides kept ts us gs hs → (Hides kept ts (added us w) gs hs) × (named (added us w) (newest hs) ≡ named us (newest hs))
 hides_added kept ts us w gs hs h =
     let same : named (added us w) (newest hs) ≡ named us (newest hs) = named_grown us (added us w) (newest hs) h.2 (grows_added us w) in (
       (
@@ -78,7 +79,8 @@ hides_added kept ts us w gs hs h =
     )
 
 -- a word goes whose place this is
-module _ (kept : Option (List (List ℕ))) (ts us : Trees) (gs hs : List Group) (h : Hides kept ts us gs hs) (p : ℕ) (less : p < length us) (xs : Trees) (js : List Group) (gone : xs ≡ placed us (word_at us p) []) (kept_it : js ≡ saved (p, at us (word_at us p)) hs) where
+module _ (kept : Option (List (List ℕ))) (ts us : Trees) (gs hs : List Group) (h : Hides kept ts us gs hs)
+    (p : ℕ) (less : p < length us) (xs : Trees) (js : List Group) (gone : xs ≡ placed us (word_at us p) []) (kept_it : js ≡ saved (p, at us (word_at us p)) hs) where
   w : List ℕ
   w = word_at us p
 
@@ -153,7 +155,8 @@ words_pushed [] k = refl
 words_pushed (x ∷ xs) k = ap (λ (r : List (List ℕ)). x.0 ∷ r) (words_pushed xs k)
 
 -- a word of a list, which gets a place first
-pub only_next : (vs : List (List ℕ)) (ts us ys xs : Trees) (gs hs js : List Group) (w : List ℕ) (p : ℕ) → HidesOnly vs ts us gs hs → ys ≡ added us w → IsPlace w p ys → xs ≡ placed ys (word_at ys p) [] → js ≡ saved (p, at ys (word_at ys p)) hs → HidesOnly (vs ++ w ∷ []) ts xs gs js
+pub only_next : (vs : List (List ℕ)) (ts us ys xs : Trees) (gs hs js : List Group) (w : List ℕ) (p : ℕ)
+    → HidesOnly vs ts us gs hs → ys ≡ added us w → IsPlace w p ys → xs ≡ placed ys (word_at ys p) [] → js ≡ saved (p, at ys (word_at ys p)) hs → HidesOnly (vs ++ w ∷ []) ts xs gs js
 only_next vs ts us ys xs gs hs js w p h e place gone kept_it =
     let more = hides_added None ts us w gs hs h.0 in
     let g : Hides None ts ys gs hs = subst (λ (zs : Trees). Hides None ts zs gs hs) (sym e) more.0 in
@@ -180,7 +183,8 @@ others_nothing ws ts hs e = (
   λ p less. absurd (omega arith),
 )
 
-pub others_next : (n : ℕ) (ws : List (List ℕ)) (ts us xs : Trees) (gs hs js : List Group) → HidesOthersTo n ws ts us gs hs → n < length ts → n < length us → list_any (bytes_eq (word_at us n)) ws ≡ false → xs ≡ placed us (word_at us n) [] → js ≡ saved (n, at us (word_at us n)) hs → HidesOthersTo (n + 1) ws ts xs gs js
+pub others_next : (n : ℕ) (ws : List (List ℕ)) (ts us xs : Trees) (gs hs js : List Group) → HidesOthersTo n ws ts us gs hs → n < length ts
+    → n < length us → list_any (bytes_eq (word_at us n)) ws ≡ false → xs ≡ placed us (word_at us n) [] → js ≡ saved (n, at us (word_at us n)) hs → HidesOthersTo (n + 1) ws ts xs gs js
 others_next n ws ts us xs gs hs js h below less other gone kept_it =
     let same : word_at us n ≡ word_at ts n = (h.0.0 n below).1 in (
       hides_next (Some ws) ts us gs hs h.0 n less xs js gone kept_it,
@@ -195,7 +199,8 @@ others_next n ws ts us xs gs hs js h below less other gone kept_it =
     )
 
 -- the word of a place is one of those
-pub others_skip : (n : ℕ) (ws : List (List ℕ)) (ts us : Trees) (gs hs : List Group) → HidesOthersTo n ws ts us gs hs → n < length ts → list_any (bytes_eq (word_at us n)) ws ≡ true → HidesOthersTo (n + 1) ws ts us gs hs
+pub others_skip : (n : ℕ) (ws : List (List ℕ)) (ts us : Trees) (gs hs : List Group) → HidesOthersTo n ws ts us gs hs
+    → n < length ts → list_any (bytes_eq (word_at us n)) ws ≡ true → HidesOthersTo (n + 1) ws ts us gs hs
 others_skip n ws ts us gs hs h below among = (
   h.0,
   h.1,
@@ -203,7 +208,8 @@ others_skip n ws ts us gs hs h below among = (
     | inl before ↦ h.2 q before covered
     | inr not_before ↦
         let here : q ≡ n = omega arith in
-        let no : not (list_any (bytes_eq (word_at ts q)) ws) ≡ false = ap (λ r. not (list_any (bytes_eq (word_at ts r)) ws)) here ∙ ap (λ (v : List ℕ). not (list_any (bytes_eq v) ws)) (sym (h.0.0 n below).1) ∙ ap not among in
+        let no : not (list_any (bytes_eq (word_at ts q)) ws) ≡ false =
+        ap (λ r. not (list_any (bytes_eq (word_at ts r)) ws)) here ∙ ap (λ (v : List ℕ). not (list_any (bytes_eq v) ws)) (sym (h.0.0 n below).1) ∙ ap not among in
         let yes : not (list_any (bytes_eq (word_at ts q)) ws) ≡ true = covered in
         let both : false ≡ true = sym no ∙ yes in
         absurd cc

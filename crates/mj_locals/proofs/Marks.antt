@@ -80,14 +80,16 @@ reduced_same : (gs : List Group) → gs ≡ reduced (newest gs) gs
 reduced_same [] = refl
 reduced_same (g ∷ gs) = refl
 
-pub popped_newest : (ms : List NewMark) (ps qs : Pairs) (r : Option (ℕ × Subtree)) → ps ≡ qs ++ option_to_list r → AreDivided ms ps → 0 < length (newest (divided ms ps)) → newest (divided ms ps) ≡ newest (divided ms qs) ++ option_to_list r
+pub popped_newest : (ms : List NewMark) (ps qs : Pairs) (r : Option (ℕ × Subtree))
+    → ps ≡ qs ++ option_to_list r → AreDivided ms ps → 0 < length (newest (divided ms ps)) → newest (divided ms ps) ≡ newest (divided ms qs) ++ option_to_list r
 popped_newest ms ps qs None e h n = ap (λ (xs : Pairs). newest (divided ms xs)) (e ∙ append_nil qs) ∙ sym (append_nil (newest (divided ms qs)))
 popped_newest ms ps qs (Some x) e h n =
     let k = popped_keeps ms ps qs (Some x) e h n in
     let is : divided ms ps ≡ saved x (divided ms qs) = ap (divided ms) e ∙ divided_pushed ms qs x k.0 in
     ap newest is ∙ newest_saved (divided ms qs) x (subst (λ (gs : List Group). 0 < length (newest gs)) is n)
 
-pub popped_rest : (ms : List NewMark) (ps qs : Pairs) (r : Option (ℕ × Subtree)) → ps ≡ qs ++ option_to_list r → AreDivided ms ps → 0 < length (newest (divided ms ps)) → divided ms qs ≡ reduced (newest (divided ms qs)) (divided ms ps)
+pub popped_rest : (ms : List NewMark) (ps qs : Pairs) (r : Option (ℕ × Subtree))
+    → ps ≡ qs ++ option_to_list r → AreDivided ms ps → 0 < length (newest (divided ms ps)) → divided ms qs ≡ reduced (newest (divided ms qs)) (divided ms ps)
 popped_rest ms ps qs None e h n = reduced_same (divided ms qs) ∙ ap (λ (xs : Pairs). reduced (newest (divided ms qs)) (divided ms xs)) (sym (e ∙ append_nil qs))
 popped_rest ms ps qs (Some x) e h n =
     let k = popped_keeps ms ps qs (Some x) e h n in
@@ -99,7 +101,8 @@ newest_short [] ps = omega arith
 newest_short (m ∷ ms) ps = omega (arith, length-drop m.start ps)
 
 -- where nothing goes the newest group has no tree
-pub popped_none : (r : Option (ℕ × Subtree)) (n : ℕ) (P : Type 0) (Q : ℕ × Subtree → Type 0) (ms : List NewMark) (ps : Pairs) (X : Type 0) → MatchOption r ((n ≡ 0) × P) Q → n ≡ length ps → 0 < length (newest (divided ms ps)) → IfNone r X
+pub popped_none : (r : Option (ℕ × Subtree)) (n : ℕ) (P : Type 0) (Q : ℕ × Subtree → Type 0) (ms : List NewMark) (ps : Pairs) (X : Type 0)
+    → MatchOption r ((n ≡ 0) × P) Q → n ≡ length ps → 0 < length (newest (divided ms ps)) → IfNone r X
 popped_none None n P Q ms ps X h e some = absurd (omega (arith, h.0, newest_short ms ps))
 popped_none (Some x) n P Q ms ps X h e some = tt
 
@@ -115,7 +118,8 @@ no_marks : (xs : List NewMark) → length xs ≡ 0 → xs ≡ []
 no_marks [] e = refl
 no_marks (x ∷ xs) e = absurd (omega arith)
 
-pub ended : (xs ys : List NewMark) (ps : Pairs) (r : Option NewMark) → xs ≡ ys ++ option_to_list r → (r ≡ None → length xs ≡ 0) → newest (divided (reverse xs) ps) ≡ [] → divided (reverse ys) ps ≡ rest (divided (reverse xs) ps)
+pub ended : (xs ys : List NewMark) (ps : Pairs) (r : Option NewMark) → xs ≡ ys ++ option_to_list r → (r ≡ None → length xs ≡ 0) → newest (divided (reverse xs) ps) ≡ []
+    → divided (reverse ys) ps ≡ rest (divided (reverse xs) ps)
 ended xs ys ps None e none n =
     let ex : xs ≡ [] = no_marks xs (none refl) in
     let ey : ys ≡ [] = sym (append_nil ys) ∙ sym e ∙ ex in
@@ -125,7 +129,8 @@ ended xs ys ps (Some m) e none n =
     let all : take m.start ps ≡ ps = all_taken m.start ps (ap (λ (zs : List NewMark). newest (divided zs ps)) (sym turned) ∙ n) in
     ap (divided (reverse ys)) (sym all) ∙ sym (ap (λ (zs : List NewMark). rest (divided zs ps)) turned)
 
-pub ended_keeps : (xs ys : List NewMark) (ps : Pairs) (r : Option NewMark) → xs ≡ ys ++ option_to_list r → newest (divided (reverse xs) ps) ≡ [] → AreDivided (reverse xs) ps → AreDivided (reverse ys) ps
+pub ended_keeps : (xs ys : List NewMark) (ps : Pairs) (r : Option NewMark) → xs ≡ ys ++ option_to_list r
+    → newest (divided (reverse xs) ps) ≡ [] → AreDivided (reverse xs) ps → AreDivided (reverse ys) ps
 ended_keeps xs ys ps None e n h = subst (λ (zs : List NewMark). AreDivided (reverse zs) ps) (e ∙ append_nil ys) h
 ended_keeps xs ys ps (Some m) e n h =
     let turned : reverse xs ≡ m ∷ reverse ys = ap (λ (zs : List NewMark). reverse zs) e ∙ last_first ys m in

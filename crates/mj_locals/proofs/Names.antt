@@ -43,12 +43,15 @@ pub find_local : (ts : Trees) → T (is_sorted W ts) → (n : Name) → find nam
 find_local ts h n = by n.global refl
   where
     by : (g : Bool) → n.global ≡ g → find name_cmp n (of_kind false ts) ≡ cond n.global None (find S n.subscripts (at ts n.word))
-    by true e = ap (λ g. find name_cmp (name g n.word n.subscripts) (of_kind false ts)) e ∙ no_global n.word n.subscripts ts ∙ sym (ap (λ (g : Bool). cond g None (find S n.subscripts (at ts n.word))) e)
-    by false e = ap (λ g. find name_cmp (name g n.word n.subscripts) (of_kind false ts)) e ∙ find_kind false n.word n.subscripts ts h ∙ sym (ap (λ (g : Bool). cond g None (find S n.subscripts (at ts n.word))) e)
+    by true e = ap (λ g. find name_cmp (name g n.word n.subscripts) (of_kind false ts)) e
+        ∙ no_global n.word n.subscripts ts ∙ sym (ap (λ (g : Bool). cond g None (find S n.subscripts (at ts n.word))) e)
+    by false e = ap (λ g. find name_cmp (name g n.word n.subscripts) (of_kind false ts)) e
+        ∙ find_kind false n.word n.subscripts ts h ∙ sym (ap (λ (g : Bool). cond g None (find S n.subscripts (at ts n.word))) e)
 
 -- ---- names rise
 
-below_word : (n : Name) (w : List ℕ) (nodes : Subtree) (rest : Content) → ((p : List (List ℕ)) → T (is_lt (name_cmp n (name false w p)))) → T (below_all name_cmp n rest) → T (below_all name_cmp n (of_word false w nodes ++ rest))
+below_word : (n : Name) (w : List ℕ) (nodes : Subtree) (rest : Content) → ((p : List (List ℕ)) → T (is_lt (name_cmp n (name false w p)))) → T (below_all name_cmp n rest)
+    → T (below_all name_cmp n (of_word false w nodes ++ rest))
 below_word n w [] rest f h = h
 below_word n w (e ∷ es) rest f h = both_so (is_lt (name_cmp n (name false w e.0))) _ (f e.0) (below_word n w es rest f h)
 
@@ -59,14 +62,16 @@ below_kind : (s : List ℕ) (p : List (List ℕ)) (ts : Trees) → T (below_all 
 below_kind s p [] h = tt
 below_kind s p (k ∷ ks) h = below_word (name false s p) k.0 k.1 (of_kind false ks) (λ q. later_word s k.0 p q (first_so _ _ h)) (below_kind s p ks (second_so _ _ h))
 
-below_own : (w : List ℕ) (p : List (List ℕ)) (nodes : Subtree) (rest : Content) → T (below_all S p nodes) → T (below_all name_cmp (name false w p) rest) → T (below_all name_cmp (name false w p) (of_word false w nodes ++ rest))
+below_own : (w : List ℕ) (p : List (List ℕ)) (nodes : Subtree) (rest : Content)
+    → T (below_all S p nodes) → T (below_all name_cmp (name false w p) rest) → T (below_all name_cmp (name false w p) (of_word false w nodes ++ rest))
 below_own w p [] rest b h = h
 below_own w p (e ∷ es) rest b h =
     both_so (is_lt (name_cmp (name false w p) (name false w e.0))) _
     (subst (λ r. T (is_lt r)) (sym (name_apart false w w p e.0 ∙ ap (λ r. ordering_then r (S p e.0)) (tied_itself nat_list_cmp_total w))) (first_so _ _ b))
     (below_own w p es rest (second_so _ _ b) h)
 
-sorted_word : (w : List ℕ) (nodes : Subtree) (rest : Content) → T (is_sorted S nodes) → ((p : List (List ℕ)) → T (below_all name_cmp (name false w p) rest)) → T (is_sorted name_cmp rest) → T (is_sorted name_cmp (of_word false w nodes ++ rest))
+sorted_word : (w : List ℕ) (nodes : Subtree) (rest : Content) → T (is_sorted S nodes)
+    → ((p : List (List ℕ)) → T (below_all name_cmp (name false w p) rest)) → T (is_sorted name_cmp rest) → T (is_sorted name_cmp (of_word false w nodes ++ rest))
 sorted_word w [] rest s f h = h
 sorted_word w (e ∷ es) rest s f h =
     both_so (below_all name_cmp (name false w e.0) (of_word false w es ++ rest)) _ (below_own w e.0 es rest (first_so _ _ s) (f e.0)) (sorted_word w es rest (second_so _ _ s) f h)
@@ -133,12 +138,14 @@ picked p ts us h g is =
     by n false false e = ap (find S n.subscripts) e
 
 -- what is put back
-pub restored : (v : Words) (ts now us : Trees) → AreRising ts → AreRising now → AreRising us → ((w : List ℕ) → at us w ≡ cond (covers v w) (at ts w) (at now w)) → of_kind false us ≡ put_back (record { words = v; locals = of_kind false ts }) (of_kind false now)
+pub restored : (v : Words) (ts now us : Trees) → AreRising ts → AreRising now → AreRising us
+    → ((w : List ℕ) → at us w ≡ cond (covers v w) (at ts w) (at now w)) → of_kind false us ≡ put_back (record { words = v; locals = of_kind false ts }) (of_kind false now)
 restored v ts now us h k g is =
     let old = filter (λ e. covers v e.0.word) (of_kind false ts) in
     let rest = filter (λ e. not (covers v e.0.word)) (of_kind false now) in
     let rises : T (is_sorted name_cmp old) = sorted_among (covers v) (of_kind false ts) (names_rise ts h.0 h.1) in
-    same_content (of_kind false us) (put_back (record { words = v; locals = of_kind false ts }) (of_kind false now)) (names_rise us g.0 g.1) (sorted_all_set old rest (sorted_among (λ w. not (covers v w)) (of_kind false now) (names_rise now k.0 k.1)))
+    same_content (of_kind false us) (put_back (record { words = v; locals = of_kind false ts }) (of_kind false now))
+    (names_rise us g.0 g.1) (sorted_all_set old rest (sorted_among (λ w. not (covers v w)) (of_kind false now) (names_rise now k.0 k.1)))
     (λ n. find_local us g.0 n ∙ by n n.global (covers v n.word) (is n.word)
     ∙ sym (find_all_set old rest n rises
     ∙ (λ i. or_else
@@ -149,7 +156,8 @@ restored v ts now us h k g is =
     itself None = refl
     itself (Some x) = refl
 
-    by : (n : Name) (g b : Bool) → at us n.word ≡ cond b (at ts n.word) (at now n.word) → cond g None (find S n.subscripts (at us n.word)) ≡ or_else (cond b (cond g None (find S n.subscripts (at ts n.word))) None) (cond (not b) (cond g None (find S n.subscripts (at now n.word))) None)
+    by : (n : Name) (g b : Bool) → at us n.word ≡ cond b (at ts n.word) (at now n.word) → cond g None (find S n.subscripts (at us n.word))
+        ≡ or_else (cond b (cond g None (find S n.subscripts (at ts n.word))) None) (cond (not b) (cond g None (find S n.subscripts (at now n.word))) None)
     by n true true e = refl
     by n true false e = refl
     by n false true e = ap (find S n.subscripts) e ∙ itself _

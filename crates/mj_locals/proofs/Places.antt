@@ -36,7 +36,8 @@ pub placing : (ts : Trees) (w : List ℕ) (p : ℕ) → place_of w ts ≡ Some p
 placing [] w p e = absurd cc
 placing (k ∷ ks) w p e = by (placing ks w) (is_eq (W w k.0)) refl (place_of w ks) refl
   where
-    by : ((q : ℕ) → place_of w ks ≡ Some q → (q < length ks) × (word_at ks q ≡ w) × (lookup (is_at (W w)) ks ≡ Some (get_or ks q ([], [])).1)) → (b : Bool) → is_eq (W w k.0) ≡ b → (o : Option ℕ) → place_of w ks ≡ o → (p < length (k ∷ ks)) × (word_at (k ∷ ks) p ≡ w) × (lookup (is_at (W w)) (k ∷ ks) ≡ Some (get_or (k ∷ ks) p ([], [])).1)
+    by : ((q : ℕ) → place_of w ks ≡ Some q → (q < length ks) × (word_at ks q ≡ w) × (lookup (is_at (W w)) ks ≡ Some (get_or ks q ([], [])).1)) → (b : Bool) → is_eq (W w k.0) ≡ b
+        → (o : Option ℕ) → place_of w ks ≡ o → (p < length (k ∷ ks)) × (word_at (k ∷ ks) p ≡ w) × (lookup (is_at (W w)) (k ∷ ks) ≡ Some (get_or (k ∷ ks) p ([], [])).1)
     by so_below true is o f =
         let zero_is : 0 ≡ p = let s : Some 0 ≡ Some p = ap (λ b. cond b (Some 0) (option_map suc (place_of w ks))) (sym is) ∙ e in cc in
         subst (λ q. (q < length (k ∷ ks)) × (word_at (k ∷ ks) q ≡ w) × (lookup (is_at (W w)) (k ∷ ks) ≡ Some (get_or (k ∷ ks) q ([], [])).1)) zero_is
@@ -112,7 +113,8 @@ pub written : (ts : Trees) (w : List ℕ) (p : ℕ) (n : Subtree) → place_of w
 written [] w p n e = absurd cc
 written (k ∷ ks) w p n e = by (λ q. written ks w q n) (is_eq (W w k.0)) refl (place_of w ks) refl
   where
-    by : ((q : ℕ) → place_of w ks ≡ Some q → slice_set ks q (w, n) ≡ placed ks w n) → (b : Bool) → is_eq (W w k.0) ≡ b → (o : Option ℕ) → place_of w ks ≡ o → slice_set (k ∷ ks) p (w, n) ≡ placed (k ∷ ks) w n
+    by : ((q : ℕ) → place_of w ks ≡ Some q → slice_set ks q (w, n) ≡ placed ks w n) → (b : Bool)
+        → is_eq (W w k.0) ≡ b → (o : Option ℕ) → place_of w ks ≡ o → slice_set (k ∷ ks) p (w, n) ≡ placed (k ∷ ks) w n
     by below true is o f =
         let zero_is : 0 ≡ p = let s : Some 0 ≡ Some p = ap (λ b. cond b (Some 0) (option_map suc (place_of w ks))) (sym is) ∙ e in cc in
         subst (λ q. slice_set (k ∷ ks) q (w, n) ≡ placed (k ∷ ks) w n) zero_is
@@ -169,16 +171,22 @@ module _ (rows : Trees) (es : List (Vec ℕ Global × ℕ)) (h : ArePlaced es ro
 
 -- ---- a row for a word that had none
 
-pub found : (es : List (Vec ℕ Global × ℕ)) (key : Vec ℕ Global) (p : ℕ) (v : List ℕ) → lookup (is_at (λ (k : Vec ℕ Global). W key.items k.items)) es ≡ None → lookup (is_at (λ (k : Vec ℕ Global). W v k.items)) (insert_entry (λ (x y : Vec ℕ Global). W x.items y.items) es key p) ≡ cond (is_eq (W v key.items)) (Some p) (lookup (is_at (λ (k : Vec ℕ Global). W v k.items)) es)
+pub found : (es : List (Vec ℕ Global × ℕ)) (key : Vec ℕ Global) (p : ℕ) (v : List ℕ) → lookup (is_at (λ (k : Vec ℕ Global). W key.items k.items)) es ≡ None
+    → lookup (is_at (λ (k : Vec ℕ Global). W v k.items)) (insert_entry (λ (x y : Vec ℕ Global). W x.items y.items) es key p)
+    ≡ cond (is_eq (W v key.items)) (Some p) (lookup (is_at (λ (k : Vec ℕ Global). W v k.items)) es)
 found [] key p v none = refl
 found (k ∷ ks) key p v none =
-    elim (W key.items k.0.items) as (λ r. W key.items k.0.items ≡ r → cond (is_eq r) (Some k.1) (lookup (is_at (λ (x : Vec ℕ Global). W key.items x.items)) ks) ≡ None → lookup (is_at (λ (x : Vec ℕ Global). W v x.items)) (match_ordering r ((key, p) ∷ k ∷ ks) ((k.0, p) ∷ ks) (k ∷ insert_entry (λ (x y : Vec ℕ Global). W x.items y.items) ks key p)) ≡ cond (is_eq (W v key.items)) (Some p) (lookup (is_at (λ (x : Vec ℕ Global). W v x.items)) (k ∷ ks))) [
+    elim (W key.items k.0.items) as (λ r. W key.items k.0.items ≡ r → cond (is_eq r) (Some k.1) (lookup (is_at (λ (x : Vec ℕ Global). W key.items x.items)) ks) ≡ None
+    → lookup (is_at (λ (x : Vec ℕ Global). W v x.items)) (match_ordering r ((key, p) ∷ k ∷ ks) ((k.0, p) ∷ ks) (k ∷ insert_entry (λ (x y : Vec ℕ Global). W x.items y.items) ks key p))
+    ≡ cond (is_eq (W v key.items)) (Some p) (lookup (is_at (λ (x : Vec ℕ Global). W v x.items)) (k ∷ ks))) [
       | Less ↦ λ e l. refl
       | Equal ↦ λ e l. absurd cc
       | Greater ↦ λ e l. ap (λ (o : Option ℕ). cond (is_eq (W v k.0.items)) (Some k.1) o) (found ks key p v l) ∙ swap (is_eq (W v k.0.items)) (is_eq (W v key.items)) refl refl e
     ] refl none
   where
-    swap : (a b : Bool) → is_eq (W v k.0.items) ≡ a → is_eq (W v key.items) ≡ b → W key.items k.0.items ≡ Greater → cond a (Some k.1) (cond b (Some p) (lookup (is_at (λ (x : Vec ℕ Global). W v x.items)) ks)) ≡ cond b (Some p) (cond a (Some k.1) (lookup (is_at (λ (x : Vec ℕ Global). W v x.items)) ks))
+    swap : (a b : Bool) → is_eq (W v k.0.items) ≡ a
+        → is_eq (W v key.items) ≡ b → W key.items k.0.items ≡ Greater → cond a (Some k.1) (cond b (Some p) (lookup (is_at (λ (x : Vec ℕ Global). W v x.items)) ks))
+        ≡ cond b (Some p) (cond a (Some k.1) (lookup (is_at (λ (x : Vec ℕ Global). W v x.items)) ks))
     swap true true f g e =
         let tied : W key.items k.0.items ≡ Equal = ap (λ x. W key.items x) (sym (same_word v k.0.items f)) ∙ ap (λ x. W x v) (sym (same_word v key.items g)) ∙ tied_itself nat_list_cmp_total v in
         absurd (cc (tied, e))
@@ -189,7 +197,8 @@ place_pushed : (ts : Trees) (w v : List ℕ) (n : Subtree) → place_of w ts ≡
 place_pushed [] w v n none = refl
 place_pushed (k ∷ ks) w v n none = by (place_pushed ks w v n) (is_eq (W w k.0)) refl (place_of w ks) refl
   where
-    swap : (a b : Bool) → is_eq (W v k.0) ≡ a → is_eq (W v w) ≡ b → is_eq (W w k.0) ≡ false → cond a (Some 0) (option_map suc (cond b (Some (length ks)) (place_of v ks))) ≡ cond b (Some (suc (length ks))) (cond a (Some 0) (option_map suc (place_of v ks)))
+    swap : (a b : Bool) → is_eq (W v k.0) ≡ a → is_eq (W v w) ≡ b → is_eq (W w k.0) ≡ false
+        → cond a (Some 0) (option_map suc (cond b (Some (length ks)) (place_of v ks))) ≡ cond b (Some (suc (length ks))) (cond a (Some 0) (option_map suc (place_of v ks)))
     swap true true f g e =
         let tied : is_eq (W w k.0) ≡ true = ap (λ x. is_eq (W x k.0)) (sym (same_word v w g)) ∙ f in
         absurd (cc (tied, e))
@@ -197,7 +206,8 @@ place_pushed (k ∷ ks) w v n none = by (place_pushed ks w v n) (is_eq (W w k.0)
     swap false true f g e = refl
     swap false false f g e = refl
 
-    by : (place_of w ks ≡ None → place_of v (ks ++ (w, n) ∷ []) ≡ cond (is_eq (W v w)) (Some (length ks)) (place_of v ks)) → (b : Bool) → is_eq (W w k.0) ≡ b → (o : Option ℕ) → place_of w ks ≡ o → place_of v ((k ∷ ks) ++ (w, n) ∷ []) ≡ cond (is_eq (W v w)) (Some (length (k ∷ ks))) (place_of v (k ∷ ks))
+    by : (place_of w ks ≡ None → place_of v (ks ++ (w, n) ∷ []) ≡ cond (is_eq (W v w)) (Some (length ks)) (place_of v ks)) → (b : Bool)
+        → is_eq (W w k.0) ≡ b → (o : Option ℕ) → place_of w ks ≡ o → place_of v ((k ∷ ks) ++ (w, n) ∷ []) ≡ cond (is_eq (W v w)) (Some (length (k ∷ ks))) (place_of v (k ∷ ks))
     by below true is o f =
         let s : Some 0 ≡ None = ap (λ b. cond b (Some 0) (option_map suc (place_of w ks))) (sym is) ∙ none in
         absurd cc
@@ -240,13 +250,15 @@ module _ (rows : Trees) (es : List (Vec ℕ Global × ℕ)) (h : ArePlaced es ro
         ∙ pushed_place w ∙ ap (λ b. cond b (Some (length rows)) (place_of w rows)) (itself w) ∙ ap (λ q. Some q) (sym last)
   ]
     where
-      by : (q : ℕ) → place_of (word_at rows q) rows ≡ Some q → (b : Bool) → is_eq (W (word_at rows q) w) ≡ b → cond (is_eq (W (word_at rows q) w)) (Some (length rows)) (place_of (word_at rows q) rows) ≡ Some q
+      by : (q : ℕ) → place_of (word_at rows q) rows ≡ Some q → (b : Bool) → is_eq (W (word_at rows q) w) ≡ b
+          → cond (is_eq (W (word_at rows q) w)) (Some (length rows)) (place_of (word_at rows q) rows) ≡ Some q
       by q old true e =
           let no : Some q ≡ None = sym old ∙ ap (λ v. place_of v rows) (same_word (word_at rows q) w e) ∙ none in
           absurd cc
       by q old false e = ap (λ b. cond b (Some (length rows)) (place_of (word_at rows q) rows)) e ∙ old
 
-  module _ (key : Vec ℕ Global) (p : ℕ) (k : List ℕ × Subtree) (us : Trees) (fs : List (Vec ℕ Global × ℕ)) (spelled : key.items ≡ w) (counted : p ≡ length rows) (row : k ≡ (w, [])) (pushed : us ≡ rows ++ k ∷ []) (inserted : fs ≡ insert_entry (λ (x y : Vec ℕ Global). W x.items y.items) es key p) where
+  module _ (key : Vec ℕ Global) (p : ℕ) (k : List ℕ × Subtree) (us : Trees) (fs : List (Vec ℕ Global × ℕ)) (spelled : key.items ≡ w)
+      (counted : p ≡ length rows) (row : k ≡ (w, [])) (pushed : us ≡ rows ++ k ∷ []) (inserted : fs ≡ insert_entry (λ (x y : Vec ℕ Global). W x.items y.items) es key p) where
     us_is : us ≡ rows ++ (w, []) ∷ []
     us_is = pushed ∙ ap (λ (x : List ℕ × Subtree). rows ++ x ∷ []) row
 
@@ -280,7 +292,8 @@ pub placed_back : (ts : Trees) (w : List ℕ) (n : Subtree) → placed (placed t
 placed_back [] w n = refl
 placed_back (k ∷ ks) w n = by (placed_back ks w n) (is_eq (W w k.0)) refl
   where
-    by : placed (placed ks w n) w (at ks w) ≡ ks → (b : Bool) → is_eq (W w k.0) ≡ b → placed (cond b ((k.0, n) ∷ ks) (k ∷ placed ks w n)) w (nodes_of (cond b (Some k.1) (lookup (is_at (W w)) ks))) ≡ k ∷ ks
+    by : placed (placed ks w n) w (at ks w) ≡ ks
+        → (b : Bool) → is_eq (W w k.0) ≡ b → placed (cond b ((k.0, n) ∷ ks) (k ∷ placed ks w n)) w (nodes_of (cond b (Some k.1) (lookup (is_at (W w)) ks))) ≡ k ∷ ks
     by below true e = ap (λ b. cond b (k ∷ ks) ((k.0, n) ∷ placed ks w k.1)) e
     by below false e = ap (λ b. cond b ((k.0, at ks w) ∷ placed ks w n) (k ∷ placed (placed ks w n) w (at ks w))) e ∙ ap (λ (r : Trees). k ∷ r) below
 

@@ -37,7 +37,8 @@ seen_grown ts us (x ∷ xs) g h =
     let same : named us x.1 ≡ named ts x.1 = named_grown ts us x.1 h.0 g in
     (λ i. record { words = words_of x.0 (same i); locals = content (same i) } ∷ seen_grown ts us xs g h.2 i)
 
-pub changed : (ts us : Trees) (gs : List Group) (f : Content → Content) (h : Held) → CanBeUndone ts gs → Grows ts us → content us ≡ f (content ts) → held_of ts gs ≡ h → held_of us gs ≡ with_now (f h.now) h
+pub changed : (ts us : Trees) (gs : List Group) (f : Content → Content) (h : Held) → CanBeUndone ts gs
+    → Grows ts us → content us ≡ f (content ts) → held_of ts gs ≡ h → held_of us gs ≡ with_now (f h.now) h
 changed ts us gs f h k g is same = (λ i. record { now = is i; saved = seen_grown ts us gs g k i }) ∙ ap (λ (x : Held). with_now (f x.now) x) same
 
 pub unchanged : (ts us : Trees) (gs : List Group) (h : Held) → CanBeUndone ts gs → Grows ts us → content us ≡ content ts → held_of ts gs ≡ h → held_of us gs ≡ h
@@ -55,7 +56,8 @@ module _ (ts us : Trees) (w : List ℕ) (rises : AreTrees ts) (roomed : us ≡ a
   roomed_content = same_at ts us rises roomed_trees (λ v. ap (λ (xs : Trees). at xs v) roomed ∙ at_added ts w v)
 
   pub roomed_grows : {A E : Type 0} (r : Result A E) (xs : Trees) (v : List ℕ) (n : Subtree) → OnOk r (xs ≡ placed us v n) → OnErr r (xs ≡ us) → Grows ts xs
-  roomed_grows (Ok x) xs v n ok err = subst (Grows ts) (sym (ok ∙ ap (λ (ys : Trees). placed ys v n) roomed)) (grows_on ts (added ts w) (placed (added ts w) v n) (grows_added ts w) (grows_placed (added ts w) v n))
+  roomed_grows (Ok x) xs v n ok err =
+      subst (Grows ts) (sym (ok ∙ ap (λ (ys : Trees). placed ys v n) roomed)) (grows_on ts (added ts w) (placed (added ts w) v n) (grows_added ts w) (grows_placed (added ts w) v n))
   roomed_grows (Err e) xs v n ok err = subst (Grows ts) (sym (err ∙ roomed)) (grows_added ts w)
 
 -- ---- which words those of a group are
@@ -185,11 +187,13 @@ module _ (ts us : Trees) (gs hs : List Group) (ws : List (List ℕ)) (rises : Ar
 
 -- after an `Err` the trees are as they were
 
-pub new_kept : {A E : Type 0} (r : Result A E) (P : Type 0) (ts us : Trees) (gs hs : List Group) → (P → CanBeUndone us hs) → OnOk r P → OnErr r (hs ≡ gs) → Grows ts us → CanBeUndone ts gs → CanBeUndone us hs
+pub new_kept : {A E : Type 0} (r : Result A E) (P : Type 0) (ts us : Trees) (gs hs : List Group)
+    → (P → CanBeUndone us hs) → OnOk r P → OnErr r (hs ≡ gs) → Grows ts us → CanBeUndone ts gs → CanBeUndone us hs
 new_kept (Ok x) P ts us gs hs f ok err g kept = f ok
 new_kept (Err e) P ts us gs hs f ok err g kept = subst (CanBeUndone us) (sym err) (undone_grown ts us gs g kept)
 
-pub new_refused : {A E : Type 0} (r : Result A E) (ts us : Trees) (gs hs : List Group) (h : Held) → OnErr r (hs ≡ gs) → OnErr r ((v : List ℕ) → at us v ≡ at ts v) → Grows ts us → AreTrees ts → AreTrees us → CanBeUndone ts gs → held_of ts gs ≡ h → OnErr r (held_of us hs ≡ h)
+pub new_refused : {A E : Type 0} (r : Result A E) (ts us : Trees) (gs hs : List Group) (h : Held)
+    → OnErr r (hs ≡ gs) → OnErr r ((v : List ℕ) → at us v ≡ at ts v) → Grows ts us → AreTrees ts → AreTrees us → CanBeUndone ts gs → held_of ts gs ≡ h → OnErr r (held_of us hs ≡ h)
 new_refused (Ok x) ts us gs hs h same same_nodes g rises rises_now kept is = tt
 new_refused (Err e) ts us gs hs h same same_nodes g rises rises_now kept is =
     ap (held_of us) same ∙ unchanged ts us gs h kept g (same_at ts us rises rises_now same_nodes) is
@@ -221,7 +225,8 @@ grows_put ks ts kept =
     grows_same ts (all_put ks (kept_of kept ts)) (length_all_put ks (kept_of kept ts) ∙ length_kept kept ts) (λ p. word_all_put ks (kept_of kept ts) p ∙ word_kept kept ts p)
 
 -- each word that the NEW covers is as it was, and all others are as they are
-put_at : (kept : Option (List (List ℕ))) (ts : Trees) (ps : Pairs) → HavePlaces (length ts) ps → AreCovered kept (named ts ps) → (v : List ℕ) → at (all_put (named ts ps) (kept_of kept ts)) v ≡ cond (covers (words_of kept (named ts ps)) v) (at (named ts ps) v) (at ts v)
+put_at : (kept : Option (List (List ℕ))) (ts : Trees) (ps : Pairs) → HavePlaces (length ts) ps
+    → AreCovered kept (named ts ps) → (v : List ℕ) → at (all_put (named ts ps) (kept_of kept ts)) v ≡ cond (covers (words_of kept (named ts ps)) v) (at (named ts ps) v) (at ts v)
 put_at None ts ps places others v =
     at_all_put (named ts ps) ts v (have_room ts ps places)
     ∙ ap (λ b. cond b (at (named ts ps) v) (at ts v)) (room_among (named ts ps) v)
@@ -247,7 +252,8 @@ undo_kept ts us [] hs is left kept = subst (CanBeUndone us) (sym left) tt
 undo_kept ts us (g ∷ gs) hs is left kept =
     subst (CanBeUndone us) (sym left) (undone_grown ts us gs (subst (Grows ts) (sym is) (grows_put (named ts g.1) ts g.0)) kept.2)
 
-pub undo_held : (ts us : Trees) (gs hs : List Group) → us ≡ all_put (named ts (newest gs)) (kept_of (spared_by gs) ts) → hs ≡ rest gs → CanBeUndone ts gs → AreTrees ts → AreTrees us → AreSorted gs → (h : Held) → held_of ts gs ≡ h → held_of us hs ≡ after_undo h
+pub undo_held : (ts us : Trees) (gs hs : List Group) → us ≡ all_put (named ts (newest gs)) (kept_of (spared_by gs) ts)
+    → hs ≡ rest gs → CanBeUndone ts gs → AreTrees ts → AreTrees us → AreSorted gs → (h : Held) → held_of ts gs ≡ h → held_of us hs ≡ after_undo h
 undo_held ts us [] hs is left kept rises rises_now sorted h same = (λ i. held_of (is i) (left i)) ∙ ap after_undo same
 undo_held ts us (g ∷ gs) hs is left kept rises rises_now sorted h same =
     let now : content us ≡ put_back (seen ts g) (content ts) =
@@ -266,7 +272,8 @@ is_only : List Saved → Bool
 is_only [] = false
 is_only (v ∷ vs) = elim v.words [ Only ws ↦ true | AllBut ws ↦ false ]
 
-pub words_of_top : (ts : Trees) (gs : List Group) (ws : List (List ℕ)) (l : Content) (more : List Saved) → map (seen ts) gs ≡ record { words = Only ws; locals = l } ∷ more → map (λ k. k.0) (named ts (newest gs)) ≡ ws
+pub words_of_top : (ts : Trees) (gs : List Group) (ws : List (List ℕ)) (l : Content) (more : List Saved)
+    → map (seen ts) gs ≡ record { words = Only ws; locals = l } ∷ more → map (λ k. k.0) (named ts (newest gs)) ≡ ws
 unfolding listed is_only
 words_of_top ts [] ws l more e = let no : false ≡ true = ap is_only e in absurd cc
 words_of_top ts ((None, ps) ∷ gs) ws l more e = ap listed e

@@ -28,7 +28,8 @@ pub copied_trees : (ws : List (List ℕ)) (ts : Trees) → AreTrees ts → AreTr
 copied_trees [] ts h = tt
 copied_trees (w ∷ ws) ts h = (tree_at ts w h, copied_trees ws ts h)
 
-pub copied_next : (ws : List (List ℕ)) (ts rows : Trees) (k : ℕ) (w : List ℕ) (n : Subtree) → rows ≡ copied (take k ws) ts → k < length ws → take (k + 1) ws ≡ take k ws ++ w ∷ [] → n ≡ at ts w → rows ++ (w, n) ∷ [] ≡ copied (take (k + 1) ws) ts
+pub copied_next : (ws : List (List ℕ)) (ts rows : Trees) (k : ℕ) (w : List ℕ) (n : Subtree)
+    → rows ≡ copied (take k ws) ts → k < length ws → take (k + 1) ws ≡ take k ws ++ w ∷ [] → n ≡ at ts w → rows ++ (w, n) ∷ [] ≡ copied (take (k + 1) ws) ts
 copied_next ws ts rows k w n is less one tree =
     (λ i. is i ++ (w, tree i) ∷ [])
     ∙ sym (map-append (λ v. (v, at ts v)) (take k ws) (w ∷ []))
@@ -42,7 +43,8 @@ at_copied : (ws : List (List ℕ)) (ts : Trees) (v : List ℕ) → at (copied ws
 at_copied [] ts v = refl
 at_copied (w ∷ ws) ts v = by (at_copied ws ts v) (is_eq (W v w)) refl
   where
-    by : at (copied ws ts) v ≡ cond (list_any (bytes_eq v) ws) (at ts v) [] → (b : Bool) → is_eq (W v w) ≡ b → at ((w, at ts w) ∷ copied ws ts) v ≡ cond (bytes_eq v w || list_any (bytes_eq v) ws) (at ts v) []
+    by : at (copied ws ts) v ≡ cond (list_any (bytes_eq v) ws) (at ts v) [] → (b : Bool) → is_eq (W v w) ≡ b
+        → at ((w, at ts w) ∷ copied ws ts) v ≡ cond (bytes_eq v w || list_any (bytes_eq v) ws) (at ts v) []
     by rest true e =
         ap (λ b. nodes_of (cond b (Some (at ts w)) (lookup (is_at (W v)) (copied ws ts)))) e
         ∙ ap (at ts) (sym (same_word v w e))

@@ -22,7 +22,9 @@ all_are_spared ws [] = refl
 all_are_spared ws (k ∷ ks) = ap (λ (r : Trees). (k.0, cond (list_any (bytes_eq k.0) ws) k.1 []) ∷ r) (all_are_spared ws ks)
 
 -- one more place
-pub next_spared : (ws : List (List ℕ)) (n : ℕ) (ts : Trees) → n < length ts → (if list_any (bytes_eq (word_at (first_spared ws n ts) n)) ws then first_spared ws n ts else slice_set (first_spared ws n ts) n (word_at (first_spared ws n ts) n, [])) ≡ first_spared ws (suc n) ts
+pub next_spared : (ws : List (List ℕ)) (n : ℕ) (ts : Trees) → n < length ts
+    → (if list_any (bytes_eq (word_at (first_spared ws n ts) n)) ws then first_spared ws n ts else slice_set (first_spared ws n ts) n (word_at (first_spared ws n ts) n, []))
+    ≡ first_spared ws (suc n) ts
 next_spared ws n [] h = absurd (omega arith)
 next_spared ws zero (k ∷ ks) h =
     elim (list_any (bytes_eq k.0) ws) as (λ b. (if b then k ∷ ks else (k.0, []) ∷ ks) ≡ (k.0, cond b k.1 []) ∷ ks) [ true ↦ refl | false ↦ refl ]

@@ -54,7 +54,8 @@ pub fn ask_in_time(
 ) -> Result<TurnOutcome, AllocError>
     requires next { pc + 1 < 2 ^ 64 }
     requires enough { count ≤ length machine.old.stack.items }
-    ensures ok { IfOk result (λ step. Does (λ next. told.ask ask (λ r. sharing.served timeout r (without machine.old pc count next))) machine.old (replied given.entry) step machine.new) }
+    ensures ok { IfOk result (λ step. Does (λ next. told.ask ask (λ r. sharing.served timeout r (without machine.old pc count next))) machine.old
+        (replied given.entry) step machine.new) }
     ensures err { OnErr result (Stays machine.old machine.new) }
 {
     if machine.replied >= STEPS_LIMIT {
@@ -80,7 +81,7 @@ fn take(
 ) -> TurnOutcome
     requires next { pc + 1 < 2 ^ 64 }
     requires enough { count ≤ length machine.old.stack.items }
-    requires more { machine.old.replied < 1000000 }
+    requires more { machine.old.replied < told.steps_limit }
     ensures { TakesReply (λ next. sharing.served timeout reply.now (without machine.old pc count next)) machine.old result machine.new }
 {
     machine.replied += 1;

@@ -42,7 +42,8 @@ pub(crate) fn put_out(
 ) -> Result<TurnOutcome, AllocError>
     requires next { pc + 1 < 2 ^ 64 }
     requires enough { count ≤ length machine.old.stack.items }
-    ensures ok { IfOk result (λ step. Does (λ next. commands.write text (without machine.old pc count next)) machine.old (replied given.entry) step machine.new) }
+    ensures ok { IfOk result
+        (λ step. Does (λ next. commands.write text (without machine.old pc count next)) machine.old (replied given.entry) step machine.new) }
     ensures err { OnErr result (Stays machine.old machine.new) }
 {
     let size = text.len();

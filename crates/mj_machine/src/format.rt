@@ -64,7 +64,8 @@ pub fn put_bytes(
 ) -> Result<TurnOutcome, AllocError>
     requires next { pc + 1 < 2 ^ 64 }
     requires enough { count ≤ length machine.old.stack.items }
-    ensures ok { IfOk result (λ step. Does (λ next. commands.write bytes.now (without machine.old pc count next)) machine.old (replied given.entry) step machine.new) }
+    ensures ok { IfOk result
+        (λ step. Does (λ next. commands.write bytes.now (without machine.old pc count next)) machine.old (replied given.entry) step machine.new) }
     ensures err { OnErr result (Stays machine.old machine.new) }
 {
     match Text::from(alloc, bytes) {

@@ -1,6 +1,7 @@
 // A job's machine: where it stands, and how a turn of it goes.
 
 ghost use Rattle.std.specs.Prelude.{◌≤◌};
+ghost use Rattle.mj_semantics.specs.Outcome.{steps_limit};
 
 use crate::control::Control;
 use crate::mark::{Return, TransactionMark};
@@ -45,7 +46,7 @@ pub struct Machine {
     pub replied: u64,
     // what a MERGE has read and not put yet
     pub held: Nodes,
-    ghost bounded: { (devices.writes ≤ replied) × (restarts ≤ replied) × (replied ≤ 1000000) },
+    ghost bounded: { (devices.writes ≤ replied) × (restarts ≤ replied) × (replied ≤ steps_limit) },
 }
 
 /// How a turn goes. It is small, so that a turn that asks nothing moves little.

@@ -94,8 +94,10 @@ pub(crate) fn fold(stack: &mut Vec<Text>, value: Text)
 /// Puts the topmost operand to the end of the one below it, where that lies, and takes it off.
 pub(crate) fn join(stack: &mut Vec<Text>) -> Result<(), Failure>
     requires { 2 ≤ length stack.old.items }
-    ensures ok { OnOk result (reverse stack.new.items ≡ (top (below (reverse stack.old.items)) ++ top (reverse stack.old.items)) ∷ below (below (reverse stack.old.items))) }
-    ensures long { (result ≡ Err (failure.Fault fault.Length)) ↔ (TEXT_LIMIT < length (top (below (reverse stack.old.items))) + length (top (reverse stack.old.items))) }
+    ensures ok { OnOk result (reverse stack.new.items
+        ≡ (top (below (reverse stack.old.items)) ++ top (reverse stack.old.items)) ∷ below (below (reverse stack.old.items))) }
+    ensures long { (result ≡ Err (failure.Fault fault.Length))
+        ↔ (TEXT_LIMIT < length (top (below (reverse stack.old.items))) + length (top (reverse stack.old.items))) }
     ensures within { length (top (below (reverse stack.old.items))) + length (top (reverse stack.old.items)) ≤ TEXT_LIMIT → IsOkUnless result failure.Memory }
     ensures err { OnErr result (stack.new.items ≡ stack.old.items) }
 {

@@ -30,7 +30,8 @@ pub fn put_value(
 ) -> Result<(), AllocError>
     requires next { pc + 1 < 2 ^ 64 }
     requires enough { count ≤ length machine.old.stack.items }
-    ensures ok { (r : Result (List ℕ) faults.Fault) → AnswersOrMemory r value → IfOk result (λ done. DidAlone (λ next. told.given r (with_value machine.old pc count next)) machine.old machine.new) }
+    ensures ok { (r : Result (List ℕ) faults.Fault) → AnswersOrMemory r value
+        → IfOk result (λ done. DidAlone (λ next. told.given r (with_value machine.old pc count next)) machine.old machine.new) }
     ensures err { OnErr result (Stays machine.old machine.new) }
     ensures same { (machine.new.replied ≡ machine.old.replied) × (machine.new.devices ≡ machine.old.devices) × (machine.new.restarts ≡ machine.old.restarts) }
 {
@@ -59,8 +60,9 @@ pub fn put_told(
 ) -> Result<TurnOutcome, AllocError>
     requires next { pc + 1 < 2 ^ 64 }
     requires enough { count ≤ length machine.old.stack.items }
-    requires more { machine.old.replied < 1000000 }
-    ensures ok { (r : Result (List ℕ) faults.Fault) → AnswersOrMemory r value → IfOk result (λ step. TakesReply (λ next. told.given r (with_value machine.old pc count next)) machine.old step machine.new) }
+    requires more { machine.old.replied < told.steps_limit }
+    ensures ok { (r : Result (List ℕ) faults.Fault) → AnswersOrMemory r value
+        → IfOk result (λ step. TakesReply (λ next. told.given r (with_value machine.old pc count next)) machine.old step machine.new) }
     ensures err { OnErr result (Stays machine.old machine.new) }
 {
     machine.replied += 1;

@@ -1,5 +1,4 @@
 mod Joined
 mod Counting
 mod Lines
-mod Stepping
 mod Untaken

@@ -1,4 +1,4 @@
 pub mod Printed
 pub mod Statuses
-pub mod Stepping
 pub mod Traced
+pub mod Words

@@ -1,10 +1,14 @@
 // What a run begins with: the starts, the devices, the steps, the routines and the globals.
 
-ghost use Rattle.std.specs.Prelude.{◌≡◌, true, IfOk};
+ghost use Rattle.std.specs.Prelude.{◌≡◌, true, map, IfOk, IfSome};
+ghost use Rattle.mj_dev.specs.Shelves.{count_of};
+ghost use Rattle.mj_trace.specs.Trace.{opening_text};
+ghost use Rattle.mj_main.specs.Traced.{entries_of};
 ghost use Rattle.mj_files.specs.Named.{names_of, with_principals, with_devices};
 ghost use Rattle.mj_jobs.specs.Rows.{rows_limit};
 ghost use Rattle.mj_sys.specs.Shared.{are_global};
 ghost use Rattle.mj_debug.specs.Walks.{AreWhole};
+ghost use Rattle.mj_main.specs.Words.{WereListed, WereSteps};
 
 use crate::files::{file_bytes, whole};
 use crate::listings::listed;
@@ -40,7 +44,9 @@ pub fn begin<'a, R: Files + AllocGlobal + Copy + Drop, I: Read>(
     order: &Run<'a>,
     input: &mut I,
 ) -> Result<Beginning<R>, ProgramError<'a>>
-    ensures { IfOk result (λ b. AreWhole b.pool) }
+    ensures globals { IfOk result (λ b. WereListed order.now.globals b.globals) }
+    ensures steps { IfOk result (λ b. WereSteps order.now.steps b.steps) }
+    ensures whole { IfOk result (λ b. AreWhole b.pool) }
 {
     let starts = starts(rt.alloc(), &order.starts)?;
     match begin_at(rt, order, input) {
@@ -68,7 +74,9 @@ fn begin_at<'a, R: Files + AllocGlobal + Copy + Drop, I: Read>(
     order: &Run<'a>,
     input: &mut I,
 ) -> Result<(Option<Vec<Step>>, Stored<R>), ProgramError<'a>>
+    ensures globals { IfOk result (λ x. WereListed order.now.globals x.1.1) }
     ensures global { IfOk result (λ x. are_global x.1.1 ≡ true) }
+    ensures steps { IfOk result (λ x. WereSteps order.now.steps x.0) }
     ensures whole { IfOk result (λ x. AreWhole x.1.2) }
 {
     let devices = devices(rt.alloc(), &order.devices)?;
@@ -92,6 +100,7 @@ fn stored<'a, R: Files + AllocGlobal + Copy + Drop, I: Read>(
     input: &mut I,
     devices: &[Named<'a>],
 ) -> Result<Stored<R>, ProgramError<'a>>
+    ensures globals { IfOk result (λ x. WereListed order.now.globals x.1) }
     ensures global { IfOk result (λ x. are_global x.1 ≡ true) }
     ensures whole { IfOk result (λ x. AreWhole x.2) }
 {
@@ -113,14 +122,15 @@ fn stored<'a, R: Files + AllocGlobal + Copy + Drop, I: Read>(
     }
 }
 
-// The devices. Standard input is read whole, where the words ask for it.
+// Makes the devices. Standard input is read whole, where the words ask for it.
 fn pool_over<'a, R: Files + AllocGlobal + Copy + Drop, I: Read>(
     rt: R,
     order: &Run<'a>,
     input: &mut I,
     devices: &[Named<'a>],
 ) -> Result<Pool<Port<R>>, ProgramError<'a>>
-    ensures { IfOk result (λ pool. AreWhole pool) }
+    ensures value { IfOk result (λ pool. pool ≡ with_devices (names_of devices.now) (with_principals rows_limit)) }
+    ensures whole { IfOk result (λ pool. AreWhole pool) }
 {
     let lines = if order.stdin {
         whole(rt.alloc(), input, "-")?
@@ -135,11 +145,14 @@ pub fn trace_from<'a, R: Files + Drop>(
     alloc: Global,
     file: Option<&'a str>,
     beginning: &Beginning<R>,
-) -> Result<Option<Trace<'a>>, AllocError> {
+) -> Result<Option<Trace<'a>>, AllocError>
+    ensures { IfOk result (λ trace. IfSome trace
+        (λ trace. trace.opening.items ≡ opening_text (map count_of beginning.now.pool) (entries_of beginning.now.starts.items))) }
+{
     trace_of(alloc, file, &beginning.pool, &beginning.starts)
 }
 
-/// The first jobs' starts, by the words that name them. One that is no entry is bad, and so is one more than there may be jobs.
+/// The first jobs' starts, by the words that name them, which give no values. One that is no entry is bad, and so is one more than there may be jobs.
 pub fn starts<'a>(alloc: Global, words: &[&'a str]) -> Result<Vec<Start>, ProgramError<'a>> {
     let mut starts = Vec::new(alloc);
     for word in words {
@@ -170,7 +183,7 @@ pub fn devices<'a>(alloc: Global, words: &[&'a str]) -> Result<Vec<Named<'a>>, P
     Ok(devices)
 }
 
-/// A principal device for each of the jobs that there may be, of which the first gives the lines of this input, and these devices.
+/// Makes a principal device for each of the jobs that there may be, of which the first gives the lines of this input, and these devices.
 pub fn pool<'a, R: Files + AllocGlobal + Copy + Drop>(
     rt: R,
     input: Vec<u8>,
@@ -182,11 +195,13 @@ pub fn pool<'a, R: Files + AllocGlobal + Copy + Drop>(
     Ok(pool_of(rt.alloc(), rt, ROWS_LIMIT as u32, input, devices)?)
 }
 
-/// The steps of a file, if one is named.
+/// Reads the steps of a file, if one is named.
 pub fn steps<'a, R: Files + AllocGlobal>(
     rt: &R,
     file: Option<&'a str>,
-) -> Result<Option<Vec<Step>>, ProgramError<'a>> {
+) -> Result<Option<Vec<Step>>, ProgramError<'a>>
+    ensures { IfOk result (λ steps. WereSteps file.entry steps) }
+{
     let Some(file) = file else {
         return Ok(None);
     };

@@ -23,6 +23,7 @@ use mj_files::Port;
 use mj_globs::Globals;
 use mj_jobs::ROWS_LIMIT;
 use mj_load::Image;
+use mj_sessions::Sessions;
 use mj_sys::Opening;
 use std::alloc::Global;
 use std::io::{BufRead, BufReader, ErrorKind, Read, Write};
@@ -124,11 +125,12 @@ where
     requires whole { AreWhole pool }
     ensures { result ≤ 4 }
 {
-    match Debugger::<D, G>::new(rt.alloc(), image, globals, pool, starts) {
+    match Debugger::<D, Sessions<D>, G>::new(rt.alloc(), image, globals, pool, starts) {
         Ok(mut debugger) => {
             let told = converse(rt.alloc(), &mut debugger, prompt, input, out, err);
             let status = finish(rt, &debugger, order, trace, told, err);
-            drop(debugger);
+            // its core alone is dropped here, since the prover doesn't cover the drop of a whole debugger
+            drop(debugger.into_core());
             status
         }
         Err(back) => {
@@ -141,7 +143,7 @@ where
 // Answers commands up to the one that ends, or up to the end of the input, or as far as they can be answered, and gives the exit status of that.
 fn converse<I, O, E, D, G>(
     alloc: Global,
-    debugger: &mut Debugger<D, G>,
+    debugger: &mut Debugger<D, Sessions<D>, G>,
     prompt: &Option<Prompt>,
     input: &mut I,
     out: &mut O,
@@ -183,7 +185,7 @@ enum Exchanged {
 // Reads the next command, and answers it.
 fn exchange<'a, B, O, E, D, G>(
     alloc: Global,
-    debugger: &mut Debugger<D, G>,
+    debugger: &mut Debugger<D, Sessions<D>, G>,
     prompt: &Option<Prompt>,
     reader: &mut B,
     out: &mut O,
@@ -236,7 +238,7 @@ fn next_line<'a, B: BufRead>(
 // Writes the globals and the trace, and gives the exit status: the greatest where several apply.
 fn finish<R, E, D, G>(
     rt: &R,
-    debugger: &Debugger<D, G>,
+    debugger: &Debugger<D, Sessions<D>, G>,
     order: &Run<'_>,
     trace: &Option<Trace<'_>>,
     told: u8,

@@ -9,7 +9,7 @@ use std::fs::{self, File};
 use std::io::{ErrorKind, Read};
 use std::rt::Files;
 
-/// The bytes of a file.
+/// Reads the bytes of a file.
 pub fn file_bytes<'a, R: Files + AllocGlobal>(
     rt: &R,
     file: &'a str,
@@ -34,7 +34,7 @@ pub fn write_file<'a, R: Files + AllocGlobal>(
     }
 }
 
-/// All bytes of a reader, which messages call by this name.
+/// Reads all bytes of a reader, which messages call by this name.
 pub fn whole<'a, R: Read>(
     alloc: Global,
     reader: &mut R,

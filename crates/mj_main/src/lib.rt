@@ -2,8 +2,8 @@
 // gives.
 //
 // `run` is the whole program, and its result is the exit status. It reads the words (by `mj_command_line`), then the file of steps, the files of the
-// routines, the listing of globals and standard input, and then steps jobs over a core (`mj_core`): in turn, or as the file says. Their devices
-// are over lines and files (`mj_files`). What the jobs wrote is taken from their logs (`jobs.rt`); the globals that they left and the
+// routines, the listing of globals and standard input, and then has jobs run (`mj_run`): in turn, or as the file says. Their devices are over lines and
+// files (`mj_files`). What the jobs wrote is taken from their logs (`jobs.rt`); the globals that they left and the
 // trace of the run (`traces.rt`) are written last.
 #![tactic(auto)]
 

@@ -4,6 +4,7 @@ ghost use Rattle.std.specs.Prelude.{◌≡◌, true, IfOk};
 ghost use Rattle.std.specs.Io.KnownBytes.{Appends};
 ghost use Rattle.mj_gfile.specs.Spelling.{listing_of};
 ghost use Rattle.mj_sys.specs.Shared.{are_global};
+ghost use Rattle.mj_main.specs.Words.{WereListed};
 
 use crate::files::file_bytes;
 use crate::stop::ProgramError;
@@ -14,12 +15,13 @@ use std::fs::File;
 use std::io::{self, ErrorKind, Write};
 use std::rt::Files;
 
-/// The globals that a file lists: none where no file is named.
+/// Reads the globals that a file lists: none where no file is named.
 pub fn listed<'a, R: Files + AllocGlobal>(
     rt: &R,
     file: Option<&'a str>,
 ) -> Result<Globals, ProgramError<'a>>
-    ensures { IfOk result (λ globals. are_global globals ≡ true) }
+    ensures listed { IfOk result (λ globals. WereListed file.entry globals) }
+    ensures global { IfOk result (λ globals. are_global globals ≡ true) }
 {
     let Some(file) = file else {
         return Ok(Globals::new(rt.alloc()));

@@ -1,13 +1,16 @@
 // What is printed, and the exit status that goes with it.
 
-ghost use Rattle.std.specs.Prelude.{◌≤◌};
+ghost use Rattle.std.specs.Prelude.{◌≡◌, ◌≤◌, OnOk, IfErr};
+ghost use Rattle.mj_main.specs.Statuses.{status_of};
 
 use crate::stop::ProgramError;
 use std::io::Write;
 
 /// Says why something couldn't be done, if so, and gives the exit status.
 pub fn tell_trouble<E: Write>(done: Result<(), ProgramError<'_>>, err: &mut E) -> u8
-    ensures { result ≤ 4 }
+    ensures ok { OnOk done.entry (result ≡ 0) }
+    ensures err { IfErr done.entry (λ stop. result ≡ status_of stop) }
+    ensures bound { result ≤ 4 }
 {
     match done {
         Ok(()) => 0,
@@ -17,7 +20,8 @@ pub fn tell_trouble<E: Write>(done: Result<(), ProgramError<'_>>, err: &mut E) -
 
 /// Says why the program stops, and gives the exit status.
 pub fn stopped<E: Write>(stop: &ProgramError<'_>, err: &mut E) -> u8
-    ensures { result ≤ 4 }
+    ensures which { result ≡ status_of stop.now }
+    ensures bound { result ≤ 4 }
 {
     // Where this can't be written either, the status alone tells.
     let _ = writeln!(err, "{stop}");

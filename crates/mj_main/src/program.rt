@@ -1,14 +1,15 @@
 // The program.
 
-ghost use Rattle.std.specs.Prelude.{◌≡◌, ◌≤◌, length, true, IfOk};
+ghost use Rattle.std.specs.Prelude.{◌≡◌, ◌≤◌, length, true, IfOk, if◌then◌else◌};
 ghost use Rattle.mj_dev.specs.Shelves.{principal, left_of};
 ghost use Rattle.mj_jobs.specs.Rows.{rows_limit};
 ghost use Rattle.mj_sys.specs.Opening.{opening_of};
 ghost use Rattle.mj_sys.specs.Shared.{are_global};
+ghost use Rattle.mj_main.specs.Statuses.{has_faulted, ending_status, stop_of};
 
 use crate::begin::{Beginning, begin, trace_from};
 use crate::debugs::debug;
-use crate::jobs::{Jobs, has_faulted};
+use crate::jobs::{has_faulted, printed, waits};
 use crate::listings::save;
 use crate::printing::{print, stopped, tell_trouble};
 use crate::replays::replayed;
@@ -23,6 +24,8 @@ use mj_files::{Named, Port};
 use mj_globs::Globals;
 use mj_jobs::ROWS_LIMIT;
 use mj_load::Image;
+use mj_run::run_jobs;
+use mj_sessions::Sessions;
 use mj_steps::{Ending, Step};
 use mj_sys::Opening;
 use std::alloc::{AllocError, Global};
@@ -48,7 +51,7 @@ where
     ensures { result ≤ 4 }
 {
     match read_words(rt.alloc(), words) {
-        Ok(Order::Run(order)) => run_jobs(rt, &order, input, out, err),
+        Ok(Order::Run(order)) => run_order(rt, &order, input, out, err),
         Ok(Order::Debug(order)) => debug(rt, &order, input, out, err),
         Ok(Order::Check { files }) => match check(rt, &files, out) {
             Ok(status) => status,
@@ -66,7 +69,7 @@ where
 }
 
 // Runs jobs, and gives the exit status.
-fn run_jobs<R, I, O, E>(rt: R, order: &Run<'_>, input: &mut I, out: &mut O, err: &mut E) -> u8
+fn run_order<R, I, O, E>(rt: R, order: &Run<'_>, input: &mut I, out: &mut O, err: &mut E) -> u8
 where
     R: Files + AllocGlobal + Copy + Drop,
     I: Read,
@@ -148,12 +151,10 @@ where
     requires fits { length starts.items ≤ left_of principal pool }
     ensures { result ≤ 4 }
 {
-    match Core::<D, G>::new(rt.alloc(), image, globals, pool, starts) {
-        Ok(core) => {
-            let mut jobs = Jobs { core };
-            let ending = jobs.go(steps);
-            let status = finish(rt, &mut jobs, ending, order, trace, out, err);
-            drop(jobs);
+    match run_jobs::<D, G>(rt.alloc(), image, globals, pool, starts, steps) {
+        Ok((mut core, ending)) => {
+            let status = finish(rt, &mut core, ending, order, trace, out, err);
+            drop(core);
             status
         }
         Err(back) => {
@@ -163,11 +164,11 @@ where
     }
 }
 
-// Writes what the jobs wrote, then why they were stopped, then the globals that they left and the trace, and gives the exit status: the greatest
-// where several apply.
+// Writes what the jobs wrote, then why they were stopped, then the globals that they left and the trace, then what each waits for, if that was asked
+// for, and gives the exit status: the greatest where several apply.
 fn finish<R, O, E, D, G>(
     rt: &R,
-    jobs: &mut Jobs<D, G>,
+    core: &mut Core<D, Sessions<D>, G>,
     ending: Ending,
     order: &Run<'_>,
     trace: &Option<Trace<'_>>,
@@ -182,36 +183,43 @@ where
     G: Opening,
     ensures { result ≤ 4 }
 {
-    let shown = match show(rt, jobs, out) {
+    let shown = match show(rt, core, out) {
         Ok(status) => status,
         Err(stop) => stopped(&stop, err),
     };
     let ended = tell_ending(ending, err);
+    let saved = tell_trouble(save(rt, core.globals(), order.save), err);
+    let traced = tell_trouble(write_trace(rt, trace, core), err);
+    // To ask what each job waits for is to step it once more, so it comes last.
     if ending == Ending::Stuck && order.why {
-        tell_waits(rt, jobs, err);
+        tell_waits(rt, core, err);
     }
-    let saved = tell_trouble(save(rt, jobs.globals(), order.save), err);
-    let traced = tell_trouble(write_trace(rt, trace, &jobs.core), err);
     shown.max(ended).max(saved).max(traced)
 }
 
 // Writes what the jobs wrote, and says whether one faulted.
-fn show<'a, R, O, D, G>(rt: &R, jobs: &Jobs<D, G>, out: &mut O) -> Result<u8, ProgramError<'a>>
+fn show<'a, R, O, D, G>(
+    rt: &R,
+    core: &Core<D, Sessions<D>, G>,
+    out: &mut O,
+) -> Result<u8, ProgramError<'a>>
 where
     R: Files + AllocGlobal,
     O: Write,
     D: Device,
     G: Opening,
-    ensures { IfOk result (λ status. status ≤ 1) }
+    ensures which { IfOk result (λ status. status ≡ (if has_faulted core.now.history then 1 else 0)) }
+    ensures bound { IfOk result (λ status. status ≤ 1) }
 {
-    let bytes = jobs.printed(rt.alloc())?;
+    let bytes = printed(rt.alloc(), core)?;
     print(&bytes, out)?;
-    Ok(if has_faulted(&jobs.core) { FAULTED } else { 0 })
+    Ok(if has_faulted(core) { FAULTED } else { 0 })
 }
 
 // Says why stepping ended before its end, if it did, and gives the exit status.
 fn tell_ending<E: Write>(ending: Ending, err: &mut E) -> u8
-    ensures { result ≤ 4 }
+    ensures which { result ≡ ending_status (stop_of ending) }
+    ensures bound { result ≤ 4 }
 {
     match ProgramError::of_ending(ending) {
         None => 0,
@@ -220,14 +228,14 @@ fn tell_ending<E: Write>(ending: Ending, err: &mut E) -> u8
 }
 
 // Says what each job waits for.
-fn tell_waits<R, E, D, G>(rt: &R, jobs: &mut Jobs<D, G>, err: &mut E)
+fn tell_waits<R, E, D, G>(rt: &R, core: &mut Core<D, Sessions<D>, G>, err: &mut E)
 where
     R: Files + AllocGlobal,
     E: Write,
     D: Device,
     G: Opening,
 {
-    if let Ok(lines) = jobs.waits(rt.alloc()) {
+    if let Ok(lines) = waits(rt.alloc(), core) {
         // Where this can't be written, the status alone tells.
         let _ = err.write_all(&lines);
     }
@@ -261,7 +269,7 @@ fn replay<'a, R: Files + AllocGlobal, O: Write>(
     Ok(status)
 }
 
-// The text on words that are no order: help, which was asked for, or what is wrong.
+// Prints the text on words that are no order: help, which was asked for, or what is wrong.
 fn tell<'a, O: Write, E: Write>(
     refusal: &NoOrder,
     out: &mut O,

@@ -5,6 +5,7 @@ use crate::stop::ProgramError;
 use mj_command_line::Debug;
 use mj_debug::Debugger;
 use mj_dev::Device;
+use mj_sessions::Sessions;
 use mj_sys::Opening;
 use mj_text::{Digits, Text};
 use std::alloc::Global;
@@ -58,7 +59,7 @@ impl Prompt {
     /// Shows the line from which the last ask before the place comes, if there is one, and that a command is to be given.
     pub fn show<D: Device, O: Opening, E: Write>(
         &self,
-        debugger: &mut Debugger<D, O>,
+        debugger: &mut Debugger<D, Sessions<D>, O>,
         err: &mut E,
     ) {
         // Where it can't be shown, the debugger goes on.
@@ -69,7 +70,7 @@ impl Prompt {
     // Shows the line.
     fn show_place<D: Device, O: Opening, E: Write>(
         &self,
-        debugger: &mut Debugger<D, O>,
+        debugger: &mut Debugger<D, Sessions<D>, O>,
         err: &mut E,
     ) -> Option<()> {
         let last = debugger.place().checked_sub(1)?;

@@ -2,6 +2,8 @@
 
 ghost use Rattle.std.specs.Prelude.{◌≡◌, ◌≤◌, IfOk, true};
 ghost use Rattle.mj_sys.specs.Shared.{are_global};
+ghost use Rattle.mj_trace.specs.Lines.{IsTrace};
+ghost use Rattle.mj_main.specs.Statuses.{verdict_status};
 
 use crate::files::file_bytes;
 use crate::listings::listed;
@@ -16,7 +18,7 @@ use mj_trace::{Trace, TraceError, read_trace};
 use std::alloc::{AllocError, Global};
 use std::rt::Files;
 
-/// What is to be printed of a trace that is replayed, and the exit status. The trace is read first, then the routines, then the globals.
+/// Replays a trace: what is to be printed, and the exit status. The trace is read first, then the routines, then the globals.
 pub fn replayed<'a, R: Files + AllocGlobal>(
     rt: &R,
     order: &Replay<'a>,
@@ -37,8 +39,10 @@ pub fn replayed<'a, R: Files + AllocGlobal>(
     }
 }
 
-// The trace in a file.
-fn recorded<'a, R: Files + AllocGlobal>(rt: &R, file: &'a str) -> Result<Trace, ProgramError<'a>> {
+// Reads the trace in a file.
+fn recorded<'a, R: Files + AllocGlobal>(rt: &R, file: &'a str) -> Result<Trace, ProgramError<'a>>
+    ensures { IfOk result IsTrace }
+{
     let bytes = file_bytes(rt, file)?;
     match read_trace(rt.alloc(), &bytes) {
         Ok(trace) => Ok(trace),
@@ -47,12 +51,14 @@ fn recorded<'a, R: Files + AllocGlobal>(rt: &R, file: &'a str) -> Result<Trace, 
     }
 }
 
-// What its replay comes to.
+// Replays it.
 fn verdict<'a, R: Files + AllocGlobal>(
     rt: &R,
     order: &Replay<'a>,
     trace: &Trace,
-) -> Result<Verdict, ProgramError<'a>> {
+) -> Result<Verdict, ProgramError<'a>>
+    requires { IsTrace trace.now }
+{
     let image = loaded(rt, &order.files)?;
     let verdict = match listed(rt, order.globals) {
         Ok(globals) => replay_verdict(rt.alloc(), &image, globals, trace),
@@ -62,21 +68,23 @@ fn verdict<'a, R: Files + AllocGlobal>(
     verdict
 }
 
-// What its replay over these routines and globals comes to.
+// Replays it over these routines and globals.
 fn replay_verdict<'a>(
     alloc: Global,
     image: &Image,
     globals: Globals,
     trace: &Trace,
 ) -> Result<Verdict, ProgramError<'a>>
-    requires { are_global globals ≡ true }
+    requires global { are_global globals ≡ true }
+    requires written { IsTrace trace.now }
 {
     Ok(replay_trace(alloc, image, globals, trace)?)
 }
 
 // What is printed of a verdict, and the exit status. Lines count from 1: before the events stand the header, and a line for each device and each start.
 fn verdict_text(alloc: Global, trace: &Trace, verdict: Verdict) -> Result<(String, u8), AllocError>
-    ensures { IfOk result (λ told. told.1 ≤ 1) }
+    ensures which { IfOk result (λ told. told.1 ≡ verdict_status verdict) }
+    ensures bound { IfOk result (λ told. told.1 ≤ 1) }
 {
     match verdict {
         Verdict::Same => Ok((format!(in alloc; "same\n")?, 0)),

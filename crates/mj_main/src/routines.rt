@@ -2,6 +2,7 @@
 
 ghost use Rattle.std.specs.Prelude.{◌≡◌, IfOk, All};
 ghost use Rattle.mj_load.specs.Image.{IsWithinLimits};
+ghost use Rattle.mj_main.specs.Words.{WasRead};
 
 use crate::files::{file_bytes, routine_name};
 use crate::stop::{ProgramError, Word};
@@ -33,7 +34,8 @@ fn routine_of<'a, R: Files + AllocGlobal>(
     rt: &R,
     file: &'a str,
 ) -> Result<Routine, ProgramError<'a>>
-    ensures { IfOk result IsWithinLimits }
+    ensures within { IfOk result IsWithinLimits }
+    ensures read { IfOk result WasRead }
 {
     let bytes = file_bytes(rt, file)?;
     let name = routine_name(rt.alloc(), file)?;

@@ -1,7 +1,7 @@
 // Why the program ends before its end.
 
 ghost use Rattle.std.specs.Prelude.{◌≡◌, ◌≤◌};
-ghost use Rattle.mj_main.specs.Statuses.{status_of};
+ghost use Rattle.mj_main.specs.Statuses.{status_of, stop_of};
 
 use mj_dialogue::Trouble;
 use mj_gfile::ReadError;
@@ -77,16 +77,18 @@ impl<'a> From<Trouble> for ProgramError<'a> {
 pub const FAULTED: u8 = 1;
 /// The exit status where a trace isn't that of a run.
 pub const DIFFERS: u8 = 1;
-/// The exit status where a routine, a listing or a trace is refused.
+/// The exit status where a routine, a listing, a trace, a file of steps or a step is refused.
 pub const REFUSED: u8 = 2;
 /// The exit status where the command line is wrong.
 pub const WORDS: u8 = 3;
-/// The exit status where memory or a file fails, or a job goes on for too long.
+/// The exit status where memory or a file fails, where all jobs wait, or where they go on for too long.
 pub const FAILED: u8 = 4;
 
 impl<'a> ProgramError<'a> {
     /// Why stepping ended before its end, if it did.
-    pub fn of_ending(ending: Ending) -> Option<ProgramError<'a>> {
+    pub fn of_ending(ending: Ending) -> Option<ProgramError<'a>>
+        ensures { result ≡ stop_of ending }
+    {
         match ending {
             Ending::Over => None,
             Ending::Stuck => Some(ProgramError::Stuck),

@@ -10,6 +10,7 @@ use crate::stop::ProgramError;
 use mj_ask::{Entry, Start};
 use mj_core::Core;
 use mj_dev::{Device, Pool};
+use mj_sessions::Sessions;
 use mj_sys::Opening;
 use mj_trace::{put_event, put_opening};
 use std::alloc::{AllocError, Global};
@@ -57,7 +58,7 @@ fn entries(alloc: Global, starts: &[Start]) -> Result<Vec<Entry>, AllocError>
 pub fn write_trace<'a, R: Files + AllocGlobal, D: Device, O: Opening>(
     rt: &R,
     trace: &Option<Trace<'a>>,
-    core: &Core<D, O>,
+    core: &Core<D, Sessions<D>, O>,
 ) -> Result<(), ProgramError<'a>> {
     let Some(trace) = trace else {
         return Ok(());
@@ -71,7 +72,7 @@ impl<'a> Trace<'a> {
     fn bytes<D: Device, O: Opening>(
         &self,
         alloc: Global,
-        core: &Core<D, O>,
+        core: &Core<D, Sessions<D>, O>,
     ) -> Result<Vec<u8>, AllocError>
         ensures { IfOk result (λ bytes. bytes.items ≡ self.now.opening.items ++ event_lines (told_of core.now.history)) }
     {
@@ -86,7 +87,7 @@ impl<'a> Trace<'a> {
 fn put_events<D: Device, O: Opening>(
     alloc: Global,
     bytes: &mut Vec<u8>,
-    core: &Core<D, O>,
+    core: &Core<D, Sessions<D>, O>,
 ) -> Result<(), AllocError>
     ensures { OnOk result (bytes.new.items ≡ bytes.old.items ++ event_lines (told_of core.now.history)) }
 {

@@ -33,7 +33,7 @@ pub fn put_idle(bytes: &mut Vec<u8>, job: u32) -> Result<(), AllocError>
     bytes.extend_from_slice(b" waits for input\n")
 }
 
-// The rest of a line: who has it.
+// Writes the rest of a line: who has it.
 fn put_holder(
     bytes: &mut Vec<u8>,
     holder: u32,
@@ -48,7 +48,7 @@ fn put_holder(
     Ok(())
 }
 
-// Some words and a number.
+// Writes some words and a number.
 fn put_numbered(bytes: &mut Vec<u8>, words: &[u8], number: u32) -> Result<(), AllocError>
     ensures { OnOk result (bytes.new.items ≡ bytes.old.items ++ (words.now ++ decimal number)) }
 {
@@ -56,7 +56,7 @@ fn put_numbered(bytes: &mut Vec<u8>, words: &[u8], number: u32) -> Result<(), Al
     bytes.extend_from_slice(Buffer::new().format(number).as_bytes())
 }
 
-// A routine and a line of it, or `-` for none.
+// Writes a routine and a line of it, or `-` for none.
 fn put_place(bytes: &mut Vec<u8>, place: Option<(&Text, u32)>) -> Result<(), AllocError>
     ensures { OnOk result (bytes.new.items ≡ bytes.old.items ++ place_text (option_map (λ p. (p.0.now, p.1)) place.entry)) }
 {

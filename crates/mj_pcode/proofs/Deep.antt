@@ -43,7 +43,8 @@ gives_names : {more b : ℕ} (xs : List Name) (timeout : Option ℤ) {f g : Time
 gives_names [] timeout l = l
 gives_names (x ∷ xs) timeout l = asked _ (λ r. serves timeout r l)
 
-obtains : {more b : ℕ} (name : List ℕ) (timeout : Option ℤ) {f g f' g' : Timed} → Keeps more b f g → Keeps more b f' g' → Keeps more b (request_device name timeout f f') (request_device name timeout g g')
+obtains : {more b : ℕ} (name : List ℕ) (timeout : Option ℤ) {f g f' g' : Timed} → Keeps more b f g
+    → Keeps more b f' g' → Keeps more b (request_device name timeout f f') (request_device name timeout g g')
 obtains name timeout l m = looked (λ s.
     chosen (is_open name s) (changed {c = in_time timeout true} l)
     (chosen (nat_lt devices_limit (length s.devices)) faulted

@@ -30,10 +30,12 @@ pub line_spelled : (l : List ℕ) (es : List (Vec ℕ Global × ℕ)) → lookup
 line_spelled l [] = refl
 line_spelled l (e ∷ es) = λ i. cond (same_test l e.0.items i) (Some e.1) (line_spelled l es i)
 
-pub insert_spelled : (es : List (Vec ℕ Global × ℕ)) (k : Vec ℕ Global) (n : ℕ) → spelled (insert_entry (λ (x y : Vec ℕ Global). by_bytes x.items y.items) es k n) ≡ insert_entry by_bytes (spelled es) k.items n
+pub insert_spelled : (es : List (Vec ℕ Global × ℕ)) (k : Vec ℕ Global) (n : ℕ)
+    → spelled (insert_entry (λ (x y : Vec ℕ Global). by_bytes x.items y.items) es k n) ≡ insert_entry by_bytes (spelled es) k.items n
 insert_spelled [] k n = refl
 insert_spelled (e ∷ es) k n =
-    elim (by_bytes k.items e.0.items) as (λ r. spelled (match_ordering r ((k, n) ∷ e ∷ es) ((e.0, n) ∷ es) (e ∷ insert_entry (λ (x y : Vec ℕ Global). by_bytes x.items y.items) es k n)) ≡ match_ordering r ((k.items, n) ∷ (e.0.items, e.1) ∷ spelled es) ((e.0.items, n) ∷ spelled es) ((e.0.items, e.1) ∷ insert_entry by_bytes (spelled es) k.items n)) [
+    elim (by_bytes k.items e.0.items) as (λ r. spelled (match_ordering r ((k, n) ∷ e ∷ es) ((e.0, n) ∷ es) (e ∷ insert_entry (λ (x y : Vec ℕ Global). by_bytes x.items y.items) es k n))
+    ≡ match_ordering r ((k.items, n) ∷ (e.0.items, e.1) ∷ spelled es) ((e.0.items, n) ∷ spelled es) ((e.0.items, e.1) ∷ insert_entry by_bytes (spelled es) k.items n)) [
       | Less ↦ refl
       | Equal ↦ refl
       | Greater ↦ ap (λ (r : Labels). (e.0.items, e.1) ∷ r) (insert_spelled es k n)
@@ -54,7 +56,8 @@ over_same l t u k n es e =
     go false = refl
 
 -- a label behind one with another text
-past_other : (l t u : List ℕ) (k n : ℕ) (es later : Labels) → by_bytes t u ≡ Greater → line_with l later ≡ cond (bytes_eq t l) (Some k) (line_with l es) → cond (bytes_eq u l) (Some n) (line_with l later) ≡ cond (bytes_eq t l) (Some k) (cond (bytes_eq u l) (Some n) (line_with l es))
+past_other : (l t u : List ℕ) (k n : ℕ) (es later : Labels) → by_bytes t u ≡ Greater → line_with l later ≡ cond (bytes_eq t l) (Some k) (line_with l es)
+    → cond (bytes_eq u l) (Some n) (line_with l later) ≡ cond (bytes_eq t l) (Some k) (cond (bytes_eq u l) (Some n) (line_with l es))
 past_other l t u k n es later apart h =
     ap (λ (o : Option ℕ). cond (bytes_eq u l) (Some n) o) h ∙ go (bytes_eq u l) (bytes_eq t l) refl refl
   where
@@ -71,7 +74,8 @@ past_other l t u k n es later apart h =
 line_inserted : (l t : List ℕ) (k : ℕ) (labels : Labels) → line_with l (insert_entry by_bytes labels t k) ≡ cond (bytes_eq t l) (Some k) (line_with l labels)
 line_inserted l t k [] = refl
 line_inserted l t k (e ∷ es) =
-    elim (by_bytes t e.0) as (λ r. by_bytes t e.0 ≡ r → line_with l (match_ordering r ((t, k) ∷ e ∷ es) ((e.0, k) ∷ es) (e ∷ insert_entry by_bytes es t k)) ≡ cond (bytes_eq t l) (Some k) (cond (bytes_eq e.0 l) (Some e.1) (line_with l es))) [
+    elim (by_bytes t e.0) as (λ r. by_bytes t e.0 ≡ r → line_with l (match_ordering r ((t, k) ∷ e ∷ es) ((e.0, k) ∷ es) (e ∷ insert_entry by_bytes es t k))
+    ≡ cond (bytes_eq t l) (Some k) (cond (bytes_eq e.0 l) (Some e.1) (line_with l es))) [
       | Less ↦ λ p. refl
       | Equal ↦ λ p. over_same l t e.0 k e.1 es (slice_cmp-IsAntisymmetric nat_cmp-IsAntisymmetric t e.0 p)
       | Greater ↦ λ p. past_other l t e.0 k e.1 es (insert_entry by_bytes es t k) p (line_inserted l t k es)
@@ -82,7 +86,8 @@ is_none None e = refl
 is_none (Some n) e = let p : ◌≡◌ {A = Bool} true false = e in cc
 
 -- the rows of labels, once one more label has come with its row
-pub one_more_row : (labels : Labels) (l : List ℕ) (k : ℕ) (rows : List (List ℕ × ℕ)) → line_with l labels ≡ None → AreRows labels rows → AreRows (insert_entry by_bytes labels l k) (rows ++ (l, k) ∷ [])
+pub one_more_row : (labels : Labels) (l : List ℕ) (k : ℕ) (rows : List (List ℕ × ℕ))
+    → line_with l labels ≡ None → AreRows labels rows → AreRows (insert_entry by_bytes labels l k) (rows ++ (l, k) ∷ [])
 one_more_row labels l k rows none are =
     All-append (IsRow (insert_entry by_bytes labels l k)) rows ((l, k) ∷ [])
     (All-weaker (IsRow labels) (IsRow (insert_entry by_bytes labels l k)) (λ row is. line_inserted row.0 l k labels ∙ other row (bytes_eq l row.0) refl is) rows are)
@@ -114,7 +119,8 @@ line_behind l t k later labels = go (line_with t labels) refl
         ap (λ (o : Option ℕ). unwrap_or o later) there ∙ sym (ap (λ (o : Option ℕ). unwrap_or o k) there)
     present false n e some = refl
 
-    go : (o : Option ℕ) → line_with t labels ≡ o → unwrap_or (line_with l (elim o as (λ v. Labels) [ None ↦ insert_entry by_bytes labels t k | Some n ↦ labels ])) later ≡ unwrap_or (line_with l labels) (cond (bytes_eq t l) k later)
+    go : (o : Option ℕ) → line_with t labels ≡ o → unwrap_or (line_with l (elim o as (λ v. Labels) [ None ↦ insert_entry by_bytes labels t k | Some n ↦ labels ])) later
+        ≡ unwrap_or (line_with l labels) (cond (bytes_eq t l) k later)
     go None none = ap (λ (o : Option ℕ). unwrap_or o later) (line_inserted l t k labels) ∙ absent (bytes_eq t l) refl none
     go (Some n) some = present (bytes_eq t l) n refl some
 

@@ -6,7 +6,7 @@ use Rattle.mj_ask.specs.declared.entry.Entry.{Entry}
 use Rattle.mj_sys.specs.Opening.{opening_of}
 use Rattle.mj_sys.specs.Shared.{Shared}
 use Rattle.mj_trace.specs.Trace.{Traced}
-use Rattle.mj_blank.specs.Pools.{shelves_of}
+use Rattle.mj_dev.specs.Pools.{shelves_of}
 
 -- a first job starts without values
 abbrev pub start_at : Entry → Started

@@ -8,23 +8,20 @@ ghost use Rattle.mj_sys.specs.Opening.{opening_of};
 ghost use Rattle.mj_sys.specs.Shared.{are_global};
 ghost use Rattle.mj_sys.specs.System.{history_limit};
 ghost use Rattle.mj_debug.specs.Replays.{history_of, Says};
+ghost use Rattle.mj_dev.specs.Pools.{shelves_of};
+ghost use Rattle.mj_trace.specs.Lines.{IsTrace};
 ghost use Rattle.mj_replay.specs.Traces.{opening_in, start_at};
 
 use mj_ask::{Ask, Entry, Reply, Start};
-use mj_blank::{Blank, pool_of};
 use mj_debug::{Verdict, replay};
-use mj_dev::Pool;
+use mj_dev::{Blank, Pool, pool_of};
 use mj_globs::Globals;
-use mj_jobs::ROWS_LIMIT;
 use mj_load::Image;
-use mj_sys::HISTORY_LIMIT;
 use mj_trace::Trace;
 use std::alloc::{AllocError, Global};
 use std::marker::Brand;
 
-/// Whether the events of a trace are a run of its opening over these globals, or which one, from 0, is the first that isn't made. Beside want of memory
-/// it is an error where nothing can open so: without a start, with over 255, with fewer sessions of the device `0` than starts, or with over 1,000,000
-/// events. No trace that was read from its text is such.
+/// Whether the events of a trace are a run of its opening over these globals, or which one, from 0, is the first that isn't made.
 pub fn replay_trace(
     alloc: Global,
     image: &Image,
@@ -32,29 +29,22 @@ pub fn replay_trace(
     trace: &Trace,
 ) -> Result<Verdict, AllocError>
     requires global { are_global globals ≡ true }
+    requires written { IsTrace trace.now }
     ensures { IfOk result (λ verdict. Says (routines_of image.now) (opening_in globals trace.now) (history_of trace.now.events) verdict) }
 {
-    let (pool, starts) = match opened(alloc, trace) {
-        Ok(opened) => opened,
+    match opened(alloc, trace) {
+        Ok((pool, starts)) => replay_over(alloc, image, globals, pool, starts, trace.events()),
         Err(error) => {
             drop(globals);
-            return Err(error);
+            Err(error)
         }
-    };
-    let events = trace.events();
-    let few = !starts.is_empty() && starts.len() <= ROWS_LIMIT;
-    if !few || !pool.fits(starts.len() as u32) || events.len() > HISTORY_LIMIT {
-        drop(globals);
-        drop(pool);
-        drop(starts);
-        return Err(AllocError);
     }
-    replay_over(alloc, image, globals, pool, starts, events)
 }
 
 // The devices and the starts of a trace.
 fn opened(alloc: Global, trace: &Trace) -> Result<(Pool<Blank>, Vec<Start>), AllocError>
-    ensures { (globals : _) → IfOk result (λ x. opening_of globals x.0 x.1.items ≡ opening_in globals trace.now) }
+    ensures pool { IfOk result (λ x. x.0 ≡ shelves_of trace.now.pool) }
+    ensures starts { IfOk result (λ x. x.1.items ≡ map start_at trace.now.starts) }
 {
     let starts = starts_of(alloc, trace.starts())?;
     match pool_of(alloc, trace.pool()) {

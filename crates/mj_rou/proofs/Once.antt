@@ -279,7 +279,8 @@ same_told name bytes (At w n r) (At v m s) f g h i =
     let same = one_answer bytes n m r s h.2 i.2 in
     ap (λ (x : List ℕ). At x n r) (h.1 ∙ sym i.1) ∙ ap (λ (k : ℕ). At v k r) same.0 ∙ ap (At v m) same.1
 
-pub one_reason : (name bytes : List ℕ) (e f : LoadError) → (e ≡ load.Memory → ⊥) → (f ≡ load.Memory → ⊥) → IsRoutineRefused name bytes e → IsRoutineRefused name bytes f → refusal_told e ≡ refusal_told f
+pub one_reason : (name bytes : List ℕ) (e f : LoadError)
+    → (e ≡ load.Memory → ⊥) → (f ≡ load.Memory → ⊥) → IsRoutineRefused name bytes e → IsRoutineRefused name bytes f → refusal_told e ≡ refusal_told f
 one_reason name bytes e f p q h i = same_told name bytes (refusal_told e) (refusal_told f) (λ x. p (tells e x)) (λ x. q (tells f x)) (meant name bytes e h) (meant name bytes f i)
 
 none_told : (name bytes : List ℕ) (r : Routine) (t : RefusalTold) → IsName name → IsRoutineRead name bytes r → Means name bytes t → t ≡ Nothing

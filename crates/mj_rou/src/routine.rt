@@ -3,6 +3,7 @@
 ghost use Rattle.std.specs.Prelude.{◌≡◌, ◌+◌, ◌≤◌, ◌<◌, ◌&&◌, ℕ, IfErr, IfOk, List, MatchOption, length, nat_le};
 ghost use Rattle.std.specs.List.{list_all};
 ghost use Rattle.std.specs.Result.{IsErrAnd};
+ghost use Rattle.mj_ast.specs.Expressions.{name_limit};
 ghost use Rattle.mj_ast.specs.Tokens.{Token as SpelledToken, lexemes as the_lexemes, column as the_column, tokens as the_tokens, begins_word, continues_word};
 ghost use Rattle.mj_ast.specs.Lines.{HasLabelOf, label_of, line_limit};
 ghost use Rattle.mj_ast.specs.Routines.{IsName, routine_limit};
@@ -108,7 +109,8 @@ fn label<'a>(lexemes: &[Lexeme<'a>]) -> Option<&'a [u8]>
 
 /// Whether the label is kept.
 fn is_kept<'a>(labels: &BTreeSet<&'a [u8]>, label: Option<&'a [u8]>) -> bool
-    ensures { (before : List (List ℕ)) → (ks : List SpelledToken) → HoldsLabels before labels.now → label_seen label.entry ≡ label_of ks → IsTwice result before ks }
+    ensures { (before : List (List ℕ))
+        → (ks : List SpelledToken) → HoldsLabels before labels.now → label_seen label.entry ≡ label_of ks → IsTwice result before ks }
 {
     match label {
         None => false,
@@ -227,7 +229,7 @@ fn line_tree<'a>(
 
 /// Reads a routine of this name from the bytes of its file.
 pub fn read(alloc: Global, name: &[u8], bytes: &[u8]) -> Result<Routine, LoadError>
-    ensures name { IfOk result (λ routine. (routine.name ≡ name.now) × (length routine.name ≤ 31)) }
+    ensures name { IfOk result (λ routine. (routine.name ≡ name.now) × (length routine.name ≤ name_limit)) }
     ensures lines { IfOk result (λ routine. length routine.lines.items ≤ routine_limit) }
     ensures read { IfOk result (λ routine. IsName name.now × IsRoutineRead name.now bytes.now (routine_of routine)) }
     ensures refused { IfErr result (λ e. IsRoutineRefused name.now bytes.now e) }

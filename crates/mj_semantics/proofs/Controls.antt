@@ -55,7 +55,8 @@ goto_keeps_its_frame = refl
 -- forwards over a deeper line, and back to its own
 goto_in_a_block : says (line (cmd (Do []) ∷ write (text "e" ∷ []) ∷ cmd Quit ∷ []) ∷
     deep 2 (assign (let_be "I" (text "0") ∷ []) ∷ []) ∷
-    deep_at 2 "A" (assign (let_be "I" (Chain (Value (local (codes "I"))) (Then Add (Literal (codes "1")) Done)) ∷ []) ∷ cmd (Goto (go_if (Chain (Value (local (codes "I"))) (Then (Is Less) (Literal (codes "3")) Done)) (here "A") ∷ [])) ∷ []) ∷
+    deep_at 2 "A" (assign (let_be "I" (Chain (Value (local (codes "I"))) (Then Add (Literal (codes "1")) Done)) ∷ [])
+    ∷ cmd (Goto (go_if (Chain (Value (local (codes "I"))) (Then (Is Less) (Literal (codes "3")) Done)) (here "A") ∷ [])) ∷ []) ∷
     deep 2 (cmd (Goto (go (here "B") ∷ [])) ∷ []) ∷
     deep 3 (write (text "x" ∷ []) ∷ []) ∷
     deep 2 (write (text "x" ∷ []) ∷ []) ∷
@@ -241,7 +242,8 @@ unfolding digits
 a_condition_comes_before_values = refl
 
 --  SET X=1 DO A(5,X,X+1) WRITE X QUIT / A(X,Y,Z) WRITE X,Y,Z SET X=9
-values_are_those_of_the_caller : says (line (assign (let_be "X" (text "1") ∷ []) ∷ cmd (Do (do_it (here "A") (Some (text "5") ∷ Some (get "X") ∷ Some (Chain (Value (local (codes "X"))) (Then Add (Literal (codes "1")) Done)) ∷ []) ∷ [])) ∷ write (get "X" ∷ []) ∷ cmd Quit ∷ []) ∷
+values_are_those_of_the_caller : says (line (assign (let_be "X" (text "1") ∷ []) ∷ cmd (Do (do_it (here "A")
+    (Some (text "5") ∷ Some (get "X") ∷ Some (Chain (Value (local (codes "X"))) (Then Add (Literal (codes "1")) Done)) ∷ []) ∷ [])) ∷ write (get "X" ∷ []) ∷ cmd Quit ∷ []) ∷
     with "A" (codes "X" ∷ codes "Y" ∷ codes "Z" ∷ []) (write (get "X" ∷ get "Y" ∷ get "Z" ∷ []) ∷ assign (let_be "X" (text "9") ∷ []) ∷ []) ∷ [])
     ≡ Some (codes "5121")
 unfolding digits
@@ -276,7 +278,8 @@ unfolding digits
 a_value_left_out = refl
 
 --  SET X=1,X(1)=2 DO A,A() WRITE X,X(1) QUIT / A(X) WRITE $DATA(X),$DATA(X(1)) SET X(2)=3
-formals_without_values : says (line (assign (let_be "X" (text "1") ∷ set (to (local_at (codes "X") (text "1"))) (text "2") ∷ []) ∷ cmd (Do (do_it (here "A") [] ∷ do_it (here "A") [] ∷ [])) ∷ write (get "X" ∷ one (Value (local_at (codes "X") (text "1"))) ∷ []) ∷ cmd Quit ∷ []) ∷
+formals_without_values : says (line (assign (let_be "X" (text "1") ∷ set (to (local_at (codes "X") (text "1"))) (text "2") ∷ [])
+    ∷ cmd (Do (do_it (here "A") [] ∷ do_it (here "A") [] ∷ [])) ∷ write (get "X" ∷ one (Value (local_at (codes "X") (text "1"))) ∷ []) ∷ cmd Quit ∷ []) ∷
     with "A" (codes "X" ∷ []) (write (data_of (local (codes "X")) ∷ data_of (local_at (codes "X") (text "1")) ∷ []) ∷ assign (set (to (local_at (codes "X") (text "2"))) (text "3") ∷ []) ∷ []) ∷ [])
     ≡ Some (codes "000012")
 unfolding digits
@@ -285,7 +288,8 @@ formals_without_values = refl
 --  SET X=1 / A(X) WRITE X SET X=2 GOTO B:$DATA(Y) SET Y=1 GOTO A / B
 -- a line that is come to, or gone to, has its formals as they are
 formals_met_otherwise : says (line (assign (let_be "X" (text "1") ∷ []) ∷ []) ∷
-    with "A" (codes "X" ∷ []) (write (get "X" ∷ []) ∷ assign (let_be "X" (text "2") ∷ []) ∷ cmd (Goto (go_if (data_of (local (codes "Y"))) (here "B") ∷ [])) ∷ assign (let_be "Y" (text "1") ∷ []) ∷ cmd (Goto (go (here "A") ∷ [])) ∷ []) ∷
+    with "A" (codes "X" ∷ []) (write (get "X" ∷ []) ∷ assign (let_be "X" (text "2") ∷ [])
+    ∷ cmd (Goto (go_if (data_of (local (codes "Y"))) (here "B") ∷ [])) ∷ assign (let_be "Y" (text "1") ∷ []) ∷ cmd (Goto (go (here "A") ∷ [])) ∷ []) ∷
     at "B" [] ∷ [])
     ≡ Some (codes "12")
 unfolding digits
@@ -319,7 +323,8 @@ unfolding digits
 new = refl
 
 --  SET X=1,X(1)=2 DO A WRITE X,X(1),$DATA(X(2)) QUIT / A NEW X WRITE $DATA(X) SET X(2)=3
-new_with_what_is_below : says (line (assign (let_be "X" (text "1") ∷ set (to (local_at (codes "X") (text "1"))) (text "2") ∷ []) ∷ cmd (Do (do_it (here "A") [] ∷ [])) ∷ write (get "X" ∷ one (Value (local_at (codes "X") (text "1"))) ∷ data_of (local_at (codes "X") (text "2")) ∷ []) ∷ cmd Quit ∷ []) ∷
+new_with_what_is_below : says (line (assign (let_be "X" (text "1") ∷ set (to (local_at (codes "X") (text "1"))) (text "2") ∷ [])
+    ∷ cmd (Do (do_it (here "A") [] ∷ [])) ∷ write (get "X" ∷ one (Value (local_at (codes "X") (text "1"))) ∷ data_of (local_at (codes "X") (text "2")) ∷ []) ∷ cmd Quit ∷ []) ∷
     at "A" (cmd (New (Fresh (codes "X") ∷ [])) ∷ write (data_of (local (codes "X")) ∷ []) ∷ assign (set (to (local_at (codes "X") (text "2"))) (text "3") ∷ []) ∷ []) ∷ [])
     ≡ Some (codes "0120")
 unfolding digits
@@ -368,21 +373,26 @@ new_twice = refl
 
 --  SET X=1,Y=2 DO A WRITE X,Y,$DATA(Z) QUIT / A NEW (X) WRITE X,$DATA(Y) SET X=3,Y=4,Z=5
 -- those of the list keep what they have
-new_all_but_some : says (line (assign (let_be "X" (text "1") ∷ let_be "Y" (text "2") ∷ []) ∷ cmd (Do (do_it (here "A") [] ∷ [])) ∷ write (get "X" ∷ get "Y" ∷ data_of (local (codes "Z")) ∷ []) ∷ cmd Quit ∷ []) ∷
-    at "A" (cmd (New (Kept (codes "X" ∷ []) ∷ [])) ∷ write (get "X" ∷ data_of (local (codes "Y")) ∷ []) ∷ assign (let_be "X" (text "3") ∷ let_be "Y" (text "4") ∷ let_be "Z" (text "5") ∷ []) ∷ []) ∷ [])
+new_all_but_some : says (line
+    (assign (let_be "X" (text "1") ∷ let_be "Y" (text "2") ∷ []) ∷ cmd (Do (do_it (here "A") [] ∷ [])) ∷ write (get "X" ∷ get "Y" ∷ data_of (local (codes "Z")) ∷ []) ∷ cmd Quit ∷ []) ∷
+    at "A" (cmd (New (Kept (codes "X" ∷ []) ∷ []))
+    ∷ write (get "X" ∷ data_of (local (codes "Y")) ∷ []) ∷ assign (let_be "X" (text "3") ∷ let_be "Y" (text "4") ∷ let_be "Z" (text "5") ∷ []) ∷ []) ∷ [])
     ≡ Some (codes "10320")
 unfolding digits
 new_all_but_some = refl
 
 --  SET X=1,Y=1 DO A WRITE X,Y,$DATA(Z) QUIT / A NEW X SET X=2 NEW (Y) SET X=3,Y=3,Z=4
-new_after_new : says (line (assign (let_be "X" (text "1") ∷ let_be "Y" (text "1") ∷ []) ∷ cmd (Do (do_it (here "A") [] ∷ [])) ∷ write (get "X" ∷ get "Y" ∷ data_of (local (codes "Z")) ∷ []) ∷ cmd Quit ∷ []) ∷
-    at "A" (cmd (New (Fresh (codes "X") ∷ [])) ∷ assign (let_be "X" (text "2") ∷ []) ∷ cmd (New (Kept (codes "Y" ∷ []) ∷ [])) ∷ assign (let_be "X" (text "3") ∷ let_be "Y" (text "3") ∷ let_be "Z" (text "4") ∷ []) ∷ []) ∷ [])
+new_after_new : says (line
+    (assign (let_be "X" (text "1") ∷ let_be "Y" (text "1") ∷ []) ∷ cmd (Do (do_it (here "A") [] ∷ [])) ∷ write (get "X" ∷ get "Y" ∷ data_of (local (codes "Z")) ∷ []) ∷ cmd Quit ∷ []) ∷
+    at "A" (cmd (New (Fresh (codes "X") ∷ []))
+    ∷ assign (let_be "X" (text "2") ∷ []) ∷ cmd (New (Kept (codes "Y" ∷ []) ∷ [])) ∷ assign (let_be "X" (text "3") ∷ let_be "Y" (text "3") ∷ let_be "Z" (text "4") ∷ []) ∷ []) ∷ [])
     ≡ Some (codes "130")
 unfolding digits
 new_after_new = refl
 
 --  SET X=1,Y=2 DO A WRITE X,Y,$DATA(Z) QUIT / A NEW  WRITE $DATA(X) SET X=3,Z=1
-new_all : says (line (assign (let_be "X" (text "1") ∷ let_be "Y" (text "2") ∷ []) ∷ cmd (Do (do_it (here "A") [] ∷ [])) ∷ write (get "X" ∷ get "Y" ∷ data_of (local (codes "Z")) ∷ []) ∷ cmd Quit ∷ []) ∷
+new_all : says (line
+    (assign (let_be "X" (text "1") ∷ let_be "Y" (text "2") ∷ []) ∷ cmd (Do (do_it (here "A") [] ∷ [])) ∷ write (get "X" ∷ get "Y" ∷ data_of (local (codes "Z")) ∷ []) ∷ cmd Quit ∷ []) ∷
     at "A" (cmd (New []) ∷ write (data_of (local (codes "X")) ∷ []) ∷ assign (let_be "X" (text "3") ∷ let_be "Z" (text "1") ∷ []) ∷ []) ∷ [])
     ≡ Some (codes "0120")
 unfolding digits
@@ -397,7 +407,8 @@ new_of_a_formal = refl
 
 --  SET X=1 DO A WRITE X QUIT / A FOR I=1:1:2 NEW X SET X=2 GOTO B / B WRITE X
 new_left_by_a_goto : says (line (assign (let_be "X" (text "1") ∷ []) ∷ cmd (Do (do_it (here "A") [] ∷ [])) ∷ write (get "X" ∷ []) ∷ cmd Quit ∷ []) ∷
-    at "A" (cmd (For (local (codes "I")) (UpTo (text "1") (text "1") (text "2") ∷ [])) ∷ cmd (New (Fresh (codes "X") ∷ [])) ∷ assign (let_be "X" (text "2") ∷ []) ∷ cmd (Goto (go (here "B") ∷ [])) ∷ []) ∷
+    at "A" (cmd (For (local (codes "I")) (UpTo (text "1") (text "1") (text "2") ∷ [])) ∷ cmd (New (Fresh (codes "X") ∷ [])) ∷ assign (let_be "X" (text "2") ∷ [])
+    ∷ cmd (Goto (go (here "B") ∷ [])) ∷ []) ∷
     at "B" (write (get "X" ∷ []) ∷ []) ∷ [])
     ≡ Some (codes "21")
 unfolding digits
@@ -560,8 +571,7 @@ line_before_depth : says_deep 512 (line (cmd (Do (do_it (here "Z") [] ∷ [])) �
 unfolding digits
 line_before_depth = refl
 
--- Turns: what is done after so many, and not after one less. Each has one for the start, for each line that is come to, for the end of
--- the last line, and for the ask at the end.
+-- Turns: what is done after so many, and not after one less. Each has one for the start, for each line that is come to, for the end of the last line, and for the ask at the end.
 
 --  FOR I=1:1:2
 -- three literals; the name of the local; three passes tried, of which the last is none; the argument done
@@ -579,14 +589,12 @@ turns_of_a_call = refl
 
 -- A(X,Y) QUIT
 -- the formals of the line where the job starts; the QUIT
-turns_of_the_first_call : turns (with "A" (codes "X" ∷ codes "Y" ∷ []) (cmd Quit ∷ []) ∷ []) 6
-    ≡ (More, Needs (ask.Device (codes "0") device_asks.End) [] (spot 1 ∷ []))
+turns_of_the_first_call : turns (with "A" (codes "X" ∷ codes "Y" ∷ []) (cmd Quit ∷ []) ∷ []) 6 ≡ (More, Needs (ask.Device (codes "0") device_asks.End) [] (spot 1 ∷ []))
 unfolding digits
 turns_of_the_first_call = refl
 
 --  / A(X,Y) QUIT
 -- a line that is come to takes none for its formals; the QUIT
-turns_of_a_line_with_formals : turns (line [] ∷ with "A" (codes "X" ∷ codes "Y" ∷ []) (cmd Quit ∷ []) ∷ []) 5
-    ≡ (More, Needs (ask.Device (codes "0") device_asks.End) [] (spot 2 ∷ []))
+turns_of_a_line_with_formals : turns (line [] ∷ with "A" (codes "X" ∷ codes "Y" ∷ []) (cmd Quit ∷ []) ∷ []) 5 ≡ (More, Needs (ask.Device (codes "0") device_asks.End) [] (spot 2 ∷ []))
 unfolding digits
 turns_of_a_line_with_formals = refl

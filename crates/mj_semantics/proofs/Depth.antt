@@ -39,7 +39,8 @@ data KeepsPoint (more b : ℕ) : Point → Point → Type 0 where
   at_line : {here : Here} {l m : Leave} → KeepsLeave more b l m → KeepsPoint more b (AtLine here l) (AtLine here m)
   called : {function : Bool} {entry : Entry} {vs : List (Option (List ℕ))} {l m : Leave} → KeepsLeave more b l m → KeepsPoint more b (Called function entry vs l) (Called function entry vs m)
   jumped : {entry : Entry} {l m : Leave} → KeepsLeave more b l m → KeepsPoint more b (Jumped entry l) (Jumped entry m)
-  pass : {here : Here} {loop : Loop} {body : List LineCommand} {f g : Timed} {w v : Ways} → Keeps more b f g → KeepsWays more b w v → KeepsPoint more b (Pass here loop body f w) (Pass here loop body g v)
+  pass : {here : Here} {loop : Loop} {body : List LineCommand} {f g : Timed} {w v : Ways}
+      → Keeps more b f g → KeepsWays more b w v → KeepsPoint more b (Pass here loop body f w) (Pass here loop body g v)
   started : {f g : Timed} → Keeps more b f g → KeepsPoint more b (Started f) (Started g)
 
 record KeepsPoints (more b : ℕ) (P Q : Points) : Type 0 where
@@ -316,7 +317,8 @@ module _ (image : List Routine) (more b : ℕ) (P Q : Points) (keeps : KeepsPoin
   jump_keeps (Some to) l =
       looked (λ s. chosen (may_go s (place_at to.0) to.1.level (levels_of image to.0.routine)) (turned (keeps.by (at_line (less_leave l)))) faulted)
 
-  in_a_pass : (loop : Loop) {f g f' g' : Timed} {w v : Ways} → Keeps more (suc b) f g → Keeps more b f' g' → KeepsWays more (suc b) w v → KeepsWays more (suc b) (in_pass loop f f' w) (in_pass loop g g' v)
+  in_a_pass : (loop : Loop) {f g f' g' : Timed} {w v : Ways} → Keeps more (suc b) f g → Keeps more b f' g'
+      → KeepsWays more (suc b) w v → KeepsWays more (suc b) (in_pass loop f f' w) (in_pass loop g g' v)
   in_a_pass loop l m w = record { line_end = turned (goes_again loop (less l) m); for_quit = a_for (a_turn w.line_end); leave = w.leave }
 
   point_keeps : {p q : Point} → KeepsPoint more (suc b) p q → Keeps more (suc b) (at_point image P p) (at_point image Q q)
@@ -363,7 +365,8 @@ pub steady : (image : List Routine) (job : Start) (n k : ℕ) (replies : List Re
 steady image job n k replies = or_more (runs_keep image job (suc n) (suc (n + k)) n (n + k) replies (omega arith) (omega arith) (omega arith))
 
 -- so there is one answer, however many turns it takes
-pub one_answer : (image : List Routine) (job : Start) (n m : ℕ) (replies : List Reply) → (next image job n replies ≡ More) ⊎ ((next image job m replies ≡ More) ⊎ (next image job n replies ≡ next image job m replies))
+pub one_answer : (image : List Routine) (job : Start) (n m : ℕ) (replies : List Reply)
+    → (next image job n replies ≡ More) ⊎ ((next image job m replies ≡ More) ⊎ (next image job n replies ≡ next image job m replies))
 one_answer image job n m replies = by (cases_lt n m)
   where
     later : (i j : ℕ) → i ≤ j → (next image job i replies ≡ More) ⊎ (next image job j replies ≡ next image job i replies)

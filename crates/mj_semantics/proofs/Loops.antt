@@ -43,7 +43,8 @@ unfolding digits
 for_does_not_pass_its_end_down = refl
 
 --  SET N=3,S=1 FOR I=1:S:N SET N=9,S=2 WRITE I
-for_evaluates_its_range_once : says (line (assign (let_be "N" (text "3") ∷ let_be "S" (text "1") ∷ []) ∷ cmd (For (local (codes "I")) (UpTo (text "1") (get "S") (get "N") ∷ [])) ∷ assign (let_be "N" (text "9") ∷ let_be "S" (text "2") ∷ []) ∷ write (get "I" ∷ []) ∷ []) ∷ [])
+for_evaluates_its_range_once : says (line (assign (let_be "N" (text "3") ∷ let_be "S" (text "1") ∷ [])
+    ∷ cmd (For (local (codes "I")) (UpTo (text "1") (get "S") (get "N") ∷ [])) ∷ assign (let_be "N" (text "9") ∷ let_be "S" (text "2") ∷ []) ∷ write (get "I" ∷ []) ∷ []) ∷ [])
     ≡ Some (codes "123")
 unfolding digits
 for_evaluates_its_range_once = refl
@@ -57,7 +58,8 @@ for_sets_its_local_last = refl
 
 --  FOR I=1:1:9 SET I=I+4 WRITE I /  WRITE I
 -- a pass may have changed it
-for_reads_its_local_anew : says (line (cmd (For (local (codes "I")) (UpTo (text "1") (text "1") (text "9") ∷ [])) ∷ assign (let_be "I" (Chain (Value (local (codes "I"))) (Then Add (Literal (codes "4")) Done)) ∷ []) ∷ write (get "I" ∷ []) ∷ []) ∷
+for_reads_its_local_anew : says (line (cmd (For (local (codes "I")) (UpTo (text "1") (text "1") (text "9") ∷ []))
+    ∷ assign (let_be "I" (Chain (Value (local (codes "I"))) (Then Add (Literal (codes "4")) Done)) ∷ []) ∷ write (get "I" ∷ []) ∷ []) ∷
     line (write (get "I" ∷ []) ∷ []) ∷ [])
     ≡ Some (codes "51010")
 unfolding digits
@@ -72,7 +74,8 @@ for_reads_numbers = refl
 
 --  FOR I=1:1:2 WRITE I SET I="x"_I QUIT:$DATA(J)  SET J=1
 -- the text is read as a number again: `x1` is 0
-for_reads_what_a_pass_left : says (line (cmd (For (local (codes "I")) (UpTo (text "1") (text "1") (text "2") ∷ [])) ∷ write (get "I" ∷ []) ∷ assign (let_be "I" (Chain (Literal (codes "x")) (Then Join (Value (local (codes "I"))) Done)) ∷ []) ∷ cmd_if (data_of (local (codes "J"))) Quit ∷ assign (let_be "J" (text "1") ∷ []) ∷ []) ∷ [])
+for_reads_what_a_pass_left : says (line (cmd (For (local (codes "I")) (UpTo (text "1") (text "1") (text "2") ∷ [])) ∷ write (get "I" ∷ []) ∷ assign (let_be "I"
+    (Chain (Literal (codes "x")) (Then Join (Value (local (codes "I"))) Done)) ∷ []) ∷ cmd_if (data_of (local (codes "J"))) Quit ∷ assign (let_be "J" (text "1") ∷ []) ∷ []) ∷ [])
     ≡ Some (codes "11")
 unfolding digits
 for_reads_what_a_pass_left = refl
@@ -80,7 +83,8 @@ for_reads_what_a_pass_left = refl
 --  FOR I=999999999999999998:1:999999999999999999 WRITE "a" /  FOR I=-999999999999999999:-1:-999999999999999999 WRITE "b"
 -- what is behind the end is compared, and is no number of the language
 for_at_the_greatest_number : says (line (cmd (For (local (codes "I")) (UpTo (text "999999999999999998") (text "1") (text "999999999999999999") ∷ [])) ∷ write (text "a" ∷ []) ∷ []) ∷
-    line (cmd (For (local (codes "I")) (UpTo (one (Unary Minus (Literal (codes "999999999999999999")))) (one (Unary Minus (Literal (codes "1")))) (one (Unary Minus (Literal (codes "999999999999999999")))) ∷ [])) ∷ write (text "b" ∷ []) ∷ []) ∷ [])
+    line (cmd (For (local (codes "I")) (UpTo (one (Unary Minus (Literal (codes "999999999999999999"))))
+    (one (Unary Minus (Literal (codes "1")))) (one (Unary Minus (Literal (codes "999999999999999999")))) ∷ [])) ∷ write (text "b" ∷ []) ∷ []) ∷ [])
     ≡ Some (codes "aab")
 unfolding digits
 for_at_the_greatest_number = refl
@@ -118,7 +122,8 @@ for_of_one_value_needs_no_local = refl
 
 --  FOR I=1:1:3 WRITE I KILL I QUIT /  WRITE "e"
 -- a QUIT tests nothing
-for_left_without_its_local : says (line (cmd (For (local (codes "I")) (UpTo (text "1") (text "1") (text "3") ∷ [])) ∷ write (get "I" ∷ []) ∷ cmd (Kill (Gone (local (codes "I")) ∷ [])) ∷ cmd Quit ∷ []) ∷
+for_left_without_its_local : says
+    (line (cmd (For (local (codes "I")) (UpTo (text "1") (text "1") (text "3") ∷ [])) ∷ write (get "I" ∷ []) ∷ cmd (Kill (Gone (local (codes "I")) ∷ [])) ∷ cmd Quit ∷ []) ∷
     line (write (text "e" ∷ []) ∷ []) ∷ [])
     ≡ Some (codes "1e")
 unfolding digits
@@ -131,7 +136,9 @@ unfolding digits
 for_of_texts = refl
 
 --  SET N=1 FOR I=N,N,N:1:N+1 WRITE I SET N=N+1
-for_evaluates_a_range_when_it_is_reached : says (line (assign (let_be "N" (text "1") ∷ []) ∷ cmd (For (local (codes "I")) (Single (get "N") ∷ Single (get "N") ∷ UpTo (get "N") (text "1") (Chain (Value (local (codes "N"))) (Then Add (Literal (codes "1")) Done)) ∷ [])) ∷ write (get "I" ∷ []) ∷ assign (let_be "N" (Chain (Value (local (codes "N"))) (Then Add (Literal (codes "1")) Done)) ∷ []) ∷ []) ∷ [])
+for_evaluates_a_range_when_it_is_reached : says (line (assign (let_be "N" (text "1") ∷ [])
+    ∷ cmd (For (local (codes "I")) (Single (get "N") ∷ Single (get "N") ∷ UpTo (get "N") (text "1") (Chain (Value (local (codes "N"))) (Then Add (Literal (codes "1")) Done)) ∷ []))
+    ∷ write (get "I" ∷ []) ∷ assign (let_be "N" (Chain (Value (local (codes "N"))) (Then Add (Literal (codes "1")) Done)) ∷ []) ∷ []) ∷ [])
     ≡ Some (codes "1234")
 unfolding digits
 for_evaluates_a_range_when_it_is_reached = refl
@@ -143,7 +150,8 @@ unfolding digits
 for_without_a_pass_goes_on = refl
 
 --  SET J=1 FOR A(J)=1:1:3 SET J=J+1 /  WRITE A(1),$DATA(A(2))
-for_evaluates_its_subscripts_once : says (line (assign (let_be "J" (text "1") ∷ []) ∷ cmd (For (local_at (codes "A") (get "J")) (UpTo (text "1") (text "1") (text "3") ∷ [])) ∷ assign (let_be "J" (Chain (Value (local (codes "J"))) (Then Add (Literal (codes "1")) Done)) ∷ []) ∷ []) ∷
+for_evaluates_its_subscripts_once : says (line (assign (let_be "J" (text "1") ∷ []) ∷ cmd (For (local_at (codes "A") (get "J")) (UpTo (text "1") (text "1") (text "3") ∷ []))
+    ∷ assign (let_be "J" (Chain (Value (local (codes "J"))) (Then Add (Literal (codes "1")) Done)) ∷ []) ∷ []) ∷
     line (write (one (Value (local_at (codes "A") (text "1"))) ∷ data_of (local_at (codes "A") (text "2")) ∷ []) ∷ []) ∷ [])
     ≡ Some (codes "30")
 unfolding digits
@@ -156,7 +164,8 @@ unfolding digits
 for_names_its_local_first = refl
 
 --  FOR I="9999999999999999999":1/0:1
-for_evaluates_all_before_it_reads : says (line (cmd (For (local (codes "I")) (UpTo (text "9999999999999999999") (Chain (Literal (codes "1")) (Then Divide (Literal (codes "0")) Done)) (text "1") ∷ [])) ∷ []) ∷ [])
+for_evaluates_all_before_it_reads : says
+    (line (cmd (For (local (codes "I")) (UpTo (text "9999999999999999999") (Chain (Literal (codes "1")) (Then Divide (Literal (codes "0")) Done)) (text "1") ∷ [])) ∷ []) ∷ [])
     ≡ Some (codes "F2 DIVIDE R:1" ++ 10 ∷ [])
 unfolding digits
 for_evaluates_all_before_it_reads = refl
@@ -169,7 +178,8 @@ unfolding digits
 for_without_end = refl
 
 --  SET I=0 FOR  SET I=I+1 QUIT:I>3  WRITE I /  WRITE "e"
-for_forever : says (line (assign (let_be "I" (text "0") ∷ []) ∷ cmd Forever ∷ assign (let_be "I" (Chain (Value (local (codes "I"))) (Then Add (Literal (codes "1")) Done)) ∷ []) ∷ cmd_if (Chain (Value (local (codes "I"))) (Then (Is Greater) (Literal (codes "3")) Done)) Quit ∷ write (get "I" ∷ []) ∷ []) ∷
+for_forever : says (line (assign (let_be "I" (text "0") ∷ []) ∷ cmd Forever ∷ assign (let_be "I" (Chain (Value (local (codes "I"))) (Then Add (Literal (codes "1")) Done)) ∷ [])
+    ∷ cmd_if (Chain (Value (local (codes "I"))) (Then (Is Greater) (Literal (codes "3")) Done)) Quit ∷ write (get "I" ∷ []) ∷ []) ∷
     line (write (text "e" ∷ []) ∷ []) ∷ [])
     ≡ Some (codes "123e")
 unfolding digits
@@ -193,7 +203,8 @@ unfolding digits
 quit_leaves_all_ranges = refl
 
 --  FOR I=1:1:3 GOTO B:I=2 WRITE I / B WRITE "b",I
-goto_leaves_a_for : says (line (cmd (For (local (codes "I")) (UpTo (text "1") (text "1") (text "3") ∷ [])) ∷ cmd (Goto (go_if (Chain (Value (local (codes "I"))) (Then (Is Equal) (Literal (codes "2")) Done)) (here "B") ∷ [])) ∷ write (get "I" ∷ []) ∷ []) ∷
+goto_leaves_a_for : says (line (cmd (For (local (codes "I")) (UpTo (text "1") (text "1") (text "3") ∷ []))
+    ∷ cmd (Goto (go_if (Chain (Value (local (codes "I"))) (Then (Is Equal) (Literal (codes "2")) Done)) (here "B") ∷ [])) ∷ write (get "I" ∷ []) ∷ []) ∷
     at "B" (write (text "b" ∷ get "I" ∷ []) ∷ []) ∷ [])
     ≡ Some (codes "1b2")
 unfolding digits
@@ -202,7 +213,8 @@ goto_leaves_a_for = refl
 --  DO A WRITE "e" QUIT / A FOR I=1:1:2 FOR J=1:1:2 WRITE I,J GOTO B /  WRITE "x" / B QUIT /  WRITE "x"
 -- a QUIT behind it is that of the frame
 goto_leaves_every_for : says (line (cmd (Do (do_it (here "A") [] ∷ [])) ∷ write (text "e" ∷ []) ∷ cmd Quit ∷ []) ∷
-    at "A" (cmd (For (local (codes "I")) (UpTo (text "1") (text "1") (text "2") ∷ [])) ∷ cmd (For (local (codes "J")) (UpTo (text "1") (text "1") (text "2") ∷ [])) ∷ write (get "I" ∷ get "J" ∷ []) ∷ cmd (Goto (go (here "B") ∷ [])) ∷ []) ∷
+    at "A" (cmd (For (local (codes "I")) (UpTo (text "1") (text "1") (text "2") ∷ []))
+    ∷ cmd (For (local (codes "J")) (UpTo (text "1") (text "1") (text "2") ∷ [])) ∷ write (get "I" ∷ get "J" ∷ []) ∷ cmd (Goto (go (here "B") ∷ [])) ∷ []) ∷
     line (write (text "x" ∷ []) ∷ []) ∷
     at "B" (cmd Quit ∷ []) ∷
     line (write (text "x" ∷ []) ∷ []) ∷ [])
@@ -211,7 +223,8 @@ unfolding digits
 goto_leaves_every_for = refl
 
 --  FOR I=1:1:3 IF I'=2 WRITE I /  FOR I=1,2 WRITE I ELSE  WRITE "x" /  FOR I=1,2 WRITE I IF 0 /  FOR I=1,2 WRITE I IF  WRITE "x" /  WRITE "e"
-a_false_condition_ends_a_pass : says (line (cmd (For (local (codes "I")) (UpTo (text "1") (text "1") (text "3") ∷ [])) ∷ cmd (If (Chain (Value (local (codes "I"))) (Then (IsNot Equal) (Literal (codes "2")) Done) ∷ [])) ∷ write (get "I" ∷ []) ∷ []) ∷
+a_false_condition_ends_a_pass : says (line (cmd (For (local (codes "I")) (UpTo (text "1") (text "1") (text "3") ∷ []))
+    ∷ cmd (If (Chain (Value (local (codes "I"))) (Then (IsNot Equal) (Literal (codes "2")) Done) ∷ [])) ∷ write (get "I" ∷ []) ∷ []) ∷
     line (cmd (For (local (codes "I")) (Single (text "1") ∷ Single (text "2") ∷ [])) ∷ write (get "I" ∷ []) ∷ cmd Else ∷ write (text "x" ∷ []) ∷ []) ∷
     line (cmd (For (local (codes "I")) (Single (text "1") ∷ Single (text "2") ∷ [])) ∷ write (get "I" ∷ []) ∷ cmd (If (text "0" ∷ [])) ∷ []) ∷
     line (cmd (For (local (codes "I")) (Single (text "1") ∷ Single (text "2") ∷ [])) ∷ write (get "I" ∷ []) ∷ cmd (If []) ∷ write (text "x" ∷ []) ∷ []) ∷
@@ -221,7 +234,9 @@ unfolding digits
 a_false_condition_ends_a_pass = refl
 
 --  FOR I=1:1:2 FOR J=1:1:3 IF I<J WRITE I,J,","
-a_false_condition_ends_an_inner_pass : says (line (cmd (For (local (codes "I")) (UpTo (text "1") (text "1") (text "2") ∷ [])) ∷ cmd (For (local (codes "J")) (UpTo (text "1") (text "1") (text "3") ∷ [])) ∷ cmd (If (Chain (Value (local (codes "I"))) (Then (Is Less) (Value (local (codes "J"))) Done) ∷ [])) ∷ write (get "I" ∷ get "J" ∷ text "," ∷ []) ∷ []) ∷ [])
+a_false_condition_ends_an_inner_pass : says
+    (line (cmd (For (local (codes "I")) (UpTo (text "1") (text "1") (text "2") ∷ [])) ∷ cmd (For (local (codes "J")) (UpTo (text "1") (text "1") (text "3") ∷ []))
+    ∷ cmd (If (Chain (Value (local (codes "I"))) (Then (Is Less) (Value (local (codes "J"))) Done) ∷ [])) ∷ write (get "I" ∷ get "J" ∷ text "," ∷ []) ∷ []) ∷ [])
     ≡ Some (codes "12,13,23,")
 unfolding digits
 a_false_condition_ends_an_inner_pass = refl

@@ -102,7 +102,8 @@ unfolding digits
 principal_stays = refl
 
 --  OPEN "F" USE "F" WRITE $IO USE 0 WRITE $IO USE "F" CLOSE "F" WRITE $IO
-current : of_line (opens (text "F") None ∷ cmd (UseDevice (text "F" ∷ [])) ∷ write (io ∷ []) ∷ cmd (UseDevice (text "0" ∷ [])) ∷ write (io ∷ []) ∷ cmd (UseDevice (text "F" ∷ [])) ∷ cmd (CloseDevice (text "F" ∷ [])) ∷ write (io ∷ []) ∷ [])
+current : of_line (opens (text "F") None ∷ cmd (UseDevice (text "F" ∷ [])) ∷ write (io ∷ []) ∷ cmd (UseDevice (text "0" ∷ [])) ∷ write (io ∷ []) ∷ cmd (UseDevice (text "F" ∷ []))
+    ∷ cmd (CloseDevice (text "F" ∷ [])) ∷ write (io ∷ []) ∷ [])
     (reply.Got ∷ replicate 6 reply.Done)
     ≡ between (ask.Shared (shared_asks.Open file None) ∷ ask.Device file device_asks.Begin ∷ ask.Device file (device_asks.Write file) ∷ says (codes "0") ∷ ask.Device file device_asks.End
     ∷ ask.Shared (shared_asks.Close file) ∷ says (codes "0") ∷ [])
@@ -136,14 +137,16 @@ no_more = (refl, refl)
 -- READ.
 
 --  READ X WRITE X READ Y:0 WRITE "[",Y,"]",$TEST, where the input ends behind one line
-reads : of_line (cmd (Read (into (local (codes "X")) None ∷ [])) ∷ write (get "X" ∷ []) ∷ cmd (Read (into (local (codes "Y")) (Some (text "0")) ∷ [])) ∷ write (text "[" ∷ get "Y" ∷ text "]" ∷ test ∷ []) ∷ [])
+reads : of_line (cmd (Read (into (local (codes "X")) None ∷ [])) ∷ write (get "X" ∷ []) ∷ cmd (Read (into (local (codes "Y")) (Some (text "0")) ∷ []))
+    ∷ write (text "[" ∷ get "Y" ∷ text "]" ∷ test ∷ []) ∷ [])
     (reply.Line (codes "hi") ∷ reply.Done ∷ reply.End ∷ reply.Done ∷ reply.Done ∷ reply.Done ∷ [])
     ≡ between (ask.Device principal (device_asks.Line None) ∷ says (codes "hi") ∷ ask.Device principal (device_asks.Line (Some (pos 0))) ∷ says (codes "[") ∷ says (codes "]") ∷ says (codes "0") ∷ [])
 unfolding digits
 reads = refl
 
 --  READ "n? ",!,^V:1,*X WRITE $TEST,X,$X,$Y: a READ moves neither `$X` nor `$Y`, and without a timeout it leaves `$TEST`
-reads_on : of_line (cmd (Read (Prompted (codes "n? ") ∷ Arranged (record { marks = NewLine ∷ []; column = None }) ∷ into (global (codes "V")) (Some (text "1")) ∷ byte_into (local (codes "X")) None ∷ []))
+reads_on : of_line
+    (cmd (Read (Prompted (codes "n? ") ∷ Arranged (record { marks = NewLine ∷ []; column = None }) ∷ into (global (codes "V")) (Some (text "1")) ∷ byte_into (local (codes "X")) None ∷ []))
     ∷ write (test ∷ get "X" ∷ one (Intrinsic special.X) ∷ one (Intrinsic special.Y) ∷ []) ∷ [])
     (reply.Done ∷ reply.Done ∷ reply.Line (codes "seven") ∷ reply.Answer answer.Done ∷ reply.End ∷ replicate 4 reply.Done)
     ≡ between (says (codes "n? ") ∷ says (10 ∷ []) ∷ ask.Device principal (device_asks.Line (Some (pos 1))) ∷ ask.Shared (shared_asks.Access (access.Set (name (codes "V")) (codes "seven")))
@@ -168,7 +171,8 @@ reads_nothing = refl
 -- WRITE.
 
 --  WRITE "ab",?5,"c",!,$X," ",$Y
-columns : of_line (cmd (Write (shown (text "ab") ∷ Format (record { marks = []; column = Some (text "5") }) ∷ shown (text "c") ∷ marks (NewLine ∷ []) ∷ shown (one (Intrinsic special.X)) ∷ shown (text " ") ∷ shown (one (Intrinsic special.Y)) ∷ [])) ∷ [])
+columns : of_line (cmd (Write (shown (text "ab") ∷ Format (record { marks = []; column = Some (text "5") })
+    ∷ shown (text "c") ∷ marks (NewLine ∷ []) ∷ shown (one (Intrinsic special.X)) ∷ shown (text " ") ∷ shown (one (Intrinsic special.Y)) ∷ [])) ∷ [])
     (replicate 7 reply.Done)
     ≡ between (says (codes "ab") ∷ says (codes "   ") ∷ says (codes "c") ∷ says (10 ∷ []) ∷ says (codes "0") ∷ says (codes " ") ∷ says (codes "1") ∷ [])
 unfolding digits

@@ -77,7 +77,8 @@ label_of label routine values timeout = ask.Shared (shared_asks.Start (record { 
 --  JOB A,A(1,,$JOB),^Q(),B^Q::5,Z::"x" WRITE $TEST
 -- the entry is the new job's: it need not be there
 starts : of_line (cmd (Job (start_at (here "A") [] None ∷ start_at (here "A") (Some (text "1") ∷ None ∷ Some (one (Intrinsic special.Job)) ∷ []) None ∷ start_at (top "Q") [] None
-    ∷ start_at (there "B" "Q") [] (Some (text "5")) ∷ start_at (here "Z") [] (Some (text "x")) ∷ [])) ∷ write (test ∷ []) ∷ []) (reply.Job 2 ∷ reply.Job 3 ∷ reply.Job 4 ∷ reply.Job 5 ∷ reply.Job 6 ∷ reply.Done ∷ [])
+    ∷ start_at (there "B" "Q") [] (Some (text "5")) ∷ start_at (here "Z") [] (Some (text "x")) ∷ [])) ∷ write (test ∷ []) ∷ [])
+    (reply.Job 2 ∷ reply.Job 3 ∷ reply.Job 4 ∷ reply.Job 5 ∷ reply.Job 6 ∷ reply.Done ∷ [])
     ≡ between (label_of (Some (codes "A")) (codes "R") [] None ∷ label_of (Some (codes "A")) (codes "R") (Some (codes "1") ∷ None ∷ Some (codes "1") ∷ []) None
     ∷ label_of None (codes "Q") [] None ∷ label_of (Some (codes "B")) (codes "Q") [] (Some (pos 5)) ∷ label_of (Some (codes "Z")) (codes "R") [] (Some (pos 0)) ∷ wrote_test (codes "1") ∷ [])
 unfolding digits
@@ -141,7 +142,8 @@ unfolding digits
 lists = refl
 
 --  LOCK A:0 WRITE $TEST LOCK +A:1 WRITE $TEST LOCK +A WRITE $TEST, of which the first comes late: the names are given up before that all the same
-late : of_line (cmd (Lock (lock mode.Plus (Lone (local (codes "A"))) (Some (text "1")) ∷ [])) ∷ write (test ∷ []) ∷ cmd (Lock (lock mode.Whole (Lone (local (codes "A"))) (Some (text "0")) ∷ [])) ∷ write (test ∷ []) ∷ cmd (Lock (lock mode.Plus (Lone (local (codes "A"))) None ∷ [])) ∷ write (test ∷ []) ∷ [])
+late : of_line (cmd (Lock (lock mode.Plus (Lone (local (codes "A"))) (Some (text "1")) ∷ [])) ∷ write (test ∷ []) ∷ cmd (Lock (lock mode.Whole (Lone (local (codes "A"))) (Some (text "0")) ∷ []))
+    ∷ write (test ∷ []) ∷ cmd (Lock (lock mode.Plus (Lone (local (codes "A"))) None ∷ [])) ∷ write (test ∷ []) ∷ [])
     (reply.Got ∷ reply.Done ∷ reply.Done ∷ reply.Late ∷ reply.Done ∷ reply.Got ∷ reply.Done ∷ [])
     ≡ between (ask.Shared (shared_asks.Try (local_a ∷ []) (Some (pos 1))) ∷ wrote_test (codes "1") ∷ ask.Shared shared_asks.UnlockAll ∷ ask.Shared (shared_asks.Try (local_a ∷ []) (Some (pos 0)))
     ∷ wrote_test (codes "0") ∷ ask.Shared (shared_asks.Try (local_a ∷ []) None) ∷ wrote_test (codes "0") ∷ [])

@@ -140,7 +140,8 @@ unfolding digits
 clashes = refl
 
 --  TSTART  TSTART *:(S) TCOMMIT  WRITE $TLEVEL TCOMMIT  WRITE $TLEVEL: an inner one asks nothing
-inner_levels : of_lines (line (tstart ∷ cmd (TStart (Some (record { restored = Everything; serial = serial.Enclosed }))) ∷ tcommit ∷ write (level ∷ []) ∷ tcommit ∷ write (level ∷ []) ∷ []) ∷ []) (replicate 4 reply.Done)
+inner_levels : of_lines (line (tstart ∷ cmd (TStart (Some (record { restored = Everything; serial = serial.Enclosed }))) ∷ tcommit ∷ write (level ∷ []) ∷ tcommit ∷ write (level ∷ []) ∷ []) ∷ [])
+    (replicate 4 reply.Done)
     ≡ between (ask.Shared (shared_asks.Begin kind.Plain) ∷ wrote "1" ∷ ask.Shared shared_asks.Commit ∷ wrote "0" ∷ [])
 unfolding digits
 inner_levels = refl
@@ -189,7 +190,8 @@ goes_back : says (
     write (Chain (Value (local (codes "I"))) (with_blank (Value (local (codes "X")) ∷ Value (local (codes "Y")) ∷ Value (local (codes "W")) ∷ Intrinsic special.Test ∷ [])) ∷ []) ∷
     cmd (Do (do_it (here "A") [] ∷ [])) ∷ tcommit ∷ []) ∷
     line (cmd Quit ∷ []) ∷
-    at "A" (cmd (New (Fresh (codes "Y") ∷ [])) ∷ assign (let_be "X" (text "5") ∷ let_be "Y" (text "7") ∷ let_be "W" (plus_one "W") ∷ []) ∷ cmd (If (text "1" ∷ [])) ∷ cmd Forever ∷ once_more ∷ cmd Quit ∷ []) ∷ [])
+    at "A" (cmd (New (Fresh (codes "Y") ∷ []))
+    ∷ assign (let_be "X" (text "5") ∷ let_be "Y" (text "7") ∷ let_be "W" (plus_one "W") ∷ []) ∷ cmd (If (text "1" ∷ [])) ∷ cmd Forever ∷ once_more ∷ cmd Quit ∷ []) ∷ [])
     ≡ Some (codes "11100 11110 25121 25131 ")
 unfolding digits
 goes_back = refl
@@ -228,7 +230,8 @@ counts_restarts = refl
 
 --  TSTART () WRITE:$TRESTART=1 Z GOTO B /  WRITE "x" / B TRESTART
 -- behind the restart the job stands in the line of the TSTART again
-stands_there : says (line (restoring nothing ∷ cmd_if (Chain (Intrinsic special.TRestart) (Then (Is Equal) (Literal (codes "1")) Done)) (Set (let_be "Y" (get "Z") ∷ [])) ∷ cmd (Goto (go (here "B") ∷ [])) ∷ []) ∷
+stands_there : says (line (restoring nothing
+    ∷ cmd_if (Chain (Intrinsic special.TRestart) (Then (Is Equal) (Literal (codes "1")) Done)) (Set (let_be "Y" (get "Z") ∷ [])) ∷ cmd (Goto (go (here "B") ∷ [])) ∷ []) ∷
     line (write (text "x" ∷ []) ∷ []) ∷ at "B" (trestart ∷ []) ∷ [])
     ≡ faulty "F1 UNDEF R:1"
 unfolding digits
@@ -248,12 +251,14 @@ unfolding digits
 quits_at_the_mark = refl
 
 --  DO A WRITE "x" / A TSTART  /  SET X=1, where the end of the routine is a QUIT
-ends_at_the_mark : says (line (cmd (Do (do_it (here "A") [] ∷ [])) ∷ write (text "x" ∷ []) ∷ []) ∷ at "A" (tstart ∷ []) ∷ line (assign (let_be "X" (text "1") ∷ []) ∷ []) ∷ []) ≡ faulty "F10 TXQUIT R:3"
+ends_at_the_mark : says (line (cmd (Do (do_it (here "A") [] ∷ [])) ∷ write (text "x" ∷ []) ∷ []) ∷ at "A" (tstart ∷ []) ∷ line (assign (let_be "X" (text "1") ∷ []) ∷ []) ∷ [])
+    ≡ faulty "F10 TXQUIT R:3"
 unfolding digits
 ends_at_the_mark = refl
 
 --  TSTART  DO A FOR  QUIT /  TCOMMIT  WRITE "e" QUIT / A QUIT: the QUIT of a frame above, and of a FOR
-quits_above : says (line (tstart ∷ cmd (Do (do_it (here "A") [] ∷ [])) ∷ cmd Forever ∷ cmd Quit ∷ []) ∷ line (tcommit ∷ write (text "e" ∷ []) ∷ cmd Quit ∷ []) ∷ at "A" (cmd Quit ∷ []) ∷ []) ≡ Some (codes "e")
+quits_above : says (line (tstart ∷ cmd (Do (do_it (here "A") [] ∷ [])) ∷ cmd Forever ∷ cmd Quit ∷ []) ∷ line (tcommit ∷ write (text "e" ∷ []) ∷ cmd Quit ∷ []) ∷ at "A" (cmd Quit ∷ []) ∷ [])
+    ≡ Some (codes "e")
 unfolding digits
 quits_above = refl
 

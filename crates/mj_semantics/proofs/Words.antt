@@ -174,7 +174,8 @@ is_about k x o l =
 pub stores : {more b : ℕ} (x : Name) (v : List ℕ) {f g : Timed} → Keeps more b f g → Keeps more b (store x v f) (store x v g)
 stores x v l = accesses_keep (accesses.Set x v) (λ a. l)
 
-renews_pieces : {more b : ℕ} (x : Name) (d : List ℕ) (range : ℕ × ℕ) (e : List ℕ) {f g : List ℕ → Timed} → ((v : List ℕ) → Keeps more b (f v) (g v)) → Keeps more b (renewed x d range e f) (renewed x d range e g)
+renews_pieces : {more b : ℕ} (x : Name) (d : List ℕ) (range : ℕ × ℕ) (e : List ℕ) {f g : List ℕ → Timed}
+    → ((v : List ℕ) → Keeps more b (f v) (g v)) → Keeps more b (renewed x d range e f) (renewed x d range e g)
 renews_pieces x d range e l = accesses_keep (accesses.Value x) (λ a. is_given (set_piece_value (or_empty (value_told a)) d range e) l)
 
 pub renews : {more b : ℕ} (x : Name) (ts : List (List ℕ)) (e : List ℕ) {f f' : Timed} {g g' : List ℕ → Timed} → Keeps more b f f' → ((v : List ℕ) → Keeps more b (g v) (g' v))
@@ -243,7 +244,8 @@ pub tests : {more b : ℕ} (t : Bool) {f g f' g' : Timed} → Keeps more b f g �
 tests true l m = looked (λ s. chosen s.test m l)
 tests false l m = looked (λ s. chosen s.test l m)
 
-steps_on : {more b : ℕ} (x : Name) (step : ℤ) (end : Option ℤ) (i : ℤ) {f g f' g' : Timed} → Keeps more b f g → Keeps more b f' g' → Keeps more b (stepped x step end i f f') (stepped x step end i g g')
+steps_on : {more b : ℕ} (x : Name) (step : ℤ) (end : Option ℤ) (i : ℤ) {f g f' g' : Timed}
+    → Keeps more b f g → Keeps more b f' g' → Keeps more b (stepped x step end i f f') (stepped x step end i g g')
 steps_on x step None i l m = is_given (sum_of i step) (λ j. stores x (canonic_text j) m)
 steps_on x step (Some end) i l m = chosen (is_within step end (i +ℤ step)) (stores x (canonic_text (i +ℤ step)) m) l
 
@@ -271,7 +273,8 @@ out_of l = looked (λ s. chosen (nat_lt 0 s.level) faulted l)
 pub hangs : {more b : ℕ} (v : List ℕ) {f g : Timed} → Keeps more b f g → Keeps more b (hang v f) (hang v g)
 hangs v l = is_given (reading v) (λ n. chosen (int_lt (pos 0) n) (told_of _ l) l)
 
-pub starts_job : {more b : ℕ} (entry : Entry) (vs : List (Option (List ℕ))) (timeout : Option ℤ) {f g : Timed} → Keeps more b f g → Keeps more b (start_job entry vs timeout f) (start_job entry vs timeout g)
+pub starts_job : {more b : ℕ} (entry : Entry) (vs : List (Option (List ℕ))) (timeout : Option ℤ) {f g : Timed}
+    → Keeps more b f g → Keeps more b (start_job entry vs timeout f) (start_job entry vs timeout g)
 starts_job entry vs timeout l = out_of (asked _ (λ r. serves timeout r l))
 
 pub unlocks_all : {more b : ℕ} {f g : Timed} → Keeps more b f g → Keeps more b (unlock_all f) (unlock_all g)
@@ -292,7 +295,8 @@ locks mode.Minus xs timeout l = a_turn (gives_names xs timeout l)
 
 -- OPEN, USE, CLOSE and READ.
 
-obtains : {more b : ℕ} (name : List ℕ) (timeout : Option ℤ) {f g f' g' : Timed} → Keeps more b f g → Keeps more b f' g' → Keeps more b (request_device name timeout f f') (request_device name timeout g g')
+obtains : {more b : ℕ} (name : List ℕ) (timeout : Option ℤ) {f g f' g' : Timed} → Keeps more b f g
+    → Keeps more b f' g' → Keeps more b (request_device name timeout f f') (request_device name timeout g g')
 obtains name timeout l m = looked (λ s.
     chosen (is_open name s) (changed {c = in_time timeout true} l)
     (chosen (nat_lt devices_limit (length s.devices)) faulted

@@ -1,7 +1,21 @@
 // Laws of every run: each function has nothing to do, and its contract is the law.
 
-ghost use Rattle.mj_serial.specs.Laws.{OpensSo, IsSerial, ClashesMust};
+ghost use Rattle.mj_load.specs.Image.{routines_of};
+ghost use Rattle.mj_serial.specs.Laws.{OpensSo, IsSerial, ClashesMust, NoneIsOpen, IsAsAlone, AllMustClash};
 ghost use Rattle.mj_serial.specs.Rules.{Exactly, ByNames, AfterAll, IsSerialBy, ClashesMustBy};
+
+use mj_core::{Answerer, Core, Fresh};
+use mj_dev::Device;
+use mj_sys::Opening;
+
+/// What the jobs of a core did is as their blocks run alone, and each commit of theirs that clashed had to, where no transaction is open at the opening.
+pub fn holds<D: Device, A: Answerer<Fresh<D>>, O: Opening>(core: &Core<D, A, O>)
+    ensures serial { NoneIsOpen O.opening → IsAsAlone (routines_of core.now.image) O.opening core.now.history }
+    ensures clashes { NoneIsOpen O.opening → AllMustClash (routines_of core.now.image) O.opening core.now.history }
+{
+    // that its history is a run comes with its length
+    let _run = core.len();
+}
 
 /// Every run of many jobs is as its blocks run alone, in the order of their commits.
 pub fn serial()

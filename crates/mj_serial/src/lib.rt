@@ -6,8 +6,8 @@
 // what a SERIAL commit is told, this system's among them (`Exactly`), so that wrong ones can be refuted.
 //
 // `specs/Laws.antt` has the laws of every run of many jobs (`IsSerial`, `ClashesMust`). The functions of `laws` have nothing to do: their contracts
-// are the laws. `serial_blocks` gives the blocks of a history, and `blocks` those of a core's, of which its contract has both laws. `proofs/Examples.antt`
-// has a transfer, a write skew and a phantom.
+// are the laws, and `holds` says both of a core. `serial_blocks` gives the blocks of a history. `proofs/Examples.antt` has a transfer, a write skew and
+// a phantom.
 #![tactic(auto)]
 
 mod entries;
@@ -15,7 +15,7 @@ mod laws;
 mod scanning;
 
 pub use laws::{
-    after_all_writes_is_late, clashes_must, names_are_not_enough, none_is_open, of_all_programs,
-    serial,
+    after_all_writes_is_late, clashes_must, holds, names_are_not_enough, none_is_open,
+    of_all_programs, serial,
 };
-pub use scanning::{Block, blocks, serial_blocks};
+pub use scanning::{Block, serial_blocks};

@@ -1,18 +1,13 @@
 // The blocks of a history.
 
 ghost use Rattle.std.specs.Prelude.{◌≡◌, ◌<◌, ◌∷◌, ℕ, suc, map, Some, None, length, slice_index_or, slice_set, IfOk, OnOk};
-ghost use Rattle.mj_load.specs.Image.{routines_of};
 ghost use Rattle.mj_sys.specs.History.{History};
-ghost use Rattle.mj_core.specs.Runs.{IsRun};
 ghost use Rattle.mj_serial.specs.Blocks.{blocks_of, entry_of};
-ghost use Rattle.mj_serial.specs.Laws.{NoneIsOpen, IsAsAlone, AllMustClash};
 ghost use Rattle.mj_serial.specs.Shown.{Shown, shown, shown_after, shown_done, with_entry, shown_single, all_from};
 
 use crate::entries::entry_of;
 use mj_ask::{Ask, Kind, Reply, SharedAsk};
-use mj_core::Core;
-use mj_dev::Device;
-use mj_sys::{Event, Opening};
+use mj_sys::Event;
 use mj_txlog::Entry;
 use std::alloc::{AllocError, Global};
 use std::marker::Model;
@@ -58,31 +53,7 @@ pub fn serial_blocks(alloc: Global, history: &[Event]) -> Result<Vec<Block>, All
     }
 }
 
-/// The blocks of what the jobs of a core asked and were told, as `serial_blocks` gives them. It copies accesses with their answers, and the names of
-/// unlocks, and nothing else. What the jobs did is as these blocks run alone, and each commit that clashed had to, where no transaction is open at
-/// the opening.
-pub fn blocks<D: Device, O: Opening>(
-    alloc: Global,
-    core: &Core<D, O>,
-) -> Result<Vec<Block>, AllocError>
-    ensures which { IfOk result (λ blocks. blocks.items ≡ map shown (blocks_of core.now.history)) }
-    ensures serial { NoneIsOpen O.opening → IsAsAlone (routines_of core.now.image) O.opening core.now.history }
-    ensures clashes { NoneIsOpen O.opening → AllMustClash (routines_of core.now.image) O.opening core.now.history }
-{
-    let mut table = Vec::new(alloc);
-    let mut done = Vec::new(alloc);
-    let scanned = scan_core(alloc, &mut table, &mut done, core);
-    drop(table);
-    match scanned {
-        Ok(()) => Ok(done),
-        Err(refused) => {
-            drop(done);
-            Err(refused)
-        }
-    }
-}
-
-// The scan: what each job has open, by its number, and the blocks that are over.
+// Scans a history: what each job has open, by its number, and the blocks that are over.
 fn scan(
     alloc: Global,
     table: &mut Vec<Option<Block>>,
@@ -105,26 +76,7 @@ fn scan(
     Ok(())
 }
 
-// The same scan of a core's history.
-fn scan_core<D: Device, O: Opening>(
-    alloc: Global,
-    table: &mut Vec<Option<Block>>,
-    done: &mut Vec<Block>,
-    core: &Core<D, O>,
-) -> Result<(), AllocError>
-    ensures which { OnOk result (done.new.items ≡ all_from done.old.items table.old.items 1 core.now.history) }
-    ensures run { IsRun (routines_of core.now.image) O.opening core.now.history }
-{
-    'events: for place in 0..core.len() {
-        let Some((job, ask, reply)) = core.event(place) else {
-            unreachable!();
-        };
-        look(alloc, table, done, place + 1, job, ask, reply)?;
-    }
-    Ok(())
-}
-
-// One event of it.
+// Looks at one event of it.
 fn look(
     alloc: Global,
     table: &mut Vec<Option<Block>>,
@@ -151,7 +103,7 @@ fn look(
     }
 }
 
-// There is a place for the job.
+// Makes a place for the job.
 fn widen(table: &mut Vec<Option<Block>>, job: usize) -> Result<(), AllocError>
     ensures room { OnOk result (job < length table.new.items) }
     ensures same { (j : ℕ) → slice_index_or table.new.items j None ≡ slice_index_or table.old.items j None }
@@ -162,7 +114,7 @@ fn widen(table: &mut Vec<Option<Block>>, job: usize) -> Result<(), AllocError>
     Ok(())
 }
 
-// What the job has open is taken out of its place.
+// Takes what the job has open out of its place.
 fn take_out(table: &mut Vec<Option<Block>>, job: usize) -> Option<Block>
     requires { job < length table.old.items }
     ensures taken { result ≡ slice_index_or table.old.items job None }
@@ -171,7 +123,7 @@ fn take_out(table: &mut Vec<Option<Block>>, job: usize) -> Option<Block>
     table[job].take()
 }
 
-// The job has this open, or nothing.
+// Puts back what the job has open, or nothing.
 fn put_back(table: &mut Vec<Option<Block>>, job: usize, block: Option<Block>)
     requires { job < length table.old.items }
     ensures { table.new.items ≡ slice_set table.old.items job block }
@@ -197,7 +149,7 @@ fn step(
     }
 }
 
-// The same of a job that has no transaction open.
+// Gives what a job has open after an event, and the block that is over with it, where it has no transaction open.
 fn outside(
     alloc: Global,
     place: usize,
@@ -226,7 +178,7 @@ fn outside(
     }
 }
 
-// A single access as a block.
+// Makes a block of a single access.
 fn single(
     alloc: Global,
     job: u32,
@@ -250,7 +202,7 @@ fn single(
     }
 }
 
-// The same of a job that has this transaction open.
+// Gives what a job has open after an event, and the block that is over with it, where it has this transaction open.
 fn within(
     alloc: Global,
     block: Block,
@@ -276,7 +228,7 @@ fn within(
     }
 }
 
-// The transaction with the access that the event is, if it is one.
+// Adds the access that the event is to the transaction, if it is one.
 fn longer(
     alloc: Global,
     mut block: Block,

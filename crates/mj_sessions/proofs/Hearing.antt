@@ -1,5 +1,5 @@
 -- What a session answers to each call.
-use Rattle.std.proofs.Common.{ℕ, Bool, true, false, List, [], ◌∷◌, Option, Some, None, ◌≡◌, ◌++◌, subst, refl, sym, inl, inr}
+use Rattle.std.proofs.Common.{ℕ, Bool, true, false, List, [], ◌∷◌, Option, Some, None, ◌≡◌, ◌++◌, subst, refl, sym, ap, ◌∙◌, inl, inr}
 use Rattle.std.specs.Prelude.{ℤ, ◌⊎◌}
 use Rattle.mj_ask.specs.declared.ask.DeviceAsk.TheVariants as device_asks
 use Rattle.mj_dev.specs.declared.device.Did.{Did}
@@ -9,7 +9,7 @@ use Rattle.mj_dev.specs.declared.device.Input.TheVariants as input
 use Rattle.mj_dev.specs.declared.talk.Code.{Code}
 use Rattle.mj_dev.specs.declared.talk.Code.TheVariants as codes
 use Rattle.mj_dev.specs.declared.talk.State.TheVariants as states
-use Rattle.mj_dev.specs.Heard.{Heard, DeviceBegins, Writes, Lines, Bytes}
+use Rattle.mj_dev.specs.Heard.{Heard, DeviceBegins, Writes, Lines, Bytes, called}
 use Rattle.mj_dev.specs.Did.{IsAnswered}
 use Rattle.mj_dev.specs.declared.talk.State.{State}
 use Rattle.mj_dev.specs.Talk.{Exchange, Ended, Talks, FollowsProtocol, Allows, stand_of}
@@ -27,13 +27,16 @@ module _ (old new : Heard) (usable : old.state ≡ states.Open) where
   wrote bytes late did.Failed e = (usable, e, refl, (λ q. cc))
   wrote bytes late did.Memory e = (usable, e)
 
+  uncalled : new ≡ old → new ≡ called old new
+  uncalled e = e ∙ ap (λ n. record old { inside = n }) (sym (ap (λ (h : Heard). h.inside) e))
+
   at_rest : (read : Input) (rest : Option (List ℕ)) → old.rest ≡ rest → Lines old rest read new → Lines old old.rest read new
   at_rest read rest is e = let P : Option (List ℕ) → Type 0 = λ r. Lines old r read new in subst P (sym is) e
 
   at_byte : (code : Code) (rest : Option (List ℕ)) → old.rest ≡ rest → Bytes old rest code new → Bytes old old.rest code new
   at_byte code rest is e = let P : Option (List ℕ) → Type 0 = λ r. Bytes old r code new in subst P (sym is) e
 
-  line_waits : (timeout : Option ℤ) (late b : Bool) → is_timed_out timeout late ≡ b → old.rest ≡ None → new ≡ old
+  line_waits : (timeout : Option ℤ) (late b : Bool) → is_timed_out timeout late ≡ b → old.rest ≡ None → new ≡ called old new
       → Hears old (device_asks.Line timeout) late (answer_to_line input.NotYet b) new
   line_waits timeout late false over rest e = (usable, tt, rest, over, e)
   line_waits None late true over rest e = absurd (let no : false ≡ true = over in cc)
@@ -47,13 +50,13 @@ module _ (old new : Heard) (usable : old.state ≡ states.Open) where
   line_at timeout late (Some r) input.NotYet is e = absurd e
   line_at timeout late rest input.Failed is e = (usable, at_rest (input.Failed) rest is e, refl, (λ q. cc))
   line_at timeout late None input.Memory is e = (usable, e)
-  line_at timeout late (Some r) input.Memory is e = (usable, e)
+  line_at timeout late (Some r) input.Memory is e = (usable, uncalled e)
 
   pub line_read : (timeout : Option ℤ) (late : Bool) (read : Input) → Lines old old.rest read new
       → Hears old (device_asks.Line timeout) late (answer_to_line read (is_timed_out timeout late)) new
   line_read timeout late read e = line_at timeout late old.rest read refl e
 
-  byte_waits : (timeout : Option ℤ) (late b : Bool) → is_timed_out timeout late ≡ b → old.rest ≡ None → new ≡ old
+  byte_waits : (timeout : Option ℤ) (late b : Bool) → is_timed_out timeout late ≡ b → old.rest ≡ None → new ≡ called old new
       → Hears old (device_asks.Byte timeout) late (answer_to_byte codes.NotYet b) new
   byte_waits timeout late false over rest e = (usable, tt, rest, over, e)
   byte_waits None late true over rest e = absurd (let no : false ≡ true = over in cc)

@@ -4,3 +4,4 @@ pub mod Places
 pub mod Telling
 mod Outputs
 pub mod There
+pub mod Left

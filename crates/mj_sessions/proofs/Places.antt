@@ -151,7 +151,8 @@ not_other name m x apart is = ap (λ w. bytes_eq w m) ((bytes_eq-Decides x.name 
 pub session_other : (name m : List ℕ) (h : Heard) (xs : List Named) → bytes_eq name m ≡ false → session_of m (with_session name h xs) ≡ session_of m xs
 session_other name m h [] apart = refl
 session_other name m h (x ∷ xs) apart = by_test (is_named name x) refl (session_other name m h xs apart) where
-  by_test : (b : Bool) → is_named name x ≡ b → session_of m (with_session name h xs) ≡ session_of m xs → session_of m (cond b (record x { session = h } ∷ xs) (x ∷ with_session name h xs)) ≡ session_of m (x ∷ xs)
+  by_test : (b : Bool) → is_named name x ≡ b → session_of m (with_session name h xs) ≡ session_of m xs
+      → session_of m (cond b (record x { session = h } ∷ xs) (x ∷ with_session name h xs)) ≡ session_of m (x ∷ xs)
   by_test true is more =
       ap (λ b. cond b (Some (record x { session = h })) (session_of m xs)) (not_other name m x apart is)
       ∙ sym (ap (λ b. cond b (Some x) (session_of m xs)) (not_other name m x apart is))
@@ -203,7 +204,7 @@ module _ (name : List ℕ) (xs : List Named) (i : ℕ) (s : Named) (found : posi
 
 -- a session of which nothing is known
 abbrev any : Named
-any = record { name = []; session = record { rest = None; state = states.Open; cursor = record { column = 0; row = 0 }; failures = 0; taken = []; given = [] } }
+any = record { name = []; session = record { rest = None; state = states.Open; cursor = record { column = 0; row = 0 }; inside = 0; failures = 0; taken = []; given = [] } }
 
 pub present : (name : List ℕ) (xs : List Named) (i : ℕ) → position (is_named name) xs ≡ Some i → is_some (session_of name xs) ≡ true
 present name xs i found =

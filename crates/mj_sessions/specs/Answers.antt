@@ -16,7 +16,7 @@ use Rattle.mj_dev.specs.declared.device.Input.TheVariants as input
 use Rattle.mj_dev.specs.declared.talk.Code.{Code}
 use Rattle.mj_dev.specs.declared.talk.Code.TheVariants as codes
 use Rattle.mj_dev.specs.declared.talk.State.TheVariants as states
-use Rattle.mj_dev.specs.Heard.{Heard}
+use Rattle.mj_dev.specs.Heard.{Heard, called}
 use Rattle.mj_dev.specs.Talk.{Exchanges}
 use Rattle.mj_sessions.specs.declared.answer.Answer.{Answer}
 use Rattle.mj_sessions.specs.declared.answer.Answer.TheVariants as answers
@@ -70,7 +70,7 @@ answer_to_byte codes.Failed over = answers.Told replies.Failed
 answer_to_byte codes.Memory over = answers.Memory
 
 -- The session is asked: it is told what it answers to one call, late only where the timeout is over; or there is nothing to read yet, and the
--- timeout isn't over; or it can't be used, as its device failed; or memory was refused.
+-- timeout isn't over; or it can't be used, as its device failed; or memory was refused. Where nothing is told, only what the device keeps may be another.
 abbrev pub Hears : Heard → DeviceAsk → Bool → Answer → Heard → Type 0
 Hears old ask late (answers.Told reply) new =
     (old.state ≡ states.Open)
@@ -78,9 +78,10 @@ Hears old ask late (answers.Told reply) new =
     × (fits_call ask reply ≡ true)
     × (reply ≡ replies.Late → is_timed_out (device_timeout ask) late ≡ true)
 Hears old ask late answers.NotYet new =
-    (old.state ≡ states.Open) × Reads ask × (old.rest ≡ None) × (is_timed_out (device_timeout ask) late ≡ false) × (new ≡ old)
+    (old.state ≡ states.Open) × Reads ask × (old.rest ≡ None) × (is_timed_out (device_timeout ask) late ≡ false)
+    × (new ≡ called old new)
 Hears old ask late answers.Unfit new = (old.state ≡ states.Open → ⊥) × (new ≡ old)
-Hears old ask late answers.Memory new = (old.state ≡ states.Open) × (new ≡ old)
+Hears old ask late answers.Memory new = (old.state ≡ states.Open) × (new ≡ called old new)
 
 -- the job has no session with this device, which is unfit
 abbrev pub IsAbsent : List ℕ → List Named → Answer → List Named → Type 0

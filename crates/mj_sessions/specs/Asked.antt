@@ -16,33 +16,38 @@ use Rattle.mj_sessions.specs.declared.answer.Answer.TheVariants as answers
 use Rattle.mj_sessions.specs.Answers.{answer_to, answer_to_line, answer_to_byte}
 use Rattle.mj_sessions.specs.Named.{Named, session_of, with_session}
 
--- A device with the counts of this session, that was told so: the last call to it was this, and was answered so.
+-- between an old session and a new one, its device was told so: this call alone was made to it, and was answered so
 abbrev pub Answering : Type 1
-Answering = Heard → DeviceCall → Type 0
+Answering = Heard → Heard → DeviceCall → Type 0
 
 -- the answer is the device's to such a call
-abbrev pub Calls : Answering → (Did → DeviceCall) → Answer → Heard → Type 0
-Calls tells call answer new = (did : Did) × tells new (call did) × (answer ≡ answer_to did)
+abbrev pub Calls : Answering → (Did → DeviceCall) → Heard → Answer → Heard → Type 0
+Calls tells call old answer new = (did : Did) × tells old new (call did) × (answer ≡ answer_to did)
+
+-- the rest of a line that was begun is read, and the device isn't called
+abbrev pub IsUncalled : Heard → Heard → Type 0
+IsUncalled old new = IsSome old.rest × (new.inside ≡ old.inside)
 
 -- The session's device was asked, and the answer comes of what it answered: where a line or a byte is read this is so unless a line was begun,
 -- whose rest is read. An end is no such ask.
 abbrev pub IsAsked : Answering → Heard → DeviceAsk → Bool → Answer → Heard → Type 0
-IsAsked tells old device_asks.Begin late answer new = Calls tells DeviceCall.Begun answer new
-IsAsked tells old (device_asks.Write bytes) late answer new = Calls tells (DeviceCall.Wrote bytes) answer new
+IsAsked tells old device_asks.Begin late answer new = Calls tells DeviceCall.Begun old answer new
+IsAsked tells old (device_asks.Write bytes) late answer new = Calls tells (DeviceCall.Wrote bytes) old answer new
 IsAsked tells old (device_asks.Line timeout) late answer new =
-    IsSome old.rest ⊎ ((input : Input) × tells new (DeviceCall.Gave input) × (answer ≡ answer_to_line input (is_timed_out timeout late)))
+    IsUncalled old new ⊎ ((input : Input) × tells old new (DeviceCall.Gave input) × (answer ≡ answer_to_line input (is_timed_out timeout late)))
 IsAsked tells old (device_asks.Byte timeout) late answer new =
-    IsSome old.rest
-    ⊎ ((input : Input) × tells new (DeviceCall.Gave input) × ((code : Code) × IsCodeOf input code × (answer ≡ answer_to_byte code (is_timed_out timeout late))))
+    IsUncalled old new
+    ⊎ ((input : Input) × tells old new (DeviceCall.Gave input)
+    × ((code : Code) × IsCodeOf input code × (answer ≡ answer_to_byte code (is_timed_out timeout late))))
 IsAsked tells old device_asks.End late answer new = ⊥
 
--- the session with its device's counts behind its end
-abbrev pub ended : Heard → Did → Heard
-ended old did = record old { failures = old.failures + failures_of did }
+-- the session with its device as it is behind its end
+abbrev pub ended : Heard → Did → ℕ → Heard
+ended old did inside = record old { inside = inside; failures = old.failures + failures_of did }
 
 -- the session's device was ended, and the answer comes of what it answered
 abbrev pub IsOver : Answering → Heard → Answer → Type 0
-IsOver tells old answer = (did : Did) × tells (ended old did) (DeviceCall.Over did) × (answer ≡ answer_to did)
+IsOver tells old answer = (did : Did) × ((inside : ℕ) × tells old (ended old did inside) (DeviceCall.Over did)) × (answer ≡ answer_to did)
 
 -- unless the ask is unfit, the session of this name was asked so
 abbrev pub IsAskedOf : Answering → List ℕ → List Named → DeviceAsk → Bool → Answer → List Named → Type 0

@@ -1,8 +1,8 @@
 -- The sessions that a job has, by the names of their devices.
-use Rattle.std.specs.Prelude.{◌≡◌, ℕ, Bool, cond, List, [], ◌∷◌, Option, Some, None}
+use Rattle.std.specs.Prelude.{◌≡◌, ℕ, Bool, cond, List, [], ◌∷◌, Option, Some, None, ◌⊎◌}
 use Rattle.std.specs.List.{find}
 use Rattle.std.specs.Str.{bytes_eq}
-use Rattle.mj_dev.specs.Heard.{Heard}
+use Rattle.mj_dev.specs.Heard.{Heard, called}
 use Rattle.mj_dev.specs.Shelves.{with_first}
 use Rattle.mj_dev.specs.Talk.{Exchange, beginning, stand_of}
 use Rattle.mj_sessions.specs.Events.{Log, talk_on}
@@ -28,6 +28,11 @@ with_session name session sessions = with_first (is_named name) (λ s. record s 
 abbrev pub without : List ℕ → List Named → List Named
 without name [] = []
 without name (s ∷ sessions) = cond (is_named name s) sessions (s ∷ without name sessions)
+
+-- they are as they were, but for what the device of one of them keeps, which was called
+abbrev pub AreLeft : List Named → List Named → Type 0
+AreLeft old new =
+    (new ≡ old) ⊎ ((name : List ℕ) × (s : Named) × (session_of name old ≡ Some s) × ((h : Heard) × (h ≡ called s.session h) × (new ≡ with_session name h old)))
 
 -- the sessions, in order of opening, and for how many more there is room
 pub record Roomy : Type 0 where

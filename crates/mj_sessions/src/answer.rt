@@ -1,12 +1,10 @@
 // What comes of an ask to a session.
 
 ghost use Rattle.std.specs.Prelude.{◌≡◌};
-ghost use Rattle.mj_ask.specs.Late.{is_timed_out};
 ghost use Rattle.mj_sessions.specs.Answers.{answer_to, answer_to_line, answer_to_byte, not_yet};
 
 use mj_ask::Reply;
 use mj_dev::{Code, Did, Input};
-use mj_num::Num;
 
 /// What comes of an ask that a job's own sessions serve, or none.
 #[derive(Drop)]
@@ -19,16 +17,6 @@ pub enum Answer {
     Unfit,
     /// an allocation was refused
     Memory,
-}
-
-// Whether a timeout is over: it is 0 or less, or the job was stepped late.
-pub fn is_timed_out(timeout: Option<Num>, late: bool) -> bool
-    ensures { result ≡ is_timed_out timeout late }
-{
-    match timeout {
-        None => false,
-        Some(timeout) => late || timeout.value() <= 0,
-    }
 }
 
 // What is told of a call that reads nothing.

@@ -8,8 +8,8 @@ ghost use Rattle.mj_sessions.specs.Named.{is_named};
 ghost use Rattle.mj_sessions.specs.declared.answer.Answer.TheVariants as answers;
 ghost use Rattle.mj_dev.specs.Told.{DeviceCall, IsToldBy};
 
-use crate::answer::{Answer, is_timed_out, to_byte, to_call, to_line};
-use mj_ask::DeviceAsk;
+use crate::answer::{Answer, to_byte, to_call, to_line};
+use mj_ask::{DeviceAsk, is_timed_out};
 use mj_dev::{Device, Session, State};
 use mj_num::Num;
 use mj_text::{Digits, Text};
@@ -56,7 +56,7 @@ impl<D: Device> Held<D> {
         requires { IsCall ask.now }
         ensures heard { Hears self.old.session ask.now late result self.new.session }
         ensures asked { (result ≡ answers.Unfit)
-            ⊎ IsAsked (IsToldBy D.failures D.taken D.given D.IsTold) self.old.session ask.now late result self.new.session }
+            ⊎ IsAsked (IsToldBy D.inside D.failures D.taken D.given D.IsTold) self.old.session ask.now late result self.new.session }
         ensures name { self.new.name ≡ self.old.name }
     {
         match ask {
@@ -71,7 +71,8 @@ impl<D: Device> Held<D> {
     // The device begins.
     fn begin(&mut self) -> Answer
         ensures heard { (late : Bool) → Hears self.old.session device_asks.Begin late result self.new.session }
-        ensures asked { (result ≡ answers.Unfit) ⊎ Calls (IsToldBy D.failures D.taken D.given D.IsTold) DeviceCall.Begun result self.new.session }
+        ensures asked { (result ≡ answers.Unfit)
+            ⊎ Calls (IsToldBy D.inside D.failures D.taken D.given D.IsTold) DeviceCall.Begun self.old.session result self.new.session }
         ensures name { self.new.name ≡ self.old.name }
     {
         match self.session.state() {
@@ -83,7 +84,8 @@ impl<D: Device> Held<D> {
     // The bytes go to the device.
     fn write(&mut self, bytes: &Text) -> Answer
         ensures heard { (late : Bool) → Hears self.old.session (device_asks.Write bytes.now) late result self.new.session }
-        ensures asked { (result ≡ answers.Unfit) ⊎ Calls (IsToldBy D.failures D.taken D.given D.IsTold) (DeviceCall.Wrote bytes.now) result self.new.session }
+        ensures asked { (result ≡ answers.Unfit)
+            ⊎ Calls (IsToldBy D.inside D.failures D.taken D.given D.IsTold) (DeviceCall.Wrote bytes.now) self.old.session result self.new.session }
         ensures name { self.new.name ≡ self.old.name }
     {
         let mut digits = Digits::new();
@@ -97,7 +99,7 @@ impl<D: Device> Held<D> {
     fn line(&mut self, timeout: Option<Num>, late: bool) -> Answer
         ensures heard { Hears self.old.session (device_asks.Line timeout) late result self.new.session }
         ensures asked { (result ≡ answers.Unfit)
-            ⊎ IsAsked (IsToldBy D.failures D.taken D.given D.IsTold) self.old.session (device_asks.Line timeout) late result self.new.session }
+            ⊎ IsAsked (IsToldBy D.inside D.failures D.taken D.given D.IsTold) self.old.session (device_asks.Line timeout) late result self.new.session }
         ensures name { self.new.name ≡ self.old.name }
     {
         match self.session.state() {
@@ -110,7 +112,7 @@ impl<D: Device> Held<D> {
     fn byte(&mut self, timeout: Option<Num>, late: bool) -> Answer
         ensures heard { Hears self.old.session (device_asks.Byte timeout) late result self.new.session }
         ensures asked { (result ≡ answers.Unfit)
-            ⊎ IsAsked (IsToldBy D.failures D.taken D.given D.IsTold) self.old.session (device_asks.Byte timeout) late result self.new.session }
+            ⊎ IsAsked (IsToldBy D.inside D.failures D.taken D.given D.IsTold) self.old.session (device_asks.Byte timeout) late result self.new.session }
         ensures name { self.new.name ≡ self.old.name }
     {
         match self.session.state() {
@@ -122,9 +124,11 @@ impl<D: Device> Held<D> {
     // The device ends, and is dropped.
     pub fn end(self) -> Answer
         ensures ending { IsEnding self.session result }
-        ensures asked { IsOver (IsToldBy D.failures D.taken D.given D.IsTold) self.session result }
+        ensures asked { IsOver (IsToldBy D.inside D.failures D.taken D.given D.IsTold) self.session result }
     {
         let Held { session, .. } = self;
-        to_call(session.end())
+        let (did, device) = session.end();
+        drop(device);
+        to_call(did)
     }
 }

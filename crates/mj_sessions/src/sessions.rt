@@ -71,7 +71,8 @@ impl<D: Device> Sessions<D> {
         requires absent { session_of name self.old.sessions ≡ None }
         requires new { IsNew session }
         ensures sessions { self.new.sessions ≡ self.old.sessions ++ record { name = name; session = session } ∷ [] }
-        ensures told { (log : Log) (ask : asks.Ask) (reply : replies.Reply) → is_shared ask ≡ true → AreTold log self.old.sessions → AreTold (log ++ (ask, reply) ∷ []) self.new.sessions }
+        ensures told { (log : Log) (ask : asks.Ask) (reply : replies.Reply) → is_shared ask ≡ true
+            → AreTold log self.old.sessions → AreTold (log ++ (ask, reply) ∷ []) self.new.sessions }
     {
         self.held.push_reserved(Held::new(name, session));
     }
@@ -91,8 +92,9 @@ impl<D: Device> Sessions<D> {
     pub fn serve(&mut self, ask: &Ask, late: bool) -> Answer
         requires { is_shared ask.now ≡ false }
         ensures answers { Answers self.old.sessions ask.now late result self.new.sessions }
-        ensures asked { AreAsked (IsToldBy D.failures D.taken D.given D.IsTold) self.old.sessions ask.now late result self.new.sessions }
-        ensures told { (log : Log) (reply : replies.Reply) → result ≡ Answer.Told reply → AreTold log self.old.sessions → AreTold (log ++ (ask.now, reply) ∷ []) self.new.sessions }
+        ensures asked { AreAsked (IsToldBy D.inside D.failures D.taken D.given D.IsTold) self.old.sessions ask.now late result self.new.sessions }
+        ensures told { (log : Log) (reply : replies.Reply) → result ≡ Answer.Told reply
+            → AreTold log self.old.sessions → AreTold (log ++ (ask.now, reply) ∷ []) self.new.sessions }
         ensures there { (name : List ℕ) (reply : replies.Reply) → result ≡ Answer.Told reply
             → is_some (session_of name self.new.sessions) ≡ (if ends_on name ask.now then false else is_some (session_of name self.old.sessions)) }
     {
@@ -104,7 +106,7 @@ impl<D: Device> Sessions<D> {
     fn asked(&mut self, ask: &Ask, late: bool) -> Answer
         requires { is_shared ask.now ≡ false }
         ensures answers { Answers self.old.sessions ask.now late result self.new.sessions }
-        ensures asked { AreAsked (IsToldBy D.failures D.taken D.given D.IsTold) self.old.sessions ask.now late result self.new.sessions }
+        ensures asked { AreAsked (IsToldBy D.inside D.failures D.taken D.given D.IsTold) self.old.sessions ask.now late result self.new.sessions }
     {
         match ask {
             Ask::Device(device, ask) => self.asked_of(device, ask, late),
@@ -116,7 +118,7 @@ impl<D: Device> Sessions<D> {
     // Serves an ask of the device of this name.
     fn asked_of(&mut self, name: &Text, ask: &DeviceAsk, late: bool) -> Answer
         ensures answers { AnswersOf name.now self.old.sessions ask.now late result self.new.sessions }
-        ensures asked { AreAskedOf (IsToldBy D.failures D.taken D.given D.IsTold) name.now self.old.sessions ask.now late result self.new.sessions }
+        ensures asked { AreAskedOf (IsToldBy D.inside D.failures D.taken D.given D.IsTold) name.now self.old.sessions ask.now late result self.new.sessions }
     {
         match ask {
             DeviceAsk::End => self.end(name),
@@ -128,7 +130,7 @@ impl<D: Device> Sessions<D> {
     fn call(&mut self, name: &Text, ask: &DeviceAsk, late: bool) -> Answer
         requires { IsCall ask.now }
         ensures answers { Asked name.now self.old.sessions ask.now late result self.new.sessions }
-        ensures asked { IsAskedOf (IsToldBy D.failures D.taken D.given D.IsTold) name.now self.old.sessions ask.now late result self.new.sessions }
+        ensures asked { IsAskedOf (IsToldBy D.inside D.failures D.taken D.given D.IsTold) name.now self.old.sessions ask.now late result self.new.sessions }
     {
         match self.place(name) {
             None => Answer::Unfit,
@@ -142,7 +144,7 @@ impl<D: Device> Sessions<D> {
     // Ends the session with the device of this name.
     fn end(&mut self, name: &Text) -> Answer
         ensures ends { SessionEnds name.now self.old.sessions result self.new.sessions }
-        ensures asked { IsOverOf (IsToldBy D.failures D.taken D.given D.IsTold) name.now self.old.sessions result }
+        ensures asked { IsOverOf (IsToldBy D.inside D.failures D.taken D.given D.IsTold) name.now self.old.sessions result }
     {
         match self.place(name) {
             None => Answer::Unfit,

@@ -21,7 +21,7 @@ use crate::passed::none_passed;
 use crate::served::Held;
 use crate::transacted::Transacted;
 use crate::transactions::none_open;
-use mj_ask::{Kind, Names, Reply, SharedAsk, Start};
+use mj_ask::{Kind, Names, Reply, SharedAsk, Start, is_timed_out};
 use mj_dev::{Device, Pool, Session};
 use mj_globs::Globals;
 use mj_jobs::{Claimed, Jobs, ROWS_LIMIT};
@@ -421,16 +421,6 @@ fn busy<S>(timeout: Option<Num>, late: bool, holder: u32, held: Held) -> Outcome
         Outcome::Told(Reply::Late, Reply::Late)
     } else {
         Outcome::Busy(holder, held)
-    }
-}
-
-// Whether there is a timeout, and it is over.
-fn is_timed_out(timeout: Option<Num>, late: bool) -> bool
-    ensures { result ≡ is_timed_out timeout late }
-{
-    match timeout {
-        None => false,
-        Some(seconds) => late || seconds.value() <= 0,
     }
 }
 

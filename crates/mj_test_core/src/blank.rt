@@ -1,15 +1,16 @@
 // A routine, stepped without devices.
 
 ghost use Rattle.std.specs.Prelude.{◌≡◌, ◌≤◌, [], length};
-ghost use Rattle.mj_blank.specs.Pools.{shelves_of};
+ghost use Rattle.mj_dev.specs.Pools.{shelves_of};
 ghost use Rattle.mj_dev.specs.Shelves.{principal, left_of};
 ghost use Rattle.mj_jobs.specs.Rows.{rows_limit};
 ghost use Rattle.mj_sys.specs.Opening.{opening_of};
 
 use crate::begins::{image, starts};
 use mj_ask::{Reply, Start};
-use mj_blank::{Core, pool_of};
-use mj_core::{Refusal, Seen, Step, Way};
+use mj_core::{Core, Refusal, Seen, Step, Way};
+use mj_dev::{Blank, pool_of};
+use mj_expect::Heeds;
 use mj_globs::Globals;
 use mj_load::Image;
 use mj_sys::Opening;
@@ -79,7 +80,13 @@ fn run<O: Opening>(
     requires few { length starts.items ≤ rows_limit }
     requires fits { length starts.items ≤ left_of principal (shelves_of sessions.items) }
 {
-    let mut core = Core::<O>::blank(alloc, image, Globals::new(alloc), sessions, starts)?;
+    let mut core = Core::<Blank, Heeds, O>::blank(
+        alloc,
+        image,
+        Globals::new(alloc),
+        sessions,
+        starts,
+    )?;
     let lines = make_steps(alloc, &mut core, steps);
     drop(core);
     lines
@@ -87,7 +94,7 @@ fn run<O: Opening>(
 
 fn make_steps<O: Opening>(
     alloc: Global,
-    core: &mut Core<O>,
+    core: &mut Core<Blank, Heeds, O>,
     steps: &[u8],
 ) -> Result<Vec<u8>, Failure> {
     let mut lines = Vec::new(alloc);
@@ -104,7 +111,7 @@ fn make_steps<O: Opening>(
 
 fn make_step<O: Opening>(
     alloc: Global,
-    core: &mut Core<O>,
+    core: &mut Core<Blank, Heeds, O>,
     step: &str,
     lines: &mut Vec<u8>,
 ) -> Result<(), Failure> {
@@ -123,7 +130,7 @@ fn make_step<O: Opening>(
 
 // What a step leads to: the place of its event, or a word.
 fn seen_of<O: Opening>(
-    core: &mut Core<O>,
+    core: &mut Core<Blank, Heeds, O>,
     step: Step,
     reply: &Option<Reply>,
 ) -> Result<usize, &'static str> {
@@ -150,7 +157,7 @@ fn seen_of<O: Opening>(
 // Puts what was seen of a step to the end.
 fn put_seen<O: Opening>(
     alloc: Global,
-    core: &Core<O>,
+    core: &Core<Blank, Heeds, O>,
     seen: Result<usize, &'static str>,
     lines: &mut Vec<u8>,
 ) -> Result<(), AllocError> {
@@ -164,7 +171,7 @@ fn put_seen<O: Opening>(
 
 fn put_event<O: Opening>(
     alloc: Global,
-    core: &Core<O>,
+    core: &Core<Blank, Heeds, O>,
     at: usize,
     lines: &mut Vec<u8>,
 ) -> Result<(), AllocError> {
@@ -182,7 +189,7 @@ fn put_event<O: Opening>(
 // Puts what job 1 wrote to its first session with F to the end.
 fn put_taken<O: Opening>(
     alloc: Global,
-    core: &Core<O>,
+    core: &Core<Blank, Heeds, O>,
     lines: &mut Vec<u8>,
 ) -> Result<(), Failure> {
     let name = Text::from(alloc, b"F")?;

@@ -8,12 +8,14 @@ ghost use Rattle.mj_sys.specs.Opening.{opening_of};
 use crate::begins::{image, starts};
 use crate::serial::{First, first_four};
 use mj_ask::Start;
-use mj_core::{Core, Step, Way};
+use mj_core::{Core, Seen, Step, Way};
 use mj_dev::{Device, Memory, Pool};
 use mj_globs::Globals;
+use mj_jobvm::Turn;
 use mj_load::Image;
-use mj_serial::blocks;
-use mj_sys::Opening;
+use mj_serial::serial_blocks;
+use mj_sessions::Sessions;
+use mj_sys::{Event, Opening};
 use mj_text::{Failure, Text};
 use std::alloc::{AllocError, Global};
 use std::marker::Brand;
@@ -23,29 +25,41 @@ use std::test::Fail;
 // stands the change that the first makes outside a transaction.
 #[test]
 fn blocks_of_two_jobs(rt: HostRuntime) -> Result<(), Fail> {
-    let found = stepped(
-        rt.alloc(),
-        " TSTART ():SERIAL SET X=$GET(^A),^A=X+1 TCOMMIT  SET ^B=X\n",
-        &[1, 1, 1, 2, 2, 2, 1, 1, 1, 2, 2, 2, 2, 2, 2],
-    )?;
-    assert_eq!(rt;
-        found,
-        [
-            Some((1, true, 2, 2)),
-            Some((1, false, 9, 1)),
-            Some((2, true, 12, 2)),
-            None
-        ]
-    );
+    let found = two_jobs(rt.alloc(), false)?;
+    assert_eq!(rt; found, BLOCKS);
     Ok(())
 }
 
-// The first blocks of two jobs of the routine `R`, which begins at its first line, where these jobs are stepped.
-fn stepped(alloc: Global, bytes: &str, steps: &[u32]) -> Result<First, Failure> {
+// Each of the steps is an event, or the test fails. So to make the job ready before it brings it to its ask, and changes nothing else.
+#[test]
+fn jobs_that_were_made_ready_are_stepped_alike(rt: HostRuntime) -> Result<(), Fail> {
+    let found = two_jobs(rt.alloc(), true)?;
+    assert_eq!(rt; found, BLOCKS);
+    Ok(())
+}
+
+const BLOCKS: First = [
+    Some((1, true, 2, 2)),
+    Some((1, false, 9, 1)),
+    Some((2, true, 12, 2)),
+    None,
+];
+
+fn two_jobs(alloc: Global, ready: bool) -> Result<First, Failure> {
+    stepped(
+        alloc,
+        " TSTART ():SERIAL SET X=$GET(^A),^A=X+1 TCOMMIT  SET ^B=X\n",
+        &[1, 1, 1, 2, 2, 2, 1, 1, 1, 2, 2, 2, 2, 2, 2],
+        ready,
+    )
+}
+
+// The first blocks of two jobs of the routine `R`, which begins at its first line, where these jobs are stepped, and made ready before or not.
+fn stepped(alloc: Global, bytes: &str, steps: &[u32], ready: bool) -> Result<First, Failure> {
     let image = image(alloc, bytes)?;
     let mut pool = Pool::new(alloc);
     match opened(alloc, &mut pool) {
-        Ok(starts) => begun(alloc, image, pool, starts, steps),
+        Ok(starts) => begun(alloc, image, pool, starts, steps, ready),
         Err(failure) => {
             drop(image);
             drop(pool);
@@ -84,6 +98,7 @@ fn begun(
     pool: Pool<Memory>,
     starts: Vec<Start>,
     steps: &[u32],
+    ready: bool,
 ) -> Result<First, Failure> {
     if starts.len() != 2 || !pool.fits(2) {
         drop(image);
@@ -91,7 +106,7 @@ fn begun(
         drop(starts);
         return Err(Failure::Memory);
     }
-    run::<Memory, Brand>(alloc, image, pool, starts, steps)
+    run::<Memory, Brand>(alloc, image, pool, starts, steps, ready)
 }
 
 // Steps the jobs of a core that begins so, and drops it.
@@ -101,14 +116,15 @@ fn run<D: Device, O: Opening>(
     pool: Pool<D>,
     starts: Vec<Start>,
     steps: &[u32],
+    ready: bool,
 ) -> Result<First, Failure>
     requires opening { opening_of [] pool starts.items ≡ O.opening }
     requires some { 1 ≤ length starts.items }
     requires few { length starts.items ≤ rows_limit }
     requires fits { length starts.items ≤ left_of principal pool }
 {
-    match Core::<D, O>::new(alloc, image, Globals::new(alloc), pool, starts) {
-        Ok(core) => Ok(to_its_end(alloc, core, steps)?),
+    match Core::<D, Sessions<D>, O>::new(alloc, image, Globals::new(alloc), pool, starts) {
+        Ok(core) => Ok(to_its_end(alloc, core, steps, ready)?),
         Err(back) => {
             drop(back);
             Err(Failure::Memory)
@@ -118,17 +134,95 @@ fn run<D: Device, O: Opening>(
 
 fn to_its_end<D: Device, O: Opening>(
     alloc: Global,
-    mut core: Core<D, O>,
-    steps: &[u32],
+    mut core: Core<D, Sessions<D>, O>,
+    jobs: &[u32],
+    ready: bool,
 ) -> Result<First, AllocError> {
-    for job in steps {
+    let ran = if ready {
+        step_ready(&mut core, jobs)
+    } else {
+        run_all(alloc, &mut core, jobs)
+    };
+    let found = blocks(alloc, &core);
+    drop(core);
+    ran?;
+    found
+}
+
+// Steps these jobs in order, each by Go.
+fn run_all<D: Device, O: Opening>(
+    alloc: Global,
+    core: &mut Core<D, Sessions<D>, O>,
+    jobs: &[u32],
+) -> Result<(), AllocError> {
+    let mut steps = Vec::new(alloc);
+    for job in jobs {
+        steps.push(Step {
+            job: *job,
+            way: Way::Go,
+        })?;
+    }
+    let answers = core.run(&steps)?;
+    let all = answers
+        .iter()
+        .all(|answer| matches!(answer, Ok(Seen::Event(_))));
+    drop(answers);
+    if all { Ok(()) } else { Err(AllocError) }
+}
+
+// Makes these jobs ready and steps them, one after the other.
+fn step_ready<D: Device, O: Opening>(
+    core: &mut Core<D, Sessions<D>, O>,
+    jobs: &[u32],
+) -> Result<(), AllocError> {
+    for job in jobs {
+        match core.ready(*job) {
+            Ok(Turn::Asks) => {}
+            _ => return Err(AllocError),
+        }
         let seen = core.step(Step {
             job: *job,
             way: Way::Go,
         });
+        let event = matches!(&seen, Ok(Seen::Event(_)));
         drop(seen);
+        if !event {
+            return Err(AllocError);
+        }
     }
-    let found = blocks(alloc, &core);
-    drop(core);
+    Ok(())
+}
+
+// The first blocks of what the jobs of a core did.
+fn blocks<D: Device, O: Opening>(
+    alloc: Global,
+    core: &Core<D, Sessions<D>, O>,
+) -> Result<First, AllocError> {
+    let mut history = Vec::new(alloc);
+    let copied = copy_events(core, &mut history);
+    let found = serial_blocks(alloc, &history);
+    drop(history);
+    copied?;
     Ok(first_four(&found?))
+}
+
+fn copy_events<D: Device, O: Opening>(
+    core: &Core<D, Sessions<D>, O>,
+    history: &mut Vec<Event>,
+) -> Result<(), AllocError> {
+    for at in 0..core.len() {
+        if let Some((job, ask, reply)) = core.event(at) {
+            let ask = ask.try_clone()?;
+            match reply.try_clone() {
+                Ok(reply) => {
+                    history.push(Event { job, ask, reply })?;
+                }
+                Err(refused) => {
+                    drop(ask);
+                    return Err(refused);
+                }
+            }
+        }
+    }
+    Ok(())
 }

@@ -12,6 +12,7 @@ use mj_core::{Core, Seen, Step, Way};
 use mj_dev::{Device, Pool};
 use mj_globs::Globals;
 use mj_load::Image;
+use mj_sessions::Sessions;
 use mj_sys::Opening;
 use mj_text::Failure;
 use mj_trace::event_line;
@@ -82,7 +83,7 @@ fn run<D: Device, O: Opening>(
     requires few { length starts.items ≤ rows_limit }
     requires fits { length starts.items ≤ left_of principal pool }
 {
-    match Core::<D, O>::new(alloc, image, Globals::new(alloc), pool, starts) {
+    match Core::<D, Sessions<D>, O>::new(alloc, image, Globals::new(alloc), pool, starts) {
         Ok(core) => to_its_end(alloc, core, drops),
         Err(back) => {
             drop(back);
@@ -93,7 +94,7 @@ fn run<D: Device, O: Opening>(
 
 fn to_its_end<D: Device, O: Opening>(
     alloc: Global,
-    core: Core<D, O>,
+    core: Core<D, Sessions<D>, O>,
     drops: &Drops,
 ) -> Result<Vec<u8>, Failure> {
     let mut core = core;
@@ -110,7 +111,7 @@ fn to_its_end<D: Device, O: Opening>(
 // Steps all jobs in turn.
 fn make_steps<D: Device, O: Opening>(
     alloc: Global,
-    core: &mut Core<D, O>,
+    core: &mut Core<D, Sessions<D>, O>,
     drops: &Drops,
     dropped: &mut (u64, u64),
     lines: &mut Vec<u8>,
@@ -127,7 +128,7 @@ fn make_steps<D: Device, O: Opening>(
 }
 
 // A step of this job, and the place of its event.
-fn step<D: Device, O: Opening>(core: &mut Core<D, O>, job: u32) -> Option<usize> {
+fn step<D: Device, O: Opening>(core: &mut Core<D, Sessions<D>, O>, job: u32) -> Option<usize> {
     match core.step(Step { job, way: Way::Go }) {
         Ok(Seen::Event(at)) => Some(at),
         Ok(other) => {
@@ -141,7 +142,7 @@ fn step<D: Device, O: Opening>(core: &mut Core<D, O>, job: u32) -> Option<usize>
 // Puts the line of an event to the end.
 fn put_event<D: Device, O: Opening>(
     alloc: Global,
-    core: &Core<D, O>,
+    core: &Core<D, Sessions<D>, O>,
     at: usize,
     lines: &mut Vec<u8>,
 ) -> Result<(), AllocError> {

@@ -23,42 +23,42 @@ use std::test::Fail;
 
 #[test]
 fn the_second_of_two_that_add_to_one_number_clashes(rt: HostRuntime) -> Result<(), Fail> {
-    let lines = "1 set ^A \"5\" done
+    let lines = "1 set ^S \"5\" done
 1 begin serial done
-1 value ^A \"5\"
+1 value ^S \"5\"
 2 begin serial done
-2 value ^A \"5\"
-1 set ^A \"6\" done
+2 value ^S \"5\"
+1 set ^S \"6\" done
 1 commit done
-2 set ^A \"6\" done
+2 set ^S \"6\" done
 2 commit clash 1 \"5\" \"6\"
 2 begin serial done
-2 value ^A \"6\"
-2 set ^A \"7\" done
+2 value ^S \"6\"
+2 set ^S \"7\" done
 2 commit done
-1 value ^A \"7\"
+1 value ^S \"7\"
 ";
     tells(&rt, lines)
 }
 
 #[test]
 fn each_that_reads_what_the_other_writes_sees_one_order(rt: HostRuntime) -> Result<(), Fail> {
-    let lines = "1 set ^A \"0\" done
-1 set ^B \"0\" done
+    let lines = "1 set ^L \"0\" done
+1 set ^R \"0\" done
 1 begin serial done
-1 value ^B \"0\"
+1 value ^R \"0\"
 2 begin serial done
-2 value ^A \"0\"
-1 set ^A \"1\" done
+2 value ^L \"0\"
+1 set ^L \"1\" done
 1 commit done
-2 set ^B \"1\" done
+2 set ^R \"1\" done
 2 commit clash 1 \"0\" \"1\"
 2 begin serial done
-2 value ^A \"1\"
-2 set ^B \"2\" done
+2 value ^L \"1\"
+2 set ^R \"2\" done
 2 commit done
-1 value ^A \"1\"
-1 value ^B \"2\"
+1 value ^L \"1\"
+1 value ^R \"2\"
 ";
     tells(&rt, lines)
 }

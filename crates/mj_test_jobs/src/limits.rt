@@ -57,18 +57,23 @@ fn write_steps(rt: &HostRuntime, folder: &str) -> Result<(), Fail> {
     written
 }
 
-// In turn no more than 1,000,000 steps are made, those of jobs that wait among them: 100 in each round. In the first all begin, in the second the first
-// job writes, in the third it takes the name for which the others wait, and in each behind it sets the number of the pass.
+// In turn no more than 1,000,000 steps are made, those of jobs that wait among them. 100 of these jobs end in the third round, as the end of their
+// session is their second step, and their halt the third; they aren't stepped again. So 300 steps are theirs, and 100 are made in each of 9,997 rounds: in
+// the first all begin, in the second the first job writes, in the third it takes the name for which the others wait, and in each behind it sets the
+// number of the pass.
 #[test]
 fn jobs_make_1000000_steps_in_turn(rt: HostRuntime) -> Result<(), Fail> {
-    let words = repeated(rt.alloc(), "step|--start|A^R", 99, "|--start|B^R", "")?;
+    let going = repeated(rt.alloc(), "step|--start|A^R", 99, "|--start|B^R", "")?;
+    let words = repeated(rt.alloc(), going.as_str(), 100, "|--start|C^R", "");
+    drop(going);
+    let words = words?;
     let told = make_steps(&rt, words.as_str());
     drop(words);
     told
 }
 
 fn make_steps(rt: &HostRuntime, words: &str) -> Result<(), Fail> {
-    let out = parts(rt.alloc(), "x", 100)?;
+    let out = parts(rt.alloc(), "x", 200)?;
     let told = are_made(rt, words, out.as_str());
     drop(out);
     told
@@ -80,9 +85,9 @@ fn are_made(rt: &HostRuntime, words: &str, out: &str) -> Result<(), Fail> {
         rt,
         folder.as_str(),
         words,
-        "A WRITE \"x\" LOCK +^L FOR I=1:1 SET ^A=I\nB HANG 1 LOCK +^L SET ^B=1\n",
+        "A WRITE \"x\" LOCK +^L FOR I=1:1 SET ^A=I\nB HANG 1 LOCK +^L SET ^B=1\nC QUIT\n",
         out,
-        "mj-globals 1\n^A=\"9997\"\n",
+        "mj-globals 1\n^A=\"9994\"\n",
     );
     drop(folder);
     told

@@ -107,6 +107,20 @@ fn locks_wait_for_their_holders(rt: HostRuntime) -> Result<(), Fail> {
     )
 }
 
+// Both wait, and only one with a timeout: it is late, and the other goes on once the first has ended.
+#[test]
+fn a_timeout_ends_a_deadlock(rt: HostRuntime) -> Result<(), Fail> {
+    gives(
+        &rt,
+        "--start|A^R|--start|B^R",
+        "A LOCK +^A LOCK +^B WRITE \"got\" QUIT\nB LOCK +^B LOCK +^A:5 WRITE $TEST\n",
+        "",
+        "--- job 1\ngot\n--- job 2\n0\n",
+        "",
+        0,
+    )
+}
+
 // A name that was taken twice and given back once is held still, and to give back one that isn't held changes nothing; `LOCK` of a name gives all
 // others back first.
 #[test]

@@ -132,7 +132,9 @@ fn talk<D: Device, R: Abort>(rt: &R, session: Session<D>, drops: &AtomicU64) {
     write(rt, &mut session);
     read(rt, &mut session);
     assert_eq!(rt; drops.load(Ordering::SeqCst), 0);
-    assert!(rt; session.end() == Did::Done);
+    let (did, device) = session.end();
+    drop(device);
+    assert!(rt; did == Did::Done);
     assert_eq!(rt; drops.load(Ordering::SeqCst), 1);
 }
 

@@ -155,7 +155,9 @@ fn is_talk<D: Device>(session: Session<D>) -> bool {
         && gives(&mut session, b"")
         && gives(&mut session, b"last")
         && gives_none(&mut session);
-    session.end() == Did::Done && went
+    let (did, device) = session.end();
+    drop(device);
+    did == Did::Done && went
 }
 
 fn begins<D: Device>(session: &mut Session<D>) -> bool {

@@ -108,7 +108,10 @@ fn a_dialogue_is_held(rt: HostRuntime) -> Result<(), Fail> {
     prints(
         &rt,
         "run|--stdin|--start|^R",
-        "HELLO ; greets everyone who says a name, until there are no more\n FOR  READ \"Who are you? \",NAME:0 QUIT:'$TEST  WRITE \"Hello, \",NAME,\".\",!\n WRITE \"Goodbye.\",!\n",
+        "HELLO ; greets everyone who says a name, until there are no more
+ FOR  READ \"Who are you? \",NAME:0 QUIT:'$TEST  WRITE \"Hello, \",NAME,\".\",!
+ WRITE \"Goodbye.\",!
+",
         "Ann\nBob\n",
         "Who are you? Hello, Ann.\nWho are you? Hello, Bob.\nWho are you? Goodbye.\n",
         0,

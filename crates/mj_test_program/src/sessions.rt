@@ -107,7 +107,19 @@ fn steps_go_up_to_the_end(rt: HostRuntime) -> Result<(), Fail> {
         "--start|^R",
         ROUTINE,
         "s 1\ns 1 late\ns 2\ngo 10\ns 1\ns 1 late\ngo 5\ngo 0\ng\n",
-        "1 dev \"0\" begin done\nC2\nC1\n1 set ^A \"20\" done\n1 value ^A \"20\"\n1 dev \"0\" write \"20\" done\n1 dev \"0\" write \"\\0a\" done\n1 dev \"0\" end done\n1 halt done\nC3\nC3\n^A=\"20\"\n",
+        "1 dev \"0\" begin done
+C2
+C1
+1 set ^A \"20\" done
+1 value ^A \"20\"
+1 dev \"0\" write \"20\" done
+1 dev \"0\" write \"\\0a\" done
+1 dev \"0\" end done
+1 halt done
+C3
+C3
+^A=\"20\"
+",
         "",
         0,
     )
@@ -121,7 +133,21 @@ fn what_stands_at_the_place_is_shown(rt: HostRuntime) -> Result<(), Fail> {
         "--start|^R",
         " SET X=1 DO A(5) HALT\nA(N) SET Y(\"a\",2)=\"q\"\"r\",^G(N)=X\n QUIT\n",
         "f 1\nv 1\nf 2\nv 2\ns 1\nf 1\nv 1\ns 1\nf 1\nv 1\ng\nback\nf 1\nv 1\ng\nfwd\nf 1\n",
-        "C1\nC1\n1 dev \"0\" begin done\n1 set ^G(5) \"1\" done\nR:2\nR:1\nN=\"5\"\nX=\"1\"\nY(\"a\",2)=\"q\"\"r\"\n^G(5)=\"1\"\n1 set ^G(5) \"1\" done\n1 set ^G(5) \"1\" done\nR:2\nR:1\n",
+        "C1
+C1
+1 dev \"0\" begin done
+1 set ^G(5) \"1\" done
+R:2
+R:1
+N=\"5\"
+X=\"1\"
+Y(\"a\",2)=\"q\"\"r\"
+^G(5)=\"1\"
+1 set ^G(5) \"1\" done
+1 set ^G(5) \"1\" done
+R:2
+R:1
+",
         "",
         0,
     )
@@ -177,7 +203,24 @@ fn names_that_are_held_are_shown(rt: HostRuntime) -> Result<(), Fail> {
         "--start|A^R|--start|B^R",
         "A LOCK +^B(2),+C,+C,+^B(1) HALT\nB LOCK +^B(2):5 HALT\n",
         "k\ns 1\ns 1\ns 1\ns 1\ns 2\ns 2\ns 1\nk\ns 2 late\nback\nback\nback\nback\nk\n",
-        "1 dev \"0\" begin done\n1 try ^B(2) got\n1 try C got\n1 try C got\n2 dev \"0\" begin done\nbusy 1 ^B(2)\n1 try ^B(1) got\n1 ^B(1) 1\n1 ^B(2) 1\n1 C 2\n2 try ^B(2) :5 late\n2 try ^B(2) :5 late\n1 try ^B(1) got\n2 dev \"0\" begin done\n1 try C got\n1 ^B(2) 1\n1 C 1\n",
+        "1 dev \"0\" begin done
+1 try ^B(2) got
+1 try C got
+1 try C got
+2 dev \"0\" begin done
+busy 1 ^B(2)
+1 try ^B(1) got
+1 ^B(1) 1
+1 ^B(2) 1
+1 C 2
+2 try ^B(2) :5 late
+2 try ^B(2) :5 late
+1 try ^B(1) got
+2 dev \"0\" begin done
+1 try C got
+1 ^B(2) 1
+1 C 1
+",
         "",
         0,
     )
@@ -191,7 +234,16 @@ fn a_go_stops_at_a_breakpoint(rt: HostRuntime) -> Result<(), Fail> {
         "--start|^R",
         " SET ^A=1\n SET ^B=2\n SET ^C=3,^D=4\n HALT\n",
         "b R:3\ngo 10\ngo 10\n",
-        "ok\n1 dev \"0\" begin done\n1 set ^A \"1\" done\n1 set ^B \"2\" done\nat 1 R:3\n1 set ^C \"3\" done\n1 set ^D \"4\" done\n1 dev \"0\" end done\n1 halt done\n",
+        "ok
+1 dev \"0\" begin done
+1 set ^A \"1\" done
+1 set ^B \"2\" done
+at 1 R:3
+1 set ^C \"3\" done
+1 set ^D \"4\" done
+1 dev \"0\" end done
+1 halt done
+",
         "",
         0,
     )
@@ -247,7 +299,15 @@ fn jobs_go_on_in_turn(rt: HostRuntime) -> Result<(), Fail> {
         "--start|A^R|--start|B^R",
         "A SET ^A=1 HALT\nB SET ^B=2 HALT\n",
         "go 3\ngo 1\ns 2\ngo 9\n",
-        "1 dev \"0\" begin done\n2 dev \"0\" begin done\n1 set ^A \"1\" done\n2 set ^B \"2\" done\n2 dev \"0\" end done\n1 dev \"0\" end done\n2 halt done\n1 halt done\n",
+        "1 dev \"0\" begin done
+2 dev \"0\" begin done
+1 set ^A \"1\" done
+2 set ^B \"2\" done
+2 dev \"0\" end done
+1 dev \"0\" end done
+2 halt done
+1 halt done
+",
         "",
         0,
     )
@@ -260,7 +320,33 @@ fn other_lines_are_no_commands(rt: HostRuntime) -> Result<(), Fail> {
         &rt,
         "--start|^R",
         ROUTINE,
-        "x\n\n s 1\ns 1 \ns 01\ns 0\ns 256\ns\nS 1\ns 1  late\ngo\ngo -1\ngo 01\ngo 4294967296\nb R\nb R:0\nb R:01\nb 1:1\nb R:1 \nb R:4294967296\nd\nback 1\nf\nv 0\nK\ns 1\r\nq \n",
+        "x
+
+ s 1
+s 1\x20
+s 01
+s 0
+s 256
+s
+S 1
+s 1  late
+go
+go -1
+go 01
+go 4294967296
+b R
+b R:0
+b R:01
+b 1:1
+b R:1\x20
+b R:4294967296
+d
+back 1
+f
+v 0
+K
+s 1\r\nq\x20
+",
         "?\n?\n?\n?\n?\n?\n?\n?\n?\n?\n?\n?\n?\n?\n?\n?\n?\n?\n?\n?\n?\n?\n?\n?\n?\n?\n?\n",
         "",
         0,

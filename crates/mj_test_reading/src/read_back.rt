@@ -59,13 +59,13 @@ start 007^R
 4294967295 halt F22 done
 ";
 
-// The trace of `SET ^A=2+3*4 WRITE ^A,! HALT`.
+// The trace of `SET ^Sum=2+3*4 WRITE ^Sum,! HALT`.
 const FIRST: &str = "mj-trace 1
 pool \"0\" 255
 start ^R
 1 dev \"0\" begin done
-1 set ^A \"20\" done
-1 value ^A \"20\"
+1 set ^Sum \"20\" done
+1 value ^Sum \"20\"
 1 dev \"0\" write \"20\" done
 1 dev \"0\" write \"\\0a\" done
 1 dev \"0\" end done

@@ -6,6 +6,8 @@
 --     Told      the same of replies
 --     Within    no line holds byte 10
 --     Whole     the bytes of a trace are read as this trace
+--     Fits      what is found is within the sizes of its values
+--     Refused   what is refused isn't spelled, or can't stand there
 pub mod Spelled
 pub mod Found
 pub mod Members
@@ -13,3 +15,5 @@ pub mod Asked
 pub mod Told
 pub mod Within
 pub mod Whole
+pub mod Fits
+pub mod Refused

@@ -3,4 +3,5 @@ pub mod Trace
 pub mod Reading
 pub mod Lines
 pub mod Sized
+pub mod Refused
 pub mod Laws

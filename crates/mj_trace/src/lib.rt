@@ -2,8 +2,9 @@
 //
 // There is one spelling for each trace: `trace_text` of `specs/Trace.antt`, with the asks and replies of `specs/Spelling.antt`. `write_trace` writes
 // it. A caller that has no `Trace` puts the opening and then each event into bytes of its own: `put_opening`, `put_event`. `read_trace` reads a trace
-// back. What else it is given it refuses, by the first line that is none: `reading_of` of `specs/Lines.antt`. What a line may say is found from the
-// left to the right (`specs/Reading.antt`); then it is spelled again, and must be the line. `specs/Laws.antt` has the laws.
+// back. What else it is given it refuses, by the first line that is none: `IsTraceRefused` of `specs/Refused.antt` says so by the spelling alone, and
+// `reading_of` of `specs/Lines.antt` as it is read. What a line may say is found from the left to the right (`specs/Reading.antt`); then it is spelled
+// again, and must be the line. `specs/Laws.antt` has the laws.
 #![tactic(auto)]
 
 mod asked;
@@ -11,6 +12,7 @@ mod asks;
 mod fields;
 mod found;
 mod head;
+mod laws;
 mod lists;
 mod members;
 mod piece;
@@ -23,6 +25,7 @@ mod trace;
 
 pub use asks::put_ask;
 pub use head::{event_line, put_event, put_opening};
+pub use laws::one_reason;
 pub use read::read_trace;
 pub use refusal::TraceError;
 pub use replies::put_reply;

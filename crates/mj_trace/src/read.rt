@@ -6,6 +6,7 @@ ghost use Rattle.mj_trace.specs.declared.refusal.TraceError.TheVariants as error
 ghost use Rattle.mj_trace.specs.Lines.{no_lines, unfinished, lined, lines_from, reading_of, IsTrace};
 ghost use Rattle.mj_trace.specs.Trace.{Traced, trace_text};
 ghost use Rattle.mj_trace.specs.Sized.{IsSized};
+ghost use Rattle.mj_trace.specs.Refused.{IsTraceRefused};
 
 use crate::HEADER;
 use crate::piece::read_piece;
@@ -15,10 +16,12 @@ use mj_gfile::split_line;
 use std::alloc::Global;
 
 /// Reads the trace that some bytes are. A trace is refused for want of memory alone, and anything else by the first line that is none: one more than there
-/// may be before one that isn't spelled so. The line where the first start should stand is refused where there is none.
+/// may be before one that isn't spelled so. The line where the first start should stand is refused where there is none. Up to the refused line the bytes are
+/// a trace as far as it goes.
 pub fn read_trace(alloc: Global, bytes: &[u8]) -> Result<Trace, TraceError>
     ensures ok { IfOk result (λ trace. reading_of bytes.now ≡ Ok trace) }
     ensures err { IfErr result (λ e. (e ≡ error.Memory) ⊎ (reading_of bytes.now ≡ Err e)) }
+    ensures refused { IfErr result (λ e. IsTraceRefused bytes.now e) }
     ensures spelled { IfOk result (λ trace. (bytes.now ≡ trace_text trace) × IsTrace trace) }
     ensures same { (t : Traced) → bytes.now ≡ trace_text t → IsTrace t → IsSized t → IfOk result (λ trace. trace ≡ t) }
     ensures all { (t : Traced) → bytes.now ≡ trace_text t → IsTrace t → IsSized t → IfErr result (λ e. e ≡ error.Memory) }

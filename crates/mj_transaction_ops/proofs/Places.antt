@@ -23,7 +23,8 @@ mapped_next f xs rows k x y is one same =
     map-append f rows (y ∷ []) ∙ (λ i. is i ++ same i ∷ []) ∙ sym (map-append f (take k xs) (x ∷ [])) ∙ sym (ap (map f) one)
 
 -- a turn does among units what it does among others
-pub does_among : (all : List Unit) (body : Next → Timed) (old : Machine) (given : Option Reply) (step : TurnOutcome) (new : Machine) → Does body old given step new → DoesAmong all body old given step new
+pub does_among : (all : List Unit) (body : Next → Timed) (old : Machine) (given : Option Reply) (step : TurnOutcome) (new : Machine) → Does body old given step new
+    → DoesAmong all body old given step new
 does_among all body old given steps.Next new d = (d.0, λ n replies. d.1 (exec all n) n (handler all) replies)
 does_among all body old given steps.Took new d = (d.0, λ n replies. d.1 (exec all n) n (handler all) replies)
 does_among all body old given (steps.Asks a) new d = d

@@ -10,7 +10,8 @@ use Rattle.mj_lex.specs.declared.token.Lexeme.{Lexeme}
 use Rattle.mj_lex.specs.Seen.{token_seen, tokens_seen}
 
 -- the last command
-pub last_at : (n : ℕ) (steps : List kept_step.LineCommand) (d : kept_step.LineCommand) → length steps ≡ n + 1 → last_keyword (map step_of steps) ≡ Some (keyword_for (command_of (get_or steps n d).command))
+pub last_at : (n : ℕ) (steps : List kept_step.LineCommand) (d : kept_step.LineCommand)
+    → length steps ≡ n + 1 → last_keyword (map step_of steps) ≡ Some (keyword_for (command_of (get_or steps n d).command))
 last_at n [] d h = absurd (omega arith)
 last_at zero (s ∷ []) d h = refl
 last_at zero (s ∷ t ∷ steps) d h = absurd (omega arith)

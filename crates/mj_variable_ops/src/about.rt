@@ -174,7 +174,8 @@ fn inquire(
 ) -> Result<TurnOutcome, AllocError>
     requires next { pc + 1 < 2 ^ 64 }
     requires enough { count ≤ length machine.old.stack.items }
-    ensures ok { IfOk result (λ step. Does (λ next. evaluation.about function name (option_copied other.entry) (with_value machine.old pc count next)) machine.old (replied given.entry) step machine.new) }
+    ensures ok { IfOk result (λ step. Does (λ next. evaluation.about function name (option_copied other.entry) (with_value machine.old pc count next))
+        machine.old (replied given.entry) step machine.new) }
     ensures err { OnErr result (Stays machine.old machine.new) }
 {
     if !asks(function) {
@@ -207,7 +208,8 @@ fn inquire_local(
     requires local { name.now.global ≡ false }
     requires asks { asks_of function ≡ true }
     requires enough { count ≤ length machine.old.stack.items }
-    ensures ok { IfOk result (λ step. DoesAlone (λ next. evaluation.about function name.now (option_copied other.entry) (with_value machine.old pc count next)) machine.old step machine.new) }
+    ensures ok { IfOk result (λ step. DoesAlone (λ next.
+        evaluation.about function name.now (option_copied other.entry) (with_value machine.old pc count next)) machine.old step machine.new) }
     ensures err { OnErr result (Stays machine.old machine.new) }
 {
     let value = told_here(alloc, function, name, other, &machine.locals);
@@ -230,7 +232,8 @@ fn ask_global(
     requires next { pc + 1 < 2 ^ 64 }
     requires global { (runs.name_of access).global ≡ true }
     requires enough { count ≤ length machine.old.stack.items }
-    ensures ok { IfOk result (λ step. Does (λ next. asked.asked function (option_copied other.entry) access (with_value machine.old pc count next)) machine.old (replied given.entry) step machine.new) }
+    ensures ok { IfOk result (λ step. Does (λ next. asked.asked function (option_copied other.entry) access (with_value machine.old pc count next)) machine.old
+        (replied given.entry) step machine.new) }
     ensures err { OnErr result (Stays machine.old machine.new) }
 {
     match at_hand(machine, given) {

@@ -61,7 +61,8 @@ fn store_word(
     requires next { pc + 1 < 2 ^ 64 }
     requires value { 1 ≤ length machine.old.stack.items }
     requires enough { taken ≤ length machine.old.stack.items }
-    ensures ok { IfOk result (λ step. DoesAlone (λ next. commands.store (plain_name word.now) (top (stack_of machine.old)) (without machine.old pc taken next)) machine.old step machine.new) }
+    ensures ok { IfOk result (λ step. DoesAlone (λ next.
+        commands.store (plain_name word.now) (top (stack_of machine.old)) (without machine.old pc taken next)) machine.old step machine.new) }
     ensures err { OnErr result (Stays machine.old machine.new) }
 {
     machine.locals.set_word(word, stack::top(&machine.stack))?;
@@ -105,7 +106,8 @@ fn store_under(
     requires value { 1 ≤ length machine.old.stack.items }
     requires enough { depth.above + count ≤ length machine.old.stack.items }
     requires taken { depth.taken ≤ length machine.old.stack.items }
-    ensures ok { IfOk result (λ step. DoesAlone (λ next. commands.store (answers.local_with word.now (operands count (drop depth.above (stack_of machine.old)))) (top (stack_of machine.old)) (without machine.old pc depth.taken next)) machine.old step machine.new) }
+    ensures ok { IfOk result (λ step. DoesAlone (λ next. commands.store (answers.local_with word.now (operands count (drop depth.above (stack_of machine.old))))
+        (top (stack_of machine.old)) (without machine.old pc depth.taken next)) machine.old step machine.new) }
     ensures err { OnErr result (Stays machine.old machine.new) }
 {
     let subscripts = stack::below_both(&machine.stack, depth.above, 0, count);
@@ -197,7 +199,8 @@ fn kill_under(
 ) -> Result<TurnOutcome, AllocError>
     requires next { pc + 1 < 2 ^ 64 }
     requires enough { count ≤ length machine.old.stack.items }
-    ensures ok { IfOk result (λ step. DoesAlone (λ next. commands.remove (answers.local_with word.now (operands count (stack_of machine.old))) (without machine.old pc count next)) machine.old step machine.new) }
+    ensures ok { IfOk result (λ step. DoesAlone (λ next. commands.remove
+        (answers.local_with word.now (operands count (stack_of machine.old))) (without machine.old pc count next)) machine.old step machine.new) }
     ensures err { OnErr result (Stays machine.old machine.new) }
 {
     let subscripts = stack::topmost(&machine.stack, count);
@@ -263,7 +266,8 @@ fn change_global(
     requires next { pc + 1 < 2 ^ 64 }
     requires global { (name_in access).global ≡ true }
     requires enough { taken ≤ length machine.old.stack.items }
-    ensures ok { IfOk result (λ step. Does (λ next. accesses.access access (λ a. without machine.old pc taken next)) machine.old (replied given.entry) step machine.new) }
+    ensures ok { IfOk result (λ step.
+        Does (λ next. accesses.access access (λ a. without machine.old pc taken next)) machine.old (replied given.entry) step machine.new) }
     ensures err { OnErr result (Stays machine.old machine.new) }
 {
     match at_hand(machine, given) {

@@ -5,7 +5,7 @@ ghost use Rattle.mj_ask.specs.declared.ask.Reply.{Reply as ReplyOf};
 ghost use Rattle.mj_store.specs.declared.access.Answer.{Answer as AnswerOf};
 ghost use Rattle.mj_store.specs.Runs.{name_of};
 ghost use Rattle.mj_semantics.specs.Accesses as accesses;
-ghost use Rattle.mj_semantics.specs.Outcome.{Timed};
+ghost use Rattle.mj_semantics.specs.Outcome.{Timed, steps_limit};
 ghost use Rattle.mj_pcode.specs.Machine.{Next};
 ghost use Rattle.mj_machine.specs.Kept.{Does, Stays, replied};
 
@@ -19,8 +19,8 @@ use std::alloc::{AllocError, Global};
 
 /// Gives the reply to an ask, where one is given and the ask may be made.
 pub(crate) fn at_hand<'a>(machine: &Machine, given: Option<&'a Reply>) -> Option<&'a Reply>
-    ensures some { IfSome result (λ r. (replied given.entry ≡ Some r.now) × (machine.now.replied < 1000000)) }
-    ensures none { IfNone result ((replied given.entry ≡ None) ⊎ (1000000 ≤ machine.now.replied)) }
+    ensures some { IfSome result (λ r. (replied given.entry ≡ Some r.now) × (machine.now.replied < steps_limit)) }
+    ensures none { IfNone result ((replied given.entry ≡ None) ⊎ (steps_limit ≤ machine.now.replied)) }
 {
     if machine.replied >= STEPS_LIMIT {
         return None;
@@ -36,7 +36,8 @@ pub(crate) fn ask(
     machine: &mut Machine,
 ) -> Result<TurnOutcome, AllocError>
     requires global { (name_of access).global ≡ true }
-    ensures ok { IfOk result (λ step. (given : Option ReplyOf) → (given ≡ None) ⊎ (1000000 ≤ machine.old.replied) → (rest : Next → AnswerOf → Timed) → Does (λ next. accesses.access access (rest next)) machine.old given step machine.new) }
+    ensures ok { IfOk result (λ step. (given : Option ReplyOf) → (given ≡ None) ⊎ (steps_limit ≤ machine.old.replied)
+        → (rest : Next → AnswerOf → Timed) → Does (λ next. accesses.access access (rest next)) machine.old given step machine.new) }
     ensures err { OnErr result (Stays machine.old machine.new) }
 {
     if machine.replied >= STEPS_LIMIT {

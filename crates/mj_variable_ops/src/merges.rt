@@ -64,7 +64,8 @@ fn refusal(
     source: &Name,
 ) -> Result<Option<Fault>, AllocError>
     requires { above + into.now.count ≤ length machine.now.stack.items }
-    ensures { IfOk result (λ r. r ≡ answers.refusal (name_of into.now.scope into.now.word (operands into.now.count (drop above (stack_of machine.now)))) source.now) }
+    ensures { IfOk result
+        (λ r. r ≡ answers.refusal (name_of into.now.scope into.now.word (operands into.now.count (drop above (stack_of machine.now)))) source.now) }
 {
     let target = match name_below(alloc, into, machine, above, 0)? {
         Ok(name) => name,
@@ -90,7 +91,8 @@ fn take_named(
 ) -> Result<TurnOutcome, AllocError>
     requires next { pc + 1 < 2 ^ 64 }
     requires enough { count ≤ length machine.old.stack.items }
-    ensures ok { IfOk result (λ step. Does (λ next. access (accesses.Subtree name) (λ a. told.change (hold (nodes_told a)) (without machine.old pc count next))) machine.old (replied given.entry) step machine.new) }
+    ensures ok { IfOk result (λ step. Does (λ next. access (accesses.Subtree name) (λ a. told.change (hold (nodes_told a)) (without machine.old pc count next)))
+        machine.old (replied given.entry) step machine.new) }
     ensures err { OnErr result (Stays machine.old machine.new) }
 {
     if name.is_global() {
@@ -110,7 +112,8 @@ fn take_local(
     requires next { pc + 1 < 2 ^ 64 }
     requires local { name.now.global ≡ false }
     requires enough { count ≤ length machine.old.stack.items }
-    ensures ok { IfOk result (λ step. DoesAlone (λ next. access (accesses.Subtree name.now) (λ a. told.change (hold (nodes_told a)) (without machine.old pc count next))) machine.old step machine.new) }
+    ensures ok { IfOk result (λ step. DoesAlone (λ next. access (accesses.Subtree name.now)
+        (λ a. told.change (hold (nodes_told a)) (without machine.old pc count next))) machine.old step machine.new) }
     ensures err { OnErr result (Stays machine.old machine.new) }
 {
     let nodes = machine.locals.subtree(name)?;
@@ -163,7 +166,8 @@ fn take_global(
     requires next { pc + 1 < 2 ^ 64 }
     requires global { name.global ≡ true }
     requires enough { count ≤ length machine.old.stack.items }
-    ensures ok { IfOk result (λ step. Does (λ next. access (accesses.Subtree name) (λ a. told.change (hold (nodes_told a)) (without machine.old pc count next))) machine.old (replied given.entry) step machine.new) }
+    ensures ok { IfOk result (λ step. Does (λ next. access (accesses.Subtree name) (λ a. told.change (hold (nodes_told a)) (without machine.old pc count next)))
+        machine.old (replied given.entry) step machine.new) }
     ensures err { OnErr result (Stays machine.old machine.new) }
 {
     match at_hand(machine, given) {
@@ -238,7 +242,8 @@ fn put_local(
     requires next { pc + 1 < 2 ^ 64 }
     requires local { name.now.global ≡ false }
     requires enough { count ≤ length machine.old.stack.items }
-    ensures ok { IfOk result (λ step. DoesAlone (λ next. access (accesses.Put name.now machine.old.held) (λ a. told.change (hold []) (without machine.old pc count next))) machine.old step machine.new) }
+    ensures ok { IfOk result (λ step. DoesAlone (λ next. access (accesses.Put name.now machine.old.held)
+        (λ a. told.change (hold []) (without machine.old pc count next))) machine.old step machine.new) }
     ensures err { OnErr result (Stays machine.old machine.new) }
 {
     match machine.locals.put(name, &machine.held) {
@@ -269,7 +274,8 @@ fn put_global(
     requires next { pc + 1 < 2 ^ 64 }
     requires global { name.global ≡ true }
     requires enough { count ≤ length machine.old.stack.items }
-    ensures ok { IfOk result (λ step. Does (λ next. access (accesses.Put name machine.old.held) (λ a. told.change (hold []) (without machine.old pc count next))) machine.old (replied given.entry) step machine.new) }
+    ensures ok { IfOk result (λ step. Does (λ next. access (accesses.Put name machine.old.held)
+        (λ a. told.change (hold []) (without machine.old pc count next))) machine.old (replied given.entry) step machine.new) }
     ensures err { OnErr result (Stays machine.old machine.new) }
 {
     match at_hand(machine, given) {

@@ -109,7 +109,8 @@ fn renew_range(
 ) -> Result<TurnOutcome, AllocError>
     requires next { pc + 1 < 2 ^ 64 }
     requires enough { 1 ≤ length machine.old.stack.items }
-    ensures ok { IfOk result (λ step. Does (λ next. commands.renewed name separator.now range (top (stack_of machine.old)) (with_value machine.old pc 0 next)) machine.old (replied given.entry) step machine.new) }
+    ensures ok { IfOk result (λ step. Does (λ next. commands.renewed name separator.now range (top (stack_of machine.old)) (with_value machine.old pc 0 next))
+        machine.old (replied given.entry) step machine.new) }
     ensures err { OnErr result (Stays machine.old machine.new) }
 {
     if name.is_global() {
@@ -129,7 +130,8 @@ fn renew_local(
     requires next { pc + 1 < 2 ^ 64 }
     requires local { name.now.global ≡ false }
     requires enough { 1 ≤ length machine.old.stack.items }
-    ensures ok { IfOk result (λ step. DoesAlone (λ next. commands.renewed name.now separator.now range (top (stack_of machine.old)) (with_value machine.old pc 0 next)) machine.old step machine.new) }
+    ensures ok { IfOk result (λ step. DoesAlone (λ next. commands.renewed name.now separator.now range
+        (top (stack_of machine.old)) (with_value machine.old pc 0 next)) machine.old step machine.new) }
     ensures err { OnErr result (Stays machine.old machine.new) }
 {
     let value = stack::top(&machine.stack);
@@ -151,7 +153,8 @@ fn renew_global(
     requires next { pc + 1 < 2 ^ 64 }
     requires global { name.global ≡ true }
     requires enough { 1 ≤ length machine.old.stack.items }
-    ensures ok { IfOk result (λ step. Does (λ next. commands.renewed name separator.now range (top (stack_of machine.old)) (with_value machine.old pc 0 next)) machine.old (replied given.entry) step machine.new) }
+    ensures ok { IfOk result (λ step. Does (λ next. commands.renewed name separator.now range (top (stack_of machine.old)) (with_value machine.old pc 0 next))
+        machine.old (replied given.entry) step machine.new) }
     ensures err { OnErr result (Stays machine.old machine.new) }
 {
     match at_hand(machine, given) {

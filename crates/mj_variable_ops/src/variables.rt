@@ -62,7 +62,8 @@ pub fn is_plain_local(reference: &Reference) -> bool
 // Puts the value of a local without subscripts on the stack.
 fn read_word(pc: usize, word: &Text, machine: &mut Machine) -> Result<TurnOutcome, AllocError>
     requires { pc + 1 < 2 ^ 64 }
-    ensures ok { IfOk result (λ step. DoesAlone (λ next. evaluation.read (plain_name word.now) (with_value machine.old pc 0 next)) machine.old step machine.new) }
+    ensures ok { IfOk result
+        (λ step. DoesAlone (λ next. evaluation.read (plain_name word.now) (with_value machine.old pc 0 next)) machine.old step machine.new) }
     ensures err { OnErr result (Stays machine.old machine.new) }
 {
     match machine.locals.value_of_word(word) {
@@ -104,7 +105,8 @@ fn read_under(
 ) -> Result<TurnOutcome, AllocError>
     requires next { pc + 1 < 2 ^ 64 }
     requires enough { count ≤ length machine.old.stack.items }
-    ensures ok { IfOk result (λ step. DoesAlone (λ next. evaluation.read (answers.local_with word.now (operands count (stack_of machine.old))) (with_value machine.old pc count next)) machine.old step machine.new) }
+    ensures ok { IfOk result (λ step. DoesAlone (λ next. evaluation.read (answers.local_with word.now (operands count (stack_of machine.old)))
+        (with_value machine.old pc count next)) machine.old step machine.new) }
     ensures err { OnErr result (Stays machine.old machine.new) }
 {
     let subscripts = stack::topmost(&machine.stack, count);
@@ -157,7 +159,8 @@ fn read_global(
     requires next { pc + 1 < 2 ^ 64 }
     requires global { name.global ≡ true }
     requires enough { count ≤ length machine.old.stack.items }
-    ensures ok { IfOk result (λ step. Does (λ next. evaluation.read name (with_value machine.old pc count next)) machine.old (replied given.entry) step machine.new) }
+    ensures ok { IfOk result
+        (λ step. Does (λ next. evaluation.read name (with_value machine.old pc count next)) machine.old (replied given.entry) step machine.new) }
     ensures err { OnErr result (Stays machine.old machine.new) }
 {
     match at_hand(machine, given) {

@@ -157,7 +157,8 @@ module _ (n : Name) where
       (first_so (is_lt (name_cmp (followed_by n l) e.0)) (below_all name_cmp (followed_by n l) es) h)
       (below_of l es (second_so (is_lt (name_cmp (followed_by n l) e.0)) (below_all name_cmp (followed_by n l) es) h))
     where
-      by : (o : Option (List (List ℕ))) → rest_of n e.0 ≡ o → T (is_lt (name_cmp (followed_by n l) e.0)) → T (below_all subscripts_cmp l (subtree_at es n)) → T (below_all subscripts_cmp l (cons_option (option_map (λ k. (k, e.1)) o) (subtree_at es n)))
+      by : (o : Option (List (List ℕ))) → rest_of n e.0 ≡ o → T (is_lt (name_cmp (followed_by n l) e.0))
+          → T (below_all subscripts_cmp l (subtree_at es n)) → T (below_all subscripts_cmp l (cons_option (option_map (λ k. (k, e.1)) o) (subtree_at es n)))
       by None s p q = q
       by (Some k) s p q =
           and_so (is_lt (subscripts_cmp l k)) (below_all subscripts_cmp l (subtree_at es n))
@@ -170,7 +171,8 @@ module _ (n : Name) where
       (first_so (below_all name_cmp e.0 es) (is_sorted name_cmp es) h)
       (sorted_of es (second_so (below_all name_cmp e.0 es) (is_sorted name_cmp es) h))
     where
-      by : (o : Option (List (List ℕ))) → rest_of n e.0 ≡ o → T (below_all name_cmp e.0 es) → T (is_sorted subscripts_cmp (subtree_at es n)) → T (is_sorted subscripts_cmp (cons_option (option_map (λ k. (k, e.1)) o) (subtree_at es n)))
+      by : (o : Option (List (List ℕ))) → rest_of n e.0 ≡ o
+          → T (below_all name_cmp e.0 es) → T (is_sorted subscripts_cmp (subtree_at es n)) → T (is_sorted subscripts_cmp (cons_option (option_map (λ k. (k, e.1)) o) (subtree_at es n)))
       by None s p q = q
       by (Some k) s p q =
           and_so (below_all subscripts_cmp k (subtree_at es n)) (is_sorted subscripts_cmp (subtree_at es n))
@@ -197,7 +199,8 @@ put_formed n text (e ∷ es) g h =
     let k = both_true (is_local_name e.0) (list_all (λ d. is_local_name d.0) es) h in
     by (name_cmp n e.0) k (put_formed n text es g k.1)
   where
-    by : (o : Ordering) → (is_local_name e.0 ≡ true) × (list_all (λ d. is_local_name d.0) es ≡ true) → list_all (λ d. is_local_name d.0) (put name_cmp n text es) ≡ true → list_all (λ d. is_local_name d.0) (by_order o ((n, text) ∷ e ∷ es) ((e.0, text) ∷ es) (e ∷ put name_cmp n text es)) ≡ true
+    by : (o : Ordering) → (is_local_name e.0 ≡ true) × (list_all (λ d. is_local_name d.0) es ≡ true) → list_all (λ d. is_local_name d.0) (put name_cmp n text es) ≡ true
+        → list_all (λ d. is_local_name d.0) (by_order o ((n, text) ∷ e ∷ es) ((e.0, text) ∷ es) (e ∷ put name_cmp n text es)) ≡ true
     by Less k next = and_true (is_local_name n) (is_local_name e.0 && list_all (λ d. is_local_name d.0) es) g (and_true (is_local_name e.0) (list_all (λ d. is_local_name d.0) es) k.0 k.1)
     by Equal k next = and_true (is_local_name e.0) (list_all (λ d. is_local_name d.0) es) k.0 k.1
     by Greater k next = and_true (is_local_name e.0) (list_all (λ d. is_local_name d.0) (put name_cmp n text es)) k.0 next
@@ -229,14 +232,16 @@ neither : (a b : Bool) → (a || b) ≡ false → (a ≡ false) × (b ≡ false)
 neither true b e = absurd cc
 neither false b e = (refl, e)
 
-put_stays : (n : Name) (nodes : Subtree) (locals : Locals) → is_local_name n ≡ true → list_all (λ e. are_filled e.0) nodes ≡ true → is_too_deep n nodes ≡ false → are_locals locals ≡ true → are_locals (after_put locals n nodes) ≡ true
+put_stays : (n : Name) (nodes : Subtree) (locals : Locals)
+    → is_local_name n ≡ true → list_all (λ e. are_filled e.0) nodes ≡ true → is_too_deep n nodes ≡ false → are_locals locals ≡ true → are_locals (after_put locals n nodes) ≡ true
 put_stays n [] locals g filled room h = h
 put_stays n (e ∷ es) locals g filled room h =
     let k = both_true (are_filled e.0) (list_all (λ d. are_filled d.0) es) filled in
     let r = neither (nat_lt 31 (length n.subscripts + length e.0)) (is_too_deep n es) room in
     put_stays n es (after_set locals (followed_by n e.0) e.1) g k.1 r.1 (set_stays (followed_by n e.0) e.1 locals (followed_formed n e.0 g k.0 r.0) h)
 
-pub put_kept : (n : Name) (nodes : Subtree) (locals : Locals) (b : Bool) → is_too_deep n nodes ≡ b → is_local_name n ≡ true → list_all (λ e. are_filled e.0) nodes ≡ true → are_locals locals ≡ true → are_locals (cond b locals (after_put locals n nodes)) ≡ true
+pub put_kept : (n : Name) (nodes : Subtree) (locals : Locals) (b : Bool) → is_too_deep n nodes ≡ b
+    → is_local_name n ≡ true → list_all (λ e. are_filled e.0) nodes ≡ true → are_locals locals ≡ true → are_locals (cond b locals (after_put locals n nodes)) ≡ true
 put_kept n nodes locals true deep g filled h = h
 put_kept n nodes locals false deep g filled h = put_stays n nodes locals g filled deep h
 

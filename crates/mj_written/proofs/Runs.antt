@@ -430,7 +430,11 @@ module _ (P : Points) (points : ArePoints P) (here : Here) (word : is_word here.
       chosen (nat_lt line.level (level_of s)) (quits_before l)
       (chosen (nat_lt (level_of s) line.level) (next_asks l)
       (changed {c = at_place (place_at here)} (stands (place_at here))
-      (obeys_all line.steps {w = record { line_end = turn (P (AtLine (next_line here) m)); for_quit = None; leave = m }} (h line refl).steps (record { line_end = next_asks l; for_quit = tt; leave = l })))))
+      (obeys_all line.steps {w = record {
+        line_end = turn (P (AtLine (next_line here) m));
+        for_quit = None;
+        leave = m;
+      }} (h line refl).steps (record { line_end = next_asks l; for_quit = tt; leave = l })))))
 
 -- ---- images
 
@@ -485,7 +489,12 @@ module _ (image : List Routine) (worded : Each IsRoutineWorded image) (P : Point
       chosen (nat_eq to.1.level 1)
       (chosen (nat_lt (length to.1.formals) (length vs)) faulted
       (goes_deeper (changed {c = λ s. passed to.1.formals vs (pushed (place_at to.0) 1 function (if function then Some s.test else None) s)}
-      (λ s k. passes_on to.1.formals vs (pushed (place_at to.0) 1 function (if function then Some s.test else None) s) (h.line to refl).formals (record { locals = k.locals; saved = k.saved; mark = k.mark; held = k.held }))
+      (λ s k. passes_on to.1.formals vs (pushed (place_at to.0) 1 function (if function then Some s.test else None) s) (h.line to refl).formals (record {
+        locals = k.locals;
+        saved = k.saved;
+        mark = k.mark;
+        held = k.held;
+      }))
       (some_turns (length to.1.formals) (a_turn (points.by (AtLine to.0 m) (h.word to refl, l)))))))
       faulted
 

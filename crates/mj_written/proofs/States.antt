@@ -132,7 +132,8 @@ restarts s h = by s.mark h.mark
     by : (o : Option TransactionMark) → IsMarked o → IsFormed (elim o [ None ↦ s | Some m ↦ back_at m s ])
     by None k = h
     by (Some m) k = record {
-      locals = restores m (undone (take (length s.saved - m.height) s.saved) s.locals) k (undoes (take (length s.saved - m.height) s.saved) s.locals (first_ones (length s.saved - m.height) s.saved h.saved) h.locals);
+      locals = restores m (undone (take (length s.saved - m.height) s.saved) s.locals) k
+          (undoes (take (length s.saved - m.height) s.saved) s.locals (first_ones (length s.saved - m.height) s.saved h.saved) h.locals);
       saved = others (length s.saved - m.height) s.saved h.saved;
       mark = h.mark;
       held = h.held;

@@ -19,8 +19,8 @@ use Rattle.mj_nref.specs.Spelling.{is_filled, word_text}
 use Rattle.mj_store.specs.Questions.{Content}
 use Rattle.mj_gfile.specs.declared.error.ReadError.{ReadError}
 use Rattle.mj_gfile.specs.declared.error.ReadError.TheVariants as error
-use Rattle.mj_gfile.specs.Spelling.{is_shown, digit_byte, quoted_byte, quoted_bytes, listed_text, listed_subscript, listed_rest, listed_subscripts, listed_line, listed_lines, header, listing_of}
-use Rattle.mj_gfile.specs.Reading.{Whole, is_number_byte, is_any_word, quoted_at, text_at, whole_only, assigned, value_of, with_value, valued, globally, name_in, line_of}
+use Rattle.mj_gfile.specs.Spelling.{is_any_word, is_shown, digit_byte, quoted_byte, quoted_bytes, listed_text, listed_subscript, listed_rest, listed_subscripts, listed_line, listed_lines, header, listing_of}
+use Rattle.mj_gfile.specs.Reading.{Whole, is_number_byte, quoted_at, text_at, whole_only, assigned, value_of, with_value, valued, globally, name_in, line_of}
 use Rattle.mj_gfile.specs.Listing.{is_short, are_small, is_small, is_small_node, begun_by, lines_of, is_after, judged, before, followed, nodes_of, headed, reading_of, are_bytes, is_text, is_subscript, is_node, AreGlobals, IsReading}
 use Rattle.mj_gfile.specs.Laws.Texts.{both_true, IsQuoted, quoted_at-quoted, quoted_at-IsQuoted}
 use Rattle.mj_gfile.specs.Laws.Names.{canonic_numbers, more_pass, AreSubs, name_in-listed, IsNameAt, IsNamed, name_in-IsNamed}
@@ -30,11 +30,11 @@ use Rattle.mj_subs.specs.declared.word.TheConstants.{WORD_LIMIT}
 -- ---- one line
 
 -- a line that can be spelled, of any size
-record IsSpelled (e : Name × List ℕ) : Type 0 where
-  global : e.0.global ≡ true
-  word : is_any_word e.0.word ≡ true
-  subs : AreSubs e.0.subscripts
-  text : are_bytes e.1 ≡ true
+pub record IsSpelled (e : Name × List ℕ) : Type 0 where
+  pub global : e.0.global ≡ true
+  pub word : is_any_word e.0.word ≡ true
+  pub subs : AreSubs e.0.subscripts
+  pub text : are_bytes e.1 ≡ true
 
 -- a text that ends the line is its value
 value_read : (t : List ℕ) → are_bytes t ≡ true → value_of (61 ∷ listed_text t) ≡ Some t
@@ -46,14 +46,14 @@ line_text n t g =
     ∙ ap (λ l. 94 ∷ l) (append_assoc n.word (listed_subscripts n.subscripts) (61 ∷ listed_text t))
 
 -- a spelled line is read
-line_of-listed : (e : Name × List ℕ) → IsSpelled e → line_of (listed_line e) ≡ Some e
+pub line_of-listed : (e : Name × List ℕ) → IsSpelled e → line_of (listed_line e) ≡ Some e
 line_of-listed e k =
     ap line_of (line_text e.0 e.1 k.global) ∙ ap valued (name_in-listed true e.0.word e.0.subscripts (61 ∷ listed_text e.1) k.word k.subs (refl, refl))
     ∙ ap (with_value (record { global = true; word = e.0.word; subscripts = e.0.subscripts })) (value_read e.1 k.text)
     ∙ ap (λ g. Some (record { global = g; word = e.0.word; subscripts = e.0.subscripts }, e.1)) (sym k.global)
 
 -- what a reading of a line says of the bytes
-abbrev IsLine : List ℕ → Option (Name × List ℕ) → Type 0
+abbrev pub IsLine : List ℕ → Option (Name × List ℕ) → Type 0
 IsLine bs None = Unit {0}
 IsLine bs (Some e) = (bs ≡ listed_line e) × IsSpelled e
 
@@ -95,7 +95,7 @@ named_line cs None h = tt
 named_line cs (Some p) h = valued_line cs p.0 p.1 (value_of p.1) h (value_of-IsValue p.1)
 
 -- what is read is a spelled line
-line_of-IsLine : (bs : List ℕ) → IsLine bs (line_of bs)
+pub line_of-IsLine : (bs : List ℕ) → IsLine bs (line_of bs)
 line_of-IsLine [] = tt
 line_of-IsLine (c ∷ cs) = by (eqb c 94) refl
   where
@@ -124,7 +124,7 @@ of_subs (s ∷ ss) k h =
     let p = both_true (is_short s) (list_all is_short ss) h in λ i. (k.0.filled i && (p.0 i && k.0.bytes i)) && of_subs ss k.1 p.1 i
 
 -- a node is spelled, and within the limits
-node_parts : (e : Name × List ℕ) → is_node e ≡ true → IsSpelled e × (is_small_node e ≡ true)
+pub node_parts : (e : Name × List ℕ) → is_node e ≡ true → IsSpelled e × (is_small_node e ≡ true)
 node_parts e h =
     let a = both_true (e.0.global && is_word e.0.word && nat_le (length e.0.subscripts) SUBSCRIPTS_LIMIT && list_all is_subscript e.0.subscripts) (is_text e.1) h in
     let b = both_true (e.0.global && is_word e.0.word && nat_le (length e.0.subscripts) SUBSCRIPTS_LIMIT) (list_all is_subscript e.0.subscripts) a.0 in
@@ -135,7 +135,7 @@ node_parts e h =
     let t = both_true (is_short e.1) (are_bytes e.1) a.1 in
     (record { global = d.0; word = w.0; subs = s.0; text = t.1 }, (λ i. (w.1 i && (c.1 i && s.1 i)) && t.0 i))
 
-node_whole : (e : Name × List ℕ) → IsSpelled e → is_small_node e ≡ true → is_node e ≡ true
+pub node_whole : (e : Name × List ℕ) → IsSpelled e → is_small_node e ≡ true → is_node e ≡ true
 node_whole e k h =
     let a = both_true (is_small e.0) (is_short e.1) h in
     let b = both_true (nat_le (length e.0.word) WORD_LIMIT) (are_small e.0.subscripts) a.0 in
@@ -213,7 +213,7 @@ word_within (c ∷ cs) h =
     let p = both_true (is_ascii_alphabetic c || eqb c 37) (list_all is_ascii_alphanumeric cs) h in
     λ i. head_above c p.0 i && more_pass is_ascii_alphanumeric no_end word_above cs p.1 i
 
-line_within : (e : Name × List ℕ) → IsSpelled e → AreWithin (listed_line e)
+pub line_within : (e : Name × List ℕ) → IsSpelled e → AreWithin (listed_line e)
 unfolding no_end
 line_within e k =
     subst AreWithin (sym (line_text e.0 e.1 k.global))
@@ -254,7 +254,7 @@ bytes-lines (c ∷ cs) = by (eqb c 10) refl (bytes-lines cs)
 -- ---- order
 
 -- the names rise, from behind the last one
-abbrev Rises : Option Name → Content → Type 0
+abbrev pub Rises : Option Name → Content → Type 0
 Rises last [] = Unit {0}
 Rises last (e ∷ es) = (is_after last e.0 ≡ true) × Rises (Some e.0) es
 
@@ -293,7 +293,7 @@ rising_below m [] h = tt
 rising_below m (e ∷ es) h =
     both_so (is_lt (name_cmp m e.0)) (below_all name_cmp m es) (so (is_lt (name_cmp m e.0)) h.0) (below_trans m e.0 es (less (name_cmp m e.0) h.0) (rising_below e.0 es h.1))
 
-sorted_of : (last : Option Name) (es : Content) → Rises last es → T (is_sorted name_cmp es)
+pub sorted_of : (last : Option Name) (es : Content) → Rises last es → T (is_sorted name_cmp es)
 sorted_of last [] h = tt
 sorted_of last (e ∷ es) h = both_so (below_all name_cmp e.0 es) (is_sorted name_cmp es) (rising_below e.0 es h.1) (sorted_of (Some e.0) es h.1)
 
@@ -304,13 +304,13 @@ rises_of m (e ∷ es) h k = (
   rises_of e.0 es (first_so (below_all name_cmp e.0 es) (is_sorted name_cmp es) k) (second_so (below_all name_cmp e.0 es) (is_sorted name_cmp es) k),
 )
 
-rises_all : (es : Content) → T (is_sorted name_cmp es) → Rises None es
+pub rises_all : (es : Content) → T (is_sorted name_cmp es) → Rises None es
 rises_all [] k = tt
 rises_all (e ∷ es) k = (refl, rises_of e.0 es (first_so (below_all name_cmp e.0 es) (is_sorted name_cmp es) k) (second_so (below_all name_cmp e.0 es) (is_sorted name_cmp es) k))
 
 -- ---- listings
 
-judged_ok : (last : Option Name) (k : ℕ) (e : Name × List ℕ) → is_small_node e ≡ true → is_after last e.0 ≡ true → judged last k (Some e) ≡ Ok e
+pub judged_ok : (last : Option Name) (k : ℕ) (e : Name × List ℕ) → is_small_node e ≡ true → is_after last e.0 ≡ true → judged last k (Some e) ≡ Ok e
 judged_ok last k e s a = λ i. cond (s i) (cond (a i) (Ok e) (Err (error.Order k))) (Err (error.Limit k))
 
 -- the lines of globals are read

@@ -8,8 +8,8 @@ use Rattle.std.proofs.lemmas.Bool.Decides.{nat_tests}
 use Rattle.mj_num.specs.Number.{is_canonic, is_magnitude}
 use Rattle.mj_subs.specs.Name.{Name}
 use Rattle.mj_nref.specs.Spelling.{is_filled, word_text}
-use Rattle.mj_gfile.specs.Spelling.{quoted_bytes, listed_text, listed_subscript, listed_rest, listed_subscripts, listed_name}
-use Rattle.mj_gfile.specs.Reading.{Whole, front_by, rest_by, is_number_byte, is_plain, plain_only, number_at, subscript_at, mark_at, marked, with_mark, item_at, listed, continued_by, subscripts_of, subscripts_at, is_word_byte, is_any_word, named, name_with, name_in, name_at, quoted_at}
+use Rattle.mj_gfile.specs.Spelling.{is_any_word, quoted_bytes, listed_text, listed_subscript, listed_rest, listed_subscripts, listed_name}
+use Rattle.mj_gfile.specs.Reading.{Whole, front_by, rest_by, is_number_byte, is_plain, plain_only, number_at, subscript_at, mark_at, marked, with_mark, item_at, listed, continued_by, subscripts_of, subscripts_at, is_word_byte, named, name_with, name_in, name_at, quoted_at}
 use Rattle.mj_gfile.specs.Listing.{are_bytes}
 use Rattle.mj_gfile.specs.Laws.Texts.{both_true, NoQuote, IsQuoted, quoted_at-quoted, quoted_at-IsQuoted}
 

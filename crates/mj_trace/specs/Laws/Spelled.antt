@@ -86,7 +86,7 @@ events_text pool starts events v =
     ∙ sym (append_assoc (header ++ 10 ∷ (pool_lines pool ++ start_lines starts)) (event_lines events) (event_text v.0 v.1 v.2 ++ 10 ∷ []))
 
 -- the text of a trace with one line more
-text_added : (t : Traced) (p : Piece) → may_follow t p ≡ true → trace_text (with_piece t p) ≡ trace_text t ++ (piece_text p ++ 10 ∷ [])
+pub text_added : (t : Traced) (p : Piece) → may_follow t p ≡ true → trace_text (with_piece t p) ≡ trace_text t ++ (piece_text p ++ 10 ∷ [])
 unfolding text_of
 text_added t (pieces.Device name count) h =
     let a = both_true (is_empty t.starts && is_empty t.events) (stands_behind (last_device t.pool) name) h in
@@ -97,13 +97,13 @@ text_added t (pieces.Event job ask reply) h = events_text t.pool t.starts t.even
 
 -- ---- the front of a trace
 
-record IsFront (t : Traced) : Type 0 where
-  devices : rises t.pool ≡ true
-  starts : list_all is_entry t.starts ≡ true
-  starts_few : length t.starts ≤ starts_limit
-  sessions : length t.starts ≤ principal t.pool
-  events : list_all is_event t.events ≡ true
-  events_few : length t.events ≤ events_limit
+pub record IsFront (t : Traced) : Type 0 where
+  pub devices : rises t.pool ≡ true
+  pub starts : list_all is_entry t.starts ≡ true
+  pub starts_few : length t.starts ≤ starts_limit
+  pub sessions : length t.starts ≤ principal t.pool
+  pub events : list_all is_event t.events ≡ true
+  pub events_few : length t.events ≤ events_limit
 
 pub last_pushed : (d e : List ℕ × ℕ) (ds : List (List ℕ × ℕ)) → last_device (d ∷ e ∷ ds) ≡ last_device (e ∷ ds)
 last_pushed d e ds =
@@ -134,7 +134,7 @@ below_limit n m h = grind (arith, nat_tests)
 not_yet : (n m : ℕ) → n ≤ m → eqb n m ≡ false → n + 1 ≤ m
 not_yet n m h e = grind (arith, nat_tests)
 
-front_added : (t : Traced) (p : Piece) → IsFront t → is_full t ≡ false → is_piece p ≡ true → may_follow t p ≡ true → IsFront (with_piece t p)
+pub front_added : (t : Traced) (p : Piece) → IsFront t → is_full t ≡ false → is_piece p ≡ true → may_follow t p ≡ true → IsFront (with_piece t p)
 front_added t (pieces.Device name count) f full is h =
     let a = both_true (is_empty t.starts && is_empty t.events) (stands_behind (last_device t.pool) name) h in
     let none = none_there t.starts (both_true (is_empty t.starts) (is_empty t.events) a.0).0 in
@@ -234,7 +234,7 @@ abbrev IsSaid : List ℕ → Result Traced TraceError → Type 0
 IsSaid bs (Err e) = Unit {0}
 IsSaid bs (Ok t) = (bs ≡ trace_text t) × IsTrace t
 
-trace_of_front : (t : Traced) → IsFront t → is_empty t.starts ≡ false → IsTrace t
+pub trace_of_front : (t : Traced) → IsFront t → is_empty t.starts ≡ false → IsTrace t
 trace_of_front t f e = record {
   devices = f.devices;
   starts = f.starts;
@@ -250,7 +250,7 @@ unfolding bytes_of
 behind_header l ls (Err e) is h = tt
 behind_header l ls (Ok t) is h = (ap (λ x. x ++ 10 ∷ bytes_of ls) is ∙ sym h.0, trace_of_front t h.1 h.2)
 
-none_yet : IsFront no_lines
+pub none_yet : IsFront no_lines
 none_yet = record { devices = refl; starts = refl; starts_few = omega arith; sessions = omega arith; events = refl; events_few = omega arith }
 
 headed_said : (ls : List (List ℕ × Bool)) → IsSaid (bytes_of ls) (headed ls)

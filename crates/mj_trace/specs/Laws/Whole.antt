@@ -1,5 +1,5 @@
 -- The bytes of a trace are read as this trace.
-use Rattle.std.proofs.Common.{◌≡◌, ◌⊎◌, inl, inr, ◌∙◌, ◌+◌, ◌<◌, ◌≤◌, suc, ℕ, pos, Bool, true, false, not, cond, ◌&&◌, eqb, List, [], ◌∷◌, ◌++◌, length, Some, None, Result, Ok, Err, refl, sym, ap, subst, append_assoc, append-nil, arith}
+use Rattle.std.proofs.Common.{◌≡◌, ◌⊎◌, inl, inr, ◌∙◌, ◌+◌, ◌<◌, ◌≤◌, suc, ℕ, pos, Bool, true, false, not, cond, ◌&&◌, eqb, List, [], ◌∷◌, ◌++◌, length, Some, None, Result, Ok, Err, refl, sym, ap, append_assoc, append-nil, arith}
 use Rattle.std.specs.Prelude.{IfOk, IfErr, nat_lt, decimal}
 use Rattle.std.specs.Option.{option_map}
 use Rattle.std.specs.List.{list_all}
@@ -27,6 +27,7 @@ use Rattle.mj_trace.specs.Trace.{Traced, header, pool_line, pool_lines, start_li
 use Rattle.mj_trace.specs.Reading.{onward, front, behind_bytes}
 use Rattle.mj_trace.specs.Lines.{piece_text, are_told, is_event, is_piece, event_piece, asked, event_in, counted, piece_with, piece_in, respelled, piece_of, starts_limit, events_limit, is_before, stands_behind, last_device, principal, may_start, may_follow, with_piece, followed_by, then_more, lines_from, no_lines, headed, reading_of, rises, IsTrace}
 use Rattle.mj_trace.specs.Sized.{is_count, ask_fits, reply_fits, IsSized}
+use Rattle.mj_trace.specs.Refused.{IsBegun, line_count}
 use Rattle.mj_trace.specs.Laws.Spelled.{last_pushed, one_longer}
 use Rattle.mj_trace.specs.Laws.Found.{number_bytes, count_found, text_found}
 use Rattle.mj_trace.specs.Laws.Asked.{ask_found, entry_read}
@@ -50,15 +51,15 @@ numbered (c ∷ cs) r g h =
     (digit_no_letter c (both_true (is_number_byte c) (list_all is_number_byte cs) h).0)
 
 -- an event that can be written, within the limits
-record IsEventWritten (job : ℕ) (a : Ask) (r : Reply) : Type 0 where
-  number : is_count job ≡ true
-  ask : is_ask a ≡ true
-  ask_sized : ask_fits a ≡ true
-  reply : is_reply r ≡ true
-  reply_sized : reply_fits r ≡ true
-  told : is_reply_to a r ≡ true
+pub record IsEventWritten (job : ℕ) (a : Ask) (r : Reply) : Type 0 where
+  pub number : is_count job ≡ true
+  pub ask : is_ask a ≡ true
+  pub ask_sized : ask_fits a ≡ true
+  pub reply : is_reply r ≡ true
+  pub reply_sized : reply_fits r ≡ true
+  pub told : is_reply_to a r ≡ true
 
-written : (job : ℕ) (a : Ask) (r : Reply) → are_told a r ≡ true → (is_count job && ask_fits a && reply_fits r) ≡ true → IsEventWritten job a r
+pub written : (job : ℕ) (a : Ask) (r : Reply) → are_told a r ≡ true → (is_count job && ask_fits a && reply_fits r) ≡ true → IsEventWritten job a r
 written job a r h k =
     let p = both_true (is_ask a && is_reply r) (is_reply_to a r) h in
     let q = both_true (is_ask a) (is_reply r) p.0 in
@@ -66,7 +67,7 @@ written job a r h k =
     let y = both_true (is_count job) (ask_fits a) x.0 in
     record { number = y.0; ask = q.0; ask_sized = y.1; reply = q.1; reply_sized = x.1; told = p.1 }
 
-event_found : (job : ℕ) (a : Ask) (r : Reply) → IsEventWritten job a r → are_told a r ≡ true → piece_of (event_text job a r) ≡ Some (pieces.Event job a r)
+pub event_found : (job : ℕ) (a : Ask) (r : Reply) → IsEventWritten job a r → are_told a r ≡ true → piece_of (event_text job a r) ≡ Some (pieces.Event job a r)
 event_found job a r w h =
     let range = count_ranged job w.number in
     respelled_found (pieces.Event job a r) (event_text job a r)
@@ -76,10 +77,10 @@ event_found job a r w h =
     ∙ ap (option_map (λ reply. pieces.Event job a reply)) (reply_found a r w.told w.reply w.reply_sized))
     h refl
 
-start_found : (e : Entry) → is_entry e ≡ true → piece_of (start_line e) ≡ Some (pieces.Start e)
+pub start_found : (e : Entry) → is_entry e ≡ true → piece_of (start_line e) ≡ Some (pieces.Start e)
 start_found e h = respelled_found (pieces.Start e) (start_line e) (ap (option_map pieces.Start) (entry_read e h)) h refl
 
-device_found : (name : List ℕ) (count : ℕ) → is_text name ≡ true → is_count count ≡ true → piece_of (pool_line (name, count)) ≡ Some (pieces.Device name count)
+pub device_found : (name : List ℕ) (count : ℕ) → is_text name ≡ true → is_count count ≡ true → piece_of (pool_line (name, count)) ≡ Some (pieces.Device name count)
 device_found name count h k =
     respelled_found (pieces.Device name count) (pool_line (name, count))
     (ap (onward counted) (text_found name (32 ∷ decimal count) h (refl, refl, refl, refl)) ∙ ap (option_map (λ p. pieces.Device name p.0)) (count_all count k))
@@ -109,41 +110,43 @@ is_sized_event e = is_count e.0 && ask_fits e.1 && reply_fits e.2
 abbrev at : List (List ℕ × ℕ) → List Entry → List (ℕ × Ask × Reply) → Traced
 at pool starts events = record { pool = pool; starts = starts; events = events }
 
-events_read : (pool : List (List ℕ × ℕ)) (starts : List Entry) (acc : List (ℕ × Ask × Reply)) (k : ℕ) (es : List (ℕ × Ask × Reply)) → is_empty starts ≡ false → list_all is_event es ≡ true
-    → list_all is_sized_event es ≡ true → length acc + length es ≤ events_limit
-    → lines_from (at pool starts acc) k (lines_of (event_lines es)) ≡ Ok (at pool starts (acc ++ es))
+-- behind the lines of events it goes on with what follows
+events_on : (pool : List (List ℕ × ℕ)) (starts : List Entry) (acc : List (ℕ × Ask × Reply)) (k : ℕ) (es : List (ℕ × Ask × Reply)) (rest : List ℕ) → is_empty starts ≡ false
+    → list_all is_event es ≡ true → list_all is_sized_event es ≡ true → length acc + length es ≤ events_limit
+    → lines_from (at pool starts acc) k (lines_of (event_lines es ++ rest)) ≡ lines_from (at pool starts (acc ++ es)) (k + length es) (lines_of rest)
 unfolding is_sized_event
-events_read pool starts acc k [] some can fit few =
-    ap (λ b. cond b (Err (errors.Line k)) (Ok (at pool starts acc))) some ∙ ap (λ es. Ok (at pool starts es)) (sym (append-nil acc))
-events_read pool starts acc k ((job, a, r) ∷ es) some can fit few =
+events_on pool starts acc k [] rest some can fit few =
+    let same : k ≡ k + length {A = ℕ × Ask × Reply} [] = omega arith in λ i. lines_from (at pool starts (sym (append-nil acc) i)) (same i) (lines_of rest)
+events_on pool starts acc k ((job, a, r) ∷ es) rest some can fit few =
     let p = both_true (are_told a r) (list_all is_event es) can in
     let q = both_true (is_count job && ask_fits a && reply_fits r) (list_all is_sized_event es) fit in
     let w = written job a r p.0 q.0 in
-    follows (at pool starts acc) k (pieces.Event job a r) (event_lines es) (event_within job a r w.number w.ask w.ask_sized w.reply w.reply_sized) (omega (arith, few)) (event_found job a r w p.0)
-    (ap not some)
-    ∙ events_read pool starts (acc ++ (job, a, r) ∷ []) (suc k) es some p.1 q.1 (omega (arith, few, one_longer acc (job, a, r)))
-    ∙ ap (λ xs. Ok (at pool starts xs)) (append_assoc acc ((job, a, r) ∷ []) es)
+    let same : suc k + length es ≡ k + length {A = ℕ × Ask × Reply} ((job, a, r) ∷ es) = omega arith in
+    ap (λ l. lines_from (at pool starts acc) k (lines_of l)) (append_assoc (event_text job a r) (10 ∷ event_lines es) rest)
+    ∙ follows (at pool starts acc) k (pieces.Event job a r) (event_lines es ++ rest) (event_within job a r w.number w.ask w.ask_sized w.reply w.reply_sized) (omega (arith, few))
+    (event_found job a r w p.0) (ap not some)
+    ∙ events_on pool starts (acc ++ (job, a, r) ∷ []) (suc k) es rest some p.1 q.1 (omega (arith, few, one_longer acc (job, a, r)))
+    ∙ (λ i. lines_from (at pool starts (append_assoc acc ((job, a, r) ∷ []) es i)) (same i) (lines_of rest))
 
-some_more : (acc : List Entry) (s : Entry) (ss : List Entry) → is_empty (acc ++ s ∷ ss) ≡ false
-some_more [] s ss = refl
-some_more (x ∷ acc) s ss = refl
-
-starts_read : (pool : List (List ℕ × ℕ)) (acc : List Entry) (k : ℕ) (ss : List Entry) (es : List (ℕ × Ask × Reply)) → list_all is_entry ss ≡ true → is_empty (acc ++ ss) ≡ false
-    → length acc + length ss ≤ starts_limit → length acc + length ss ≤ principal pool
-    → list_all is_event es ≡ true → list_all is_sized_event es ≡ true → length es ≤ events_limit
-    → lines_from (at pool acc []) k (lines_of (start_lines ss ++ event_lines es)) ≡ Ok (at pool (acc ++ ss) es)
+start_on : (pool : List (List ℕ × ℕ)) (acc : List Entry) (k : ℕ) (s : Entry) (rest : List ℕ) → is_entry s ≡ true → may_start pool (length acc) ≡ true
+    → lines_from (at pool acc []) k (lines_of (start_line s ++ 10 ∷ rest)) ≡ lines_from (at pool (acc ++ s ∷ []) []) (suc k) (lines_of rest)
 unfolding no_end
-starts_read pool acc k [] es can some few sessions good fit most =
-    let same = append-nil acc in
-    events_read pool acc [] k es (ap is_empty (sym same) ∙ some) good fit (omega (arith, most)) ∙ ap (λ ss. Ok (at pool ss es)) (sym same)
-starts_read pool acc k (s ∷ ss) es can some few sessions good fit most =
+start_on pool acc k s rest can may = follows (at pool acc []) k (pieces.Start s) rest (entry_within s can) (omega arith) (start_found s can) may
+
+-- behind those of starts
+starts_on : (pool : List (List ℕ × ℕ)) (acc : List Entry) (k : ℕ) (ss : List Entry) (rest : List ℕ) → list_all is_entry ss ≡ true
+    → length acc + length ss ≤ starts_limit → length acc + length ss ≤ principal pool
+    → lines_from (at pool acc []) k (lines_of (start_lines ss ++ rest)) ≡ lines_from (at pool (acc ++ ss) []) (k + length ss) (lines_of rest)
+starts_on pool acc k [] rest can few sessions =
+    let same : k ≡ k + length {A = Entry} [] = omega arith in λ i. lines_from (at pool (sym (append-nil acc) i) []) (same i) (lines_of rest)
+starts_on pool acc k (s ∷ ss) rest can few sessions =
     let p = both_true (is_entry s) (list_all is_entry ss) can in
     let may : may_start pool (length acc) ≡ true = λ i. below (length acc) starts_limit (omega (arith, few)) i && below (length acc) (principal pool) (omega (arith, sessions)) i in
-    ap (λ l. lines_from (at pool acc []) k (lines_of l)) (append_assoc (start_line s) (10 ∷ start_lines ss) (event_lines es))
-    ∙ follows (at pool acc []) k (pieces.Start s) (start_lines ss ++ event_lines es) (entry_within s p.0) (omega arith) (start_found s p.0) may
-    ∙ starts_read pool (acc ++ s ∷ []) (suc k) ss es p.1 (ap is_empty (append_assoc acc (s ∷ []) ss) ∙ some) (omega (arith, few, one_longer acc s))
-    (omega (arith, sessions, one_longer acc s)) good fit most
-    ∙ ap (λ xs. Ok (at pool xs es)) (append_assoc acc (s ∷ []) ss)
+    let same : suc k + length ss ≡ k + length (s ∷ ss) = omega arith in
+    ap (λ l. lines_from (at pool acc []) k (lines_of l)) (append_assoc (start_line s) (10 ∷ start_lines ss) rest)
+    ∙ start_on pool acc k s (start_lines ss ++ rest) p.0 may
+    ∙ starts_on pool (acc ++ s ∷ []) (suc k) ss rest p.1 (omega (arith, few, one_longer acc s)) (omega (arith, sessions, one_longer acc s))
+    ∙ (λ i. lines_from (at pool (append_assoc acc (s ∷ []) ss i) []) (same i) (lines_of rest))
 
 rises_behind : (acc : List (List ℕ × ℕ)) (name : List ℕ) (count : ℕ) (ds : List (List ℕ × ℕ)) → rises (acc ++ (name, count) ∷ ds) ≡ true → stands_behind (last_device acc) name ≡ true
 rises_behind [] name count ds h = refl
@@ -154,34 +157,58 @@ rises_behind (c ∷ e ∷ acc) name count ds h =
 is_sized_device : List ℕ × ℕ → Bool
 is_sized_device d = is_text d.0 && is_count d.1
 
-pool_read : (acc : List (List ℕ × ℕ)) (k : ℕ) (ds : List (List ℕ × ℕ)) (ss : List Entry) (es : List (ℕ × Ask × Reply)) → rises (acc ++ ds) ≡ true → list_all is_sized_device ds ≡ true
-    → list_all is_entry ss ≡ true → is_empty ss ≡ false → length ss ≤ starts_limit → length ss ≤ principal (acc ++ ds)
-    → list_all is_event es ≡ true → list_all is_sized_event es ≡ true → length es ≤ events_limit
-    → lines_from (at acc [] []) k (lines_of (pool_lines ds ++ (start_lines ss ++ event_lines es))) ≡ Ok (at (acc ++ ds) ss es)
+-- behind those of devices
+pool_on : (acc : List (List ℕ × ℕ)) (k : ℕ) (ds : List (List ℕ × ℕ)) (rest : List ℕ) → rises (acc ++ ds) ≡ true → list_all is_sized_device ds ≡ true
+    → lines_from (at acc [] []) k (lines_of (pool_lines ds ++ rest)) ≡ lines_from (at (acc ++ ds) [] []) (k + length ds) (lines_of rest)
 unfolding is_sized_device no_end
-pool_read acc k [] ss es up sized can some few sessions good fit most =
-    let same = append-nil acc in
-    starts_read acc [] k ss es can some (omega (arith, few)) (let here : length ss ≤ principal acc = subst (λ ds. length ss ≤ principal ds) same sessions in omega (arith, here)) good fit most
-    ∙ ap (λ ds. Ok (at ds ss es)) (sym same)
-pool_read acc k ((name, count) ∷ ds) ss es up sized can some few sessions good fit most =
+pool_on acc k [] rest up sized =
+    let same : k ≡ k + length {A = List ℕ × ℕ} [] = omega arith in λ i. lines_from (at (sym (append-nil acc) i) [] []) (same i) (lines_of rest)
+pool_on acc k ((name, count) ∷ ds) rest up sized =
     let p = both_true (is_text name && is_count count) (list_all is_sized_device ds) sized in
     let q = both_true (is_text name) (is_count count) p.0 in
-    let same = append_assoc acc ((name, count) ∷ []) ds in
-    ap (λ l. lines_from (at acc [] []) k (lines_of l)) (append_assoc (pool_line (name, count)) (10 ∷ pool_lines ds) (start_lines ss ++ event_lines es))
-    ∙ follows (at acc [] []) k (pieces.Device name count) (pool_lines ds ++ (start_lines ss ++ event_lines es)) (device_line_within name count q.1) (omega arith) (device_found name count q.0 q.1)
+    let more = append_assoc acc ((name, count) ∷ []) ds in
+    let same : suc k + length ds ≡ k + length {A = List ℕ × ℕ} ((name, count) ∷ ds) = omega arith in
+    ap (λ l. lines_from (at acc [] []) k (lines_of l)) (append_assoc (pool_line (name, count)) (10 ∷ pool_lines ds) rest)
+    ∙ follows (at acc [] []) k (pieces.Device name count) (pool_lines ds ++ rest) (device_line_within name count q.1) (omega arith) (device_found name count q.0 q.1)
     (rises_behind acc name count ds up)
-    ∙ pool_read (acc ++ (name, count) ∷ []) (suc k) ds ss es (ap rises same ∙ up) p.1 can some few (subst (λ xs. length ss ≤ principal xs) (sym same) sessions) good fit most
-    ∙ ap (λ xs. Ok (at xs ss es)) same
+    ∙ pool_on (acc ++ (name, count) ∷ []) (suc k) ds rest (ap rises more ∙ up) p.1
+    ∙ (λ i. lines_from (at (more i) [] []) (same i) (lines_of rest))
 
 -- ---- the whole
 
+text_behind : (t : Traced) (rest : List ℕ) → trace_text t ++ rest ≡ header ++ 10 ∷ (pool_lines t.pool ++ (start_lines t.starts ++ (event_lines t.events ++ rest)))
+text_behind t rest =
+    append_assoc (header ++ 10 ∷ (pool_lines t.pool ++ start_lines t.starts)) (event_lines t.events) rest
+    ∙ ap (λ l. header ++ 10 ∷ l) (append_assoc (pool_lines t.pool) (start_lines t.starts) (event_lines t.events ++ rest))
+
+-- behind a trace as far as it goes, within the limits, it goes on with what follows
+pub trace_on : (t : Traced) → IsBegun t → IsSized t → (rest : List ℕ) → reading_of (trace_text t ++ rest) ≡ lines_from t (line_count t + 1) (lines_of rest)
+unfolding no_end is_sized_device is_sized_event
+trace_on t h k rest =
+    ap reading_of (text_behind t rest)
+    ∙ ap headed (line_first header (pool_lines t.pool ++ (start_lines t.starts ++ (event_lines t.events ++ rest))) refl)
+    ∙ by h
+  where
+    by : IsBegun t → lines_from no_lines 2 (lines_of (pool_lines t.pool ++ (start_lines t.starts ++ (event_lines t.events ++ rest)))) ≡ lines_from t (line_count t + 1) (lines_of rest)
+    by (inl d) =
+        let count : 2 + length t.pool ≡ line_count t + 1 = let starts = ap length d.no_starts in let events = ap length d.no_events in omega (arith, starts, events) in
+        ap (λ l. lines_from no_lines 2 (lines_of (pool_lines t.pool ++ l))) (λ i. start_lines (d.no_starts i) ++ (event_lines (d.no_events i) ++ rest))
+        ∙ pool_on [] 2 t.pool rest d.rise k.devices
+        ∙ (λ i. lines_from (at t.pool (sym d.no_starts i) (sym d.no_events i)) (count i) (lines_of rest))
+    by (inr is) =
+        let count : 2 + length t.pool + length t.starts + length t.events ≡ line_count t + 1 = omega arith in
+        let few = is.starts_few in
+        let sessions = is.sessions in
+        let most = is.events_few in
+        pool_on [] 2 t.pool (start_lines t.starts ++ (event_lines t.events ++ rest)) is.devices k.devices
+        ∙ starts_on t.pool [] (2 + length t.pool) t.starts (event_lines t.events ++ rest) is.starts (omega (arith, few)) (omega (arith, sessions))
+        ∙ events_on t.pool t.starts [] (2 + length t.pool + length t.starts) t.events rest is.started is.events k.events (omega (arith, most))
+        ∙ ap (λ n. lines_from t n (lines_of rest)) count
+
 -- the bytes of a trace that can be written, within the limits, are read as this trace
 pub is_read : (t : Traced) → IsTrace t → IsSized t → reading_of (trace_text t) ≡ Ok t
-unfolding no_end is_sized_device is_sized_event
 is_read t h k =
-    ap headed (line_first header ((pool_lines t.pool ++ start_lines t.starts) ++ event_lines t.events) refl)
-    ∙ ap (λ l. lines_from no_lines 2 (lines_of l)) (append_assoc (pool_lines t.pool) (start_lines t.starts) (event_lines t.events))
-    ∙ pool_read [] 2 t.pool t.starts t.events h.devices k.devices h.starts h.started h.starts_few h.sessions h.events k.events h.events_few
+    ap reading_of (sym (append-nil (trace_text t))) ∙ trace_on t (inr h) k [] ∙ ap (λ b. cond b (Err (errors.Line (line_count t + 1))) (Ok t)) h.started
 
 ok_same : (r : Result Traced TraceError) (u t : Traced) → r ≡ Ok u → r ≡ Ok t → u ≡ t
 ok_same r u t e f = cc

@@ -14,13 +14,15 @@ use Rattle.mj_asm.proofs.emit.+steps.Goals as goal
 
 pub emit_body-returns : goal.emit_body-returns
 emit_body-returns t c =
-    closed c.args.code.now.items (λ p o. steps_code (here_of c.args.site) p o (map step_of c.args.behind.now)) c.put.new.code.items c.emit_steps.new.code.items c.put-2.new.code.items c.change.new.code.items c.len-close.result
+    closed c.args.code.now.items (λ p o. steps_code (here_of c.args.site) p o (map step_of c.args.behind.now))
+    c.put.new.code.items c.emit_steps.new.code.items c.put-2.new.code.items c.change.new.code.items c.len-close.result
     (c.len-close.ensures ∙ c.args.code.now.ok.0) c.in_ok-put.ensures c.in_ok-emit_steps.ensures c.in_ok-put-2.ensures
     (c.change.ensures ∙ ap (λ k. slice_set c.put-2.new.code.items c.len-close.result (ForClose k)) (c.len-target.ensures ∙ c.put-2.new.code.ok.0))
 
 pub emit_else-returns : goal.emit_else-returns
 emit_else-returns t c =
-    led c.args.code.now.items (λ k. JumpIfTest k) (λ p. steps_code (here_of c.args.site) p c.args.close (map step_of c.args.behind.now)) c.put.new.code.items c.emit_steps.new.code.items c.change.new.code.items (JumpIfTest 0) c.len-test.result
+    led c.args.code.now.items (λ k. JumpIfTest k) (λ p. steps_code (here_of c.args.site) p c.args.close (map step_of c.args.behind.now))
+    c.put.new.code.items c.emit_steps.new.code.items c.change.new.code.items (JumpIfTest 0) c.len-test.result
     (c.len-test.ensures ∙ c.args.code.now.ok.0) c.in_ok-put.ensures c.in_ok-emit_steps.ensures
     (c.change.ensures ∙ ap (λ k. slice_set c.emit_steps.new.code.items c.len-test.result (JumpIfTest k)) (c.len-target.ensures ∙ c.emit_steps.new.code.ok.0))
 
@@ -58,7 +60,8 @@ emit_ifs-returns-in_ok-emit_ifs-in-Some t c =
     let first = c.in-Some.first.now in
     let others = c.in-Some.others.now in
     let all : c.args.conditions.now ≡ first ∷ others = grind (arith, common_steps, c.in-Some.ensures) in
-    tested base (expr_code (length base) (expr_of first)) (λ k. SetTest k) (λ p. ifs_code p (map expr_of others) rest) c.emit_expr.new.code.items c.put.new.code.items c.emit_ifs.new.code.items c.change.new.code.items (SetTest 0) c.len-test.result
+    tested base (expr_code (length base) (expr_of first)) (λ k. SetTest k)
+    (λ p. ifs_code p (map expr_of others) rest) c.emit_expr.new.code.items c.put.new.code.items c.emit_ifs.new.code.items c.change.new.code.items (SetTest 0) c.len-test.result
     c.in_ok-emit_expr-in-Some.ensures (c.len-test.ensures ∙ c.emit_expr.new.code.ok.0) c.in_ok-put-in-Some.ensures c.in_ok-emit_ifs-in-Some.ensures
     (c.change.ensures ∙ ap (λ k. slice_set c.emit_ifs.new.code.items c.len-test.result (SetTest k)) (c.len-target.ensures ∙ c.emit_ifs.new.code.ok.0))
     ∙ ap (λ es. base ++ ifs_code (length base) (map expr_of es) rest) (sym all)

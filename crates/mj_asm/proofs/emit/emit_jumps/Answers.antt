@@ -13,6 +13,7 @@ loop-jumped-preserved c =
     let x = c.jumped-item.result in
     let behind = drop (c.loop-jumped.jumped-index + 1) c.args.list.now in
     let at : drop c.loop-jumped.jumped-index c.args.list.now ≡ x ∷ behind = grind (arith, common_steps, c.jumped-item.is) in
-    one_more base (code_if (length base) (jumped_of x).condition (jump_code here (jumped_of x))) (λ k. jumps_code here k (map jumped_of behind)) c.emit_jumped.new.code.items c.in_ok-emit_jumped.ensures
+    one_more base (code_if (length base) (jumped_of x).condition (jump_code here (jumped_of x)))
+    (λ k. jumps_code here k (map jumped_of behind)) c.emit_jumped.new.code.items c.in_ok-emit_jumped.ensures
     ∙ ap (λ ls. base ++ jumps_code here (length base) (map jumped_of ls)) (sym at)
     ∙ c.loop-jumped.invariant

@@ -37,8 +37,10 @@ emit_choice-returns t c =
     let base = c.args.code.now.items in
     let x = c.args.choice.now in
     chosen base (expr_code (length base) (expr_of (out-Choice x).condition)) (λ k. expr_code k (expr_of (out-Choice x).value)) (λ k. others_code k (choice_of x))
-    c.emit_expr.new.code.items c.put.new.code.items c.emit_expr-2.new.code.items c.put-2.new.code.items c.aim.new.code.items c.emit_others.new.code.items _ (JumpUnless 0) (Jump 0) c.len-test.result c.len-exit.result
-    c.in_ok-emit_expr.ensures (c.len-test.ensures ∙ c.emit_expr.new.code.ok.0) c.in_ok-put.ensures c.in_ok-emit_expr-2.ensures (c.len-exit.ensures ∙ c.emit_expr-2.new.code.ok.0) c.in_ok-put-2.ensures c.aim.ensures c.in_ok-emit_others.ensures c.aim_jump.ensures
+    c.emit_expr.new.code.items c.put.new.code.items c.emit_expr-2.new.code.items c.put-2.new.code.items c.aim.new.code.items c.emit_others.new.code.items _ (JumpUnless 0)
+    (Jump 0) c.len-test.result c.len-exit.result
+    c.in_ok-emit_expr.ensures (c.len-test.ensures ∙ c.emit_expr.new.code.ok.0) c.in_ok-put.ensures c.in_ok-emit_expr-2.ensures
+    (c.len-exit.ensures ∙ c.emit_expr-2.new.code.ok.0) c.in_ok-put-2.ensures c.aim.ensures c.in_ok-emit_others.ensures c.aim_jump.ensures
     ∙ ap (λ is. base ++ is) (sym (choice_is (length base) x))
 
 pub emit_operand-returns-in_ok-emit_all-in-Call : goal.emit_operand-returns-in_ok-emit_all-in-Call
@@ -70,10 +72,12 @@ emit_operand-returns-in_ok-name-in-About-2 t c =
     let more : c.len-in-About-2.result ≡ count es = c.len-in-About-2.ensures ∙ c.in-About.others.ok.0 ∙ sym (count_is c.in-About.others.items) in
     let total : c.len-in-About.result + c.len-in-About-2.result ≡ (reference x).count + count es = omega (arith, held, more) in
     on_ok_weaker c.put-in-About-2.result (λ h.
-    about_made base cs (λ k. exprs_code k es) c.emit_subscripts-in-About.new.code.items c.put-in-About.new.code.items c.emit_all-in-About.new.code.items _ (instr.CheckNamed f c.in_ok-name-in-About.name) _
+    about_made base cs (λ k. exprs_code k es) c.emit_subscripts-in-About.new.code.items c.put-in-About.new.code.items c.emit_all-in-About.new.code.items _
+    (instr.CheckNamed f c.in_ok-name-in-About.name) _
     c.in_ok-emit_subscripts-in-About.ensures c.in_ok-put-in-About.ensures
     (c.in_ok-emit_all-in-About.ensures ∙ ap (λ l. c.put-in-About.new.code.items ++ exprs_code (length c.put-in-About.new.code.items) (exprs_of l)) c.deref-in-About.ensures.value) h
-    ∙ ap (λ q. base ++ (cs ++ instr.CheckNamed f q ∷ (ce ++ instr.CallNameFunction f c.in_ok-name-in-About-2.name (c.len-in-About.result + c.len-in-About-2.result) ∷ []))) c.in_ok-name-in-About.ensures
+    ∙ ap (λ q. base ++ (cs ++ instr.CheckNamed f q ∷ (ce ++ instr.CallNameFunction f c.in_ok-name-in-About-2.name (c.len-in-About.result + c.len-in-About-2.result) ∷ [])))
+    c.in_ok-name-in-About.ensures
     ∙ ap (λ q. base ++ (cs ++ instr.CheckNamed f (reference x) ∷ (ce ++ instr.CallNameFunction f q (c.len-in-About.result + c.len-in-About-2.result) ∷ []))) c.in_ok-name-in-About-2.ensures
     ∙ ap (λ k. base ++ (cs ++ instr.CheckNamed f (reference x) ∷ (ce ++ instr.CallNameFunction f (reference x) k ∷ []))) total
     ∙ ap (λ o. base ++ operand_code (length base) o) (sym (ap operand_of c.in-About.is ∙ about_is f v c.in-About.others))) c.put-in-About-2.ensures

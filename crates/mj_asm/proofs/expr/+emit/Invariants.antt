@@ -8,4 +8,5 @@ abbrev pub invariant-emit_tails-loop-tail : goal.invariant-emit_tails-loop-tail
 invariant-emit_tails-loop-tail l = l.code.items ++ tails_code (length l.code.items) (tails_of (drop l.tail-index l.tails)) ≡ l.fn.code.items ++ tails_code (length l.fn.code.items) (tails_of l.tails)
 
 abbrev pub invariant-emit_all-loop-expression : goal.invariant-emit_all-loop-expression
-invariant-emit_all-loop-expression l = l.code.items ++ exprs_code (length l.code.items) (exprs_of (drop l.expression-index l.expressions)) ≡ l.fn.code.items ++ exprs_code (length l.fn.code.items) (exprs_of l.expressions)
+invariant-emit_all-loop-expression l =
+    l.code.items ++ exprs_code (length l.code.items) (exprs_of (drop l.expression-index l.expressions)) ≡ l.fn.code.items ++ exprs_code (length l.fn.code.items) (exprs_of l.expressions)

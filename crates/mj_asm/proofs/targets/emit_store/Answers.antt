@@ -31,7 +31,9 @@ returns-in_ok-stored-in-Pieces c =
     h
     ∙ ap (λ l. l ++ instr.Store c.in_ok-stored-in-Pieces.stored (record { above = depth.above + c.len-count.result + 1; taken = depth.taken + 1 }) ∷ []) c.in_ok-put-in-Pieces.ensures
     ∙ append_assoc base (instr.SetPiece c.in_ok-read-in-Pieces.read c.len-count.result depth ∷ []) _
-    ∙ ap (λ x. base ++ (instr.SetPiece x c.len-count.result depth ∷ instr.Store c.in_ok-stored-in-Pieces.stored (record { above = depth.above + c.len-count.result + 1; taken = depth.taken + 1 }) ∷ [])) c.in_ok-read-in-Pieces.ensures
-    ∙ ap (λ x. base ++ (instr.SetPiece r c.len-count.result depth ∷ instr.Store x (record { above = depth.above + c.len-count.result + 1; taken = depth.taken + 1 }) ∷ [])) c.in_ok-stored-in-Pieces.ensures
+    ∙ ap (λ x. base ++ (instr.SetPiece x c.len-count.result depth
+    ∷ instr.Store c.in_ok-stored-in-Pieces.stored (record { above = depth.above + c.len-count.result + 1; taken = depth.taken + 1 }) ∷ [])) c.in_ok-read-in-Pieces.ensures
+    ∙ ap (λ x. base ++ (instr.SetPiece r c.len-count.result depth ∷ instr.Store x (record { above = depth.above + c.len-count.result + 1; taken = depth.taken + 1 }) ∷ []))
+    c.in_ok-stored-in-Pieces.ensures
     ∙ ap (λ k. base ++ (instr.SetPiece r k depth ∷ instr.Store r (record { above = depth.above + k + 1; taken = depth.taken + 1 }) ∷ [])) n
     ∙ ap (λ d. base ++ code.store_code (destination_of d) depth) (sym c.in-Pieces.is)) c.put-in-Pieces-2.ensures

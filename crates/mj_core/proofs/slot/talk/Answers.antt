@@ -1,45 +1,41 @@
-use Rattle.std.proofs.Common.{◌≡◌, false, Some, refl, sym, ◌∙◌, subst}
-use Rattle.std.specs.Option.{is_some}
+use Rattle.std.proofs.Common.{◌≡◌, Some, refl, sym, subst}
 use Rattle.mj_ask.specs.declared.ask.Ask.{Ask}
-use Rattle.mj_ask.specs.Fits.{is_shared}
-use Rattle.mj_sessions.specs.Named.{session_of}
-use Rattle.mj_core.proofs.Behind.{unopened}
+use Rattle.mj_core.specs.Meaning.{IsOfDevice}
 use Rattle.mj_core.proofs.Stepping.{same_ask}
-use Rattle.mj_core.proofs.Telling.{fits_answer, waits_answer, unfit_answer, short_answer}
 use Rattle.mj_core.proofs.slot.talk.Goals as goal
+
+pub answer-requires : goal.answer-requires
+answer-requires g c =
+    let D : Ask → Type 0 = λ a. IsOfDevice a in
+    subst D (same_ask c.args.job.now.run.pending c.requires.asks.0 c.in-Some.ask.now c.requires.asks.1 (sym c.in-Some.ensures)) c.requires.asks.2
 
 pub returns-in-Told-clause-ok : goal.returns-in-Told-clause-ok
 returns-in-Told-clause-ok g c =
     let ask = c.in-Some.ask.now in
-    let reply = c.in-Told.reply in
     let pending : c.args.job.now.run.pending ≡ Some ask = sym c.in-Some.ensures in
-    let A : Ask → Type 0 = λ a. is_shared a ≡ false in
-    let unshared : is_shared ask ≡ false = subst A (same_ask c.args.job.now.run.pending c.requires.asks.0 ask c.requires.asks.1 pending) c.requires.asks.2 in
-    let fit = fits_answer c.args.sessions.now.sessions c.serve.new.self.sessions c.args.late reply ask c.in-Told.ensures.answers in (
+    let told = c.in-Told.ensures in (
       ask,
       pending,
       (
-        reply,
-        fit.0,
-        fit.1,
-        (c.answer.ensures.log ask pending, c.answer.ensures.run, c.answer.ensures.spent),
-        (λ told. c.in-Told.ensures.told c.args.job.now.run.log reply refl told),
-        (λ s name. c.in-Told.ensures.there name reply refl ∙ sym (unopened s name ask (is_some (session_of name c.args.sessions.now.sessions)) unshared)),
+        c.in-Told.reply,
+        told.0,
+        told.1,
+        (c.answer-in-Told.ensures.log ask pending, c.answer-in-Told.ensures.run, c.answer-in-Told.ensures.spent),
+        told.2 c.args.job.now.run.log,
+        told.3,
+        told.4,
       ),
     )
 
 pub returns-in-NotYet-clause-ok : goal.returns-in-NotYet-clause-ok
 returns-in-NotYet-clause-ok g c =
-    let ask = c.in-Some.ask.now in
-    let waits = waits_answer c.args.sessions.now.sessions c.serve.new.self.sessions c.args.late ask c.in-NotYet.ensures.answers in
-    (ask, sym c.in-Some.ensures, (waits.0, waits.1, waits.2, refl, waits.3))
+    let waits = c.in-NotYet.ensures in
+    (c.in-Some.ask.now, sym c.in-Some.ensures, (waits.0 c.args.job.now.run.log, refl, waits.1))
 
 pub returns-in-Unfit-clause-ok : goal.returns-in-Unfit-clause-ok
 returns-in-Unfit-clause-ok g c =
-    let ask = c.in-Some.ask.now in
-    let unfit = unfit_answer c.args.sessions.now.sessions c.serve.new.self.sessions c.args.late ask c.in-Unfit.ensures.answers in
-    (ask, sym c.in-Some.ensures, (unfit.0, refl, unfit.1))
+    let unfit = c.in-Unfit.ensures in
+    (c.in-Some.ask.now, sym c.in-Some.ensures, ((λ s has. unfit.0 s c.args.job.now.run.log has), refl, unfit.1))
 
 pub returns-in-Memory-clause-err : goal.returns-in-Memory-clause-err
-returns-in-Memory-clause-err g c =
-    (refl, refl, short_answer c.args.sessions.now.sessions c.serve.new.self.sessions c.args.late c.in-Some.ask.now c.in-Memory.ensures.answers)
+returns-in-Memory-clause-err g c = (refl, refl, c.in-Memory.ensures)

@@ -1,5 +1,6 @@
 -- What is read is what is listed.
 use Rattle.mj_gfile.specs.Laws.Listings.{lists_them, lists_all}
+use Rattle.mj_gfile.specs.Laws.Refused.{refuses_it}
 use Rattle.mj_gfile.proofs.Global.{all_global}
 use Rattle.mj_gfile.proofs.reading.read.Goals as goal
 
@@ -11,3 +12,6 @@ returns-clause-all c = lists_all c.args.bytes.now c.read_lines.result c.read_lin
 
 pub returns-clause-global : goal.returns-clause-global
 returns-clause-global c = all_global c.args.bytes.now c.read_lines.result (lists_them c.args.bytes.now c.read_lines.result c.read_lines.ensures.ok)
+
+pub returns-clause-refused : goal.returns-clause-refused
+returns-clause-refused c = refuses_it c.args.bytes.now c.read_lines.result c.read_lines.ensures.err

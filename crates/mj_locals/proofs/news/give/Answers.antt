@@ -33,8 +33,10 @@ loop-index-preserved c =
     let r : k < length now = omega (arith, c.loop-index.auto.values) in
     let s : k < length xs = omega (arith, words_of_group ts ps) in
     let one : suc k ≡ k + 1 = omega arith in
-    let left : drop (k + 1) (slice_set now k c.take.new.self) ≡ drop (k + 1) vs = subst (λ n. drop n (slice_set now k c.take.new.self) ≡ drop n vs) one (values_left now vs k c.take.new.self r q c.loop-index.invariant.values) in
-    let own : (e : Option (List ℕ)) → c.take.result ≡ get_or vs k e = λ e. c.take.ensures.value ∙ sym c.index-values-index.is ∙ get_or_read now k c.index-values-index.result r c.index-values-index.is e ∙ value_left now vs k e r q c.loop-index.invariant.values in
+    let left : drop (k + 1) (slice_set now k c.take.new.self) ≡ drop (k + 1) vs =
+    subst (λ n. drop n (slice_set now k c.take.new.self) ≡ drop n vs) one (values_left now vs k c.take.new.self r q c.loop-index.invariant.values) in
+    let own : (e : Option (List ℕ)) → c.take.result ≡ get_or vs k e = λ e. c.take.ensures.value
+    ∙ sym c.index-values-index.is ∙ get_or_read now k c.index-values-index.result r c.index-values-index.is e ∙ value_left now vs k e r q c.loop-index.invariant.values in
     elim c.match-take.branch [
       | in-Some w ↦
           let us : Trees = c.loop-index.table in
@@ -58,7 +60,8 @@ loop-index-preserved c =
       | in_default w ↦
           let none : c.take.result ≡ None = nothing c.take.result w.in_default.not-Some in
           record {
-            content = ap (λ (zs : Trees). bound (drop (k + 1) xs) (drop (k + 1) vs) (content zs)) w.table-is ∙ bound_skip xs vs k (content c.loop-index.table) _ s q (sym (own None) ∙ none) c.loop-index.invariant.content;
+            content = ap (λ (zs : Trees). bound (drop (k + 1) xs) (drop (k + 1) vs) (content zs)) w.table-is
+                ∙ bound_skip xs vs k (content c.loop-index.table) _ s q (sym (own None) ∙ none) c.loop-index.invariant.content;
             values = left;
             words = λ x. ap (λ (zs : Trees). word_at zs x) w.table-is ∙ c.loop-index.invariant.words x;
             count = ap (λ (zs : Trees). length zs) w.table-is ∙ c.loop-index.invariant.count;

@@ -21,4 +21,5 @@ loop-word-preserved c =
     let less : k < length ws = omega arith in
     let one = take_more ws k [] less ∙ ap (λ (v : List ℕ). take k ws ++ v ∷ []) (sym (get_or_read ws k w less c.word-item.is [])) in
     subst (λ (vs : List (List ℕ)). HidesOnly vs c.args.table.now c.hide.new.table (rest c.args.trail.now) c.hide.new.self) (sym one)
-    (only_next (take k ws) c.args.table.now c.loop-word.table c.make_room.new.self c.hide.new.table (rest c.args.trail.now) c.loop-word.trail c.hide.new.self w c.in_ok-place.place c.loop-word.invariant c.in_ok-place.ensures.ok c.in_ok-place.ensures.place c.in_ok-hide.ensures.table c.in_ok-hide.ensures.ok)
+    (only_next (take k ws) c.args.table.now c.loop-word.table c.make_room.new.self c.hide.new.table (rest c.args.trail.now) c.loop-word.trail
+    c.hide.new.self w c.in_ok-place.place c.loop-word.invariant c.in_ok-place.ensures.ok c.in_ok-place.ensures.place c.in_ok-hide.ensures.table c.in_ok-hide.ensures.ok)

@@ -29,7 +29,8 @@ returns-in-Err-clause-names c =
     let more : c.loop-reference.more - r.count ≡ counts rest = omega (arith, c.loop-reference.invariant.more, ap counts at) in
     let name : name_of r.scope r.word (operands r.count (drop (counts rest) st)) ≡ Err c.in-Err.fault =
     ap (λ k. name_of r.scope r.word (operands r.count (drop k st))) (sym more) ∙ sym c.in_ok-name.ensures ∙ c.in-Err.is in
-    sym (ap (λ l. then_value (names_on l st) (λ xs. Ok (listed c.loop-reference.names ++ xs))) at ∙ ap (λ o. then_value o (λ xs. Ok (listed c.loop-reference.names ++ xs))) (names_fault r rest st c.in-Err.fault name))
+    sym (ap (λ l. then_value (names_on l st) (λ xs. Ok (listed c.loop-reference.names ++ xs))) at
+    ∙ ap (λ o. then_value o (λ xs. Ok (listed c.loop-reference.names ++ xs))) (names_fault r rest st c.in-Err.fault name))
     ∙ c.loop-reference.invariant.names
 
 pub loop-reference-preserved : goal.loop-reference-preserved
@@ -47,7 +48,8 @@ loop-reference-preserved c =
     record {
       more = more;
       names = names_grow (names_on rest st) (listed c.loop-reference.names) c.in_ok-one_more.field-0 x c.in_ok-one_more.ensures
-          ∙ sym (ap (λ l. then_value (names_on l st) (λ xs. Ok (listed c.loop-reference.names ++ xs))) at ∙ ap (λ o. then_value o (λ xs. Ok (listed c.loop-reference.names ++ xs))) (names_step r rest st x name))
+          ∙ sym (ap (λ l. then_value (names_on l st) (λ xs. Ok (listed c.loop-reference.names ++ xs))) at
+          ∙ ap (λ o. then_value o (λ xs. Ok (listed c.loop-reference.names ++ xs))) (names_step r rest st x name))
           ∙ c.loop-reference.invariant.names;
       some = omega (arith, ap length c.in_ok-one_more.ensures, length-append (listed c.loop-reference.names) (x ∷ []));
     }

@@ -17,6 +17,7 @@ returns-then-is_limit c = (
     λ next n handle replies.
         let old = c.args.machine.now in
         let rest : Timed = without old c.args.pc c.args.count next in
-        ap (λ b. (if b then fault Limit else change (in_time c.args.timeout (not (is_late c.args.reply.now))) rest) n (handle (restart_of old)) (counted (state_of old)) replies) (sym c.is_limit.ensures ∙ c.if-is_limit.true),
+        ap (λ b. (if b then fault Limit else change (in_time c.args.timeout (not (is_late c.args.reply.now))) rest) n (handle (restart_of old)) (counted (state_of old)) replies)
+        (sym c.is_limit.ensures ∙ c.if-is_limit.true),
   ),
 )

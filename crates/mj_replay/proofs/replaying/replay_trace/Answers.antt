@@ -1,16 +1,34 @@
-use Rattle.std.proofs.Common.{ℕ, List, subst}
+-- A trace can open a run, and what is said of its opening and of the events that were made is said of those of the trace.
+use Rattle.std.proofs.Common.{◌≤◌, ℕ, List, length, sym, subst}
 use Rattle.std.specs.Prelude.{IfOk}
 use Rattle.mj_ask.specs.declared.ask.Ask.{Ask}
 use Rattle.mj_ask.specs.declared.ask.Reply.{Reply}
 use Rattle.mj_load.specs.Image.{routines_of}
 use Rattle.mj_sys.specs.Shared.{Shared}
+use Rattle.mj_sys.specs.System.{history_limit}
 use Rattle.mj_debug.specs.Replays.{history_of, Says}
 use Rattle.mj_replay.specs.Traces.{opening_in}
+use Rattle.mj_replay.proofs.Opened as opened
 use Rattle.mj_replay.proofs.replaying.replay_trace.Goals as goal
 
--- what is said of the opening and the events that were made is said of those of the trace
-pub returns : goal.returns
-returns c =
-    let P : Shared → Type 0 = λ opening. IfOk c.replay_over.result (λ verdict. Says (routines_of c.args.image.now) opening (history_of c.events-events.result.now) verdict) in
-    let Q : List (ℕ × Ask × Reply) → Type 0 = λ events. IfOk c.replay_over.result (λ verdict. Says (routines_of c.args.image.now) (opening_in c.args.globals c.args.trace.now) (history_of events) verdict) in
-    subst Q c.events-events.ensures (subst P (c.in-Ok.ensures c.args.globals) c.replay_over.ensures)
+pub replay_over-requires-clause-some : goal.replay_over-requires-clause-some
+replay_over-requires-clause-some c = opened.some c.args.trace.now c.requires.written c.in-Ok.pool c.in-Ok.starts.items c.in-Ok.ensures.pool c.in-Ok.ensures.starts
+
+pub replay_over-requires-clause-few : goal.replay_over-requires-clause-few
+replay_over-requires-clause-few c = opened.few c.args.trace.now c.requires.written c.in-Ok.pool c.in-Ok.starts.items c.in-Ok.ensures.pool c.in-Ok.ensures.starts
+
+pub replay_over-requires-clause-fits : goal.replay_over-requires-clause-fits
+replay_over-requires-clause-fits c = opened.fits c.args.trace.now c.requires.written c.in-Ok.pool c.in-Ok.starts.items c.in-Ok.ensures.pool c.in-Ok.ensures.starts
+
+pub replay_over-requires-clause-short : goal.replay_over-requires-clause-short
+replay_over-requires-clause-short c = subst (λ (events : List (ℕ × Ask × Reply)). length events ≤ history_limit) (sym c.events.ensures) c.requires.written.events_few
+
+pub returns-in-Ok : goal.returns-in-Ok
+returns-in-Ok c =
+    let image = routines_of c.args.image.now in
+    let result = c.replay_over.result in
+    let opening = opening_in c.args.globals c.args.trace.now in
+    let P : Shared → Type 0 = λ o. IfOk result (λ verdict. Says image o (history_of c.events.result.now) verdict) in
+    let Q : List (ℕ × Ask × Reply) → Type 0 = λ events. IfOk result (λ verdict. Says image opening (history_of events) verdict) in
+    let same = opened.opens c.args.trace.now c.requires.written c.in-Ok.pool c.in-Ok.starts.items c.in-Ok.ensures.pool c.in-Ok.ensures.starts c.args.globals in
+    subst Q c.events.ensures (subst P same c.replay_over.ensures)

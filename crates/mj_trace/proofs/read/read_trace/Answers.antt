@@ -1,5 +1,6 @@
 -- What is read is spelled so, and what is spelled is read.
 use Rattle.mj_trace.specs.Laws.Spelled.{says_it}
+use Rattle.mj_trace.specs.Laws.Refused.{refuses_it}
 use Rattle.mj_trace.specs.Laws.Whole.{reads_it, reads_all}
 use Rattle.mj_trace.proofs.read.read_trace.Goals as goal
 
@@ -11,3 +12,6 @@ returns-clause-same c = reads_it c.args.bytes.now c.read.result c.read.ensures.o
 
 pub returns-clause-all : goal.returns-clause-all
 returns-clause-all c = reads_all c.args.bytes.now c.read.result c.read.ensures.err
+
+pub returns-clause-refused : goal.returns-clause-refused
+returns-clause-refused c = refuses_it c.args.bytes.now c.read.result c.read.ensures.err

@@ -17,5 +17,8 @@ returns-in-None-clause-ok c =
     c.wait.ensures
 
 pub returns-in-Some-clause-ok : goal.returns-in-Some-clause-ok
-returns-in-Some-clause-ok c =
-    (tt, λ next n handle replies. ap (λ g. closing_one c.args.done c.args.device c.args.fault n (handle (restart_of c.args.machine.now)) (state_of c.args.machine.now) (given_first (replied g) replies)) c.in-Some.is)
+returns-in-Some-clause-ok c = (
+  tt,
+  λ next n handle replies. ap (λ g.
+      closing_one c.args.done c.args.device c.args.fault n (handle (restart_of c.args.machine.now)) (state_of c.args.machine.now) (given_first (replied g) replies)) c.in-Some.is,
+)

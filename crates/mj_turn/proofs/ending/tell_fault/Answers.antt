@@ -32,7 +32,8 @@ returns-in-Some-clause-ok c = (
       let f = c.args.fault in
       let line = asking (asks.Device principal (device_asks.Write (fault_bytes f (state_of old)))) (λ r. end (Some f)) in
       ap (λ g. telling f n (handle (restart_of old)) (state_of old) (given_first (replied g) replies)) c.in-Some.is
-      ∙ ap (λ b. (if b then end (Some f) else line) n (handle (restart_of old)) (state_of old) (given_first (replied (Some c.in-Some.field-0)) replies)) (sym c.principal_failed.ensures ∙ c.if-principal_failed.false),
+      ∙ ap (λ b. (if b then end (Some f) else line) n (handle (restart_of old)) (state_of old) (given_first (replied (Some c.in-Some.field-0)) replies))
+      (sym c.principal_failed.ensures ∙ c.if-principal_failed.false),
 )
 
 pub returns-then-principal_failed-clause-ok : goal.returns-then-principal_failed-clause-ok
@@ -42,5 +43,6 @@ returns-then-principal_failed-clause-ok c = (
       let old = c.args.machine.now in
       let f = c.args.fault in
       let line = asking (asks.Device principal (device_asks.Write (fault_bytes f (state_of old)))) (λ r. end (Some f)) in
-      ap (λ b. (if b then end (Some f) else line) n (handle (restart_of old)) (state_of old) (given_first (replied c.args.given) replies)) (sym c.principal_failed.ensures ∙ c.if-principal_failed.true),
+      ap (λ b. (if b then end (Some f) else line) n (handle (restart_of old)) (state_of old) (given_first (replied c.args.given) replies))
+      (sym c.principal_failed.ensures ∙ c.if-principal_failed.true),
 )

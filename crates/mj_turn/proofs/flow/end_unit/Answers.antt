@@ -15,7 +15,8 @@ returns-clause-ok c =
     let last : length u.heads.items ≡ c.len.result = omega (arith, c.len.ensures, u.heads.ok.0) in
     IfOk-weaker c.leave.result _ _
     (λ step d. λ all pc reply.
-    does_as (λ next. change (at_place (machines.place_in u (length u.heads.items))) (machines.quits next ks)) (λ next. change (at_place (machines.place_in u c.len.result)) (machines.quits next ks)) old reply step _
+    does_as (λ next. change (at_place (machines.place_in u (length u.heads.items))) (machines.quits next ks))
+    (λ next. change (at_place (machines.place_in u c.len.result)) (machines.quits next ks)) old reply step _
     (λ next n back replies. ap (λ k. change (at_place (machines.place_in u k)) (machines.quits next ks) n back (state_of old) replies) last)
     (d reply))
     c.leave.ensures.ok

@@ -16,7 +16,8 @@ returns-then-not-is_empty-clause-ok c = λ all reply.
     let old = c.args.machine.now in
     let not_none : old.stack.len ≡ 0 → ⊥ = eqb-false old.stack.len 0 (sym c.is_empty.ensures ∙ c.if-not-is_empty.true) in
     let some : 1 ≤ length (stack_of old) = omega (arith, not_none, old.stack.ok.0, length-reverse old.stack.items) in
-    does_as (λ next. comes_to c.args.unit.now c.args.line next (context_of old) c.args.pc (stack_of old)) (λ next. next (context_of old) c.args.pc (below (stack_of old))) old reply c.take_tally.result c.take_tally.new.machine
+    does_as (λ next. comes_to c.args.unit.now c.args.line next (context_of old) c.args.pc (stack_of old))
+    (λ next. next (context_of old) c.args.pc (below (stack_of old))) old reply c.take_tally.result c.take_tally.new.machine
     (λ next n back replies. ap (λ t. t n back (state_of old) replies) (comes_tallied c.args.unit.now c.args.line next (context_of old) c.args.pc (stack_of old) some))
     (c.take_tally.ensures reply)
 
@@ -28,7 +29,8 @@ returns-then-line-level-clause-ok c =
     let less : c.args.line.level < level_of (state_of old) = omega (arith, c.if-line-level.true, c.level-level.ensures.value) in
     IfOk-weaker c.leave.result _ _
     (λ step d. λ all reply.
-    does_as (λ next. comes_to u c.args.line next (context_of old) c.args.pc (stack_of old)) (λ next. change (at_place (place_in u c.saturating_sub.result)) (quits next (context_of old).calls)) old reply step _
+    does_as (λ next. comes_to u c.args.line next (context_of old) c.args.pc (stack_of old))
+    (λ next. change (at_place (place_in u c.saturating_sub.result)) (quits next (context_of old).calls)) old reply step _
     (λ next n back replies.
     ap (λ t. t n back (state_of old) replies) (comes_bare u c.args.line next (context_of old) c.args.pc (stack_of old) none)
     ∙ entered_less u c.args.line next (context_of old) c.args.pc (stack_of old) n back (state_of old) replies less

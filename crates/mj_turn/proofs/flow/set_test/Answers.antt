@@ -14,7 +14,8 @@ returns-in-Err-Fault-clause-ok c = λ reply all u.
     let old = c.args.machine.now in
     let t : c.top.result.now ≡ top (stack_of old) = c.top.ensures ∙ ap (λ l. top (reverse l)) c.deref.ensures.value in
     let f = c.in-Err-Fault.fault in
-    let after : Next → Bool → Timed = λ next b. change (set_test b) (if b then next (context_of old) (c.args.pc + 1) (below (stack_of old)) else next (context_of old) c.args.target (below (stack_of old))) in
+    let after : Next → Bool → Timed =
+    λ next b. change (set_test b) (if b then next (context_of old) (c.args.pc + 1) (below (stack_of old)) else next (context_of old) c.args.target (below (stack_of old))) in
     let is = truth_fault (truth_value (top (stack_of old))) f
     (sym (c.in-Err-Fault.is ∙ ap Err c.in-Err-Fault.field-0-is) ∙ c.truth.ensures ∙ ap (λ x. failing (truth_value x)) t) in
     does_as (λ next. given (truth_value (top (stack_of old))) (after next)) (λ next. fault f)

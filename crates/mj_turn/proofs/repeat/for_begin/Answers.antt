@@ -14,4 +14,5 @@ returns-in-Endless-clause-ok c =
 
 pub returns-in-UpTo-clause-ok : goal.returns-in-UpTo-clause-ok
 returns-in-UpTo-clause-ok c =
-    subst (λ (k : Span). IfOk c.begin_range-in-UpTo.result (λ step. ObeysAlone (instrs.ForBegin k) c.args.pc c.args.machine.now step c.begin_range-in-UpTo.new.machine)) (sym c.in-UpTo.is) c.begin_range-in-UpTo.ensures.ok
+    subst (λ (k : Span). IfOk c.begin_range-in-UpTo.result (λ step. ObeysAlone (instrs.ForBegin k) c.args.pc c.args.machine.now step c.begin_range-in-UpTo.new.machine))
+    (sym c.in-UpTo.is) c.begin_range-in-UpTo.ensures.ok

@@ -6,4 +6,5 @@ use Rattle.mj_turn.proofs.turn.obey_control.Goals as goal
 
 pub returns-in-Quit-clause-ok : goal.returns-in-Quit-clause-ok
 returns-in-Quit-clause-ok c =
-    obeys c.args.units.now c.args.unit.now c.args.instr.now instrs.Quit c.args.pc c.args.machine.now (replied c.args.given) steps.Next c.quit.new.machine c.in-Quit.is (c.quit.ensures (replied c.args.given))
+    obeys c.args.units.now c.args.unit.now c.args.instr.now instrs.Quit c.args.pc c.args.machine.now
+    (replied c.args.given) steps.Next c.quit.new.machine c.in-Quit.is (c.quit.ensures (replied c.args.given))

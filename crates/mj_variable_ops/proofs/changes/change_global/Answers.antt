@@ -22,4 +22,5 @@ returns-in-Some-clause-ok c =
     let rest : Next → Timed = without old c.args.pc c.args.taken in
     let settled = c.settle.ensures None in
     takes (λ next. access c.args.access (λ a. rest next)) (λ next. given c.reply_done.result (λ u. rest next)) old (replied c.args.given) r steps.Took c.settle.new.machine c.in-Some.ensures.some.0
-    (λ next n back replies. changed_told c.args.access (rest next) n back (state_of old) r c.reply_done.result replies c.requires.global c.in-Some.ensures.some.1 (sym c.reply_done.ensures)) (refl, settled)
+    (λ next n back replies. changed_told c.args.access (rest next) n back (state_of old) r c.reply_done.result replies c.requires.global c.in-Some.ensures.some.1 (sym c.reply_done.ensures))
+    (refl, settled)

@@ -22,7 +22,8 @@ returns-then-is_plain_local-clause-ok c =
     let x : Name = plain_name r.word in
     let rest : Next → Name → Timed = λ next y. store y (top (stack_of old)) (next (context_of old) (c.args.pc + 1) (drop depth.taken (stack_of old))) in
     let is : name_of r.scope r.word (operands r.count (drop depth.above (stack_of old))) ≡ Ok x =
-    ap (λ (s : Scope). name_of s r.word (operands r.count (drop depth.above (stack_of old)))) plain.0 ∙ ap (λ (k : ℕ). name_of scopes.Local r.word (operands k (drop depth.above (stack_of old)))) plain.1 in
+    ap (λ (s : Scope). name_of s r.word (operands r.count (drop depth.above (stack_of old)))) plain.0
+    ∙ ap (λ (k : ℕ). name_of scopes.Local r.word (operands k (drop depth.above (stack_of old)))) plain.1 in
     IfOk-weaker c.store_word.result _ _
     (λ step d all u. does_as (λ next. given (name_of r.scope r.word (operands r.count (drop depth.above (stack_of old)))) (rest next)) (λ next. rest next x)
     old (replied c.args.given) step _

@@ -26,5 +26,7 @@ returns-in-Some-clause-ok c =
     let r = c.in-Some.reply.now in
     let rest : Next → Timed = without old c.args.pc c.args.count in
     let w = c.reply_done.result in
-    takes (λ next. access (Put c.args.name old.held) (λ a. change (hold []) (rest next))) (λ next. given w (λ u. change (hold []) (rest next))) old (replied c.args.given) r steps.Took c.let_go.new.machine c.in-Some.ensures.some.0
-    (λ next n back replies. changed_told (Put c.args.name old.held) (change (hold []) (rest next)) n back (state_of old) r w replies c.requires.global c.in-Some.ensures.some.1 (sym c.reply_done.ensures)) (refl, c.let_go.ensures None)
+    takes (λ next. access (Put c.args.name old.held) (λ a. change (hold []) (rest next)))
+    (λ next. given w (λ u. change (hold []) (rest next))) old (replied c.args.given) r steps.Took c.let_go.new.machine c.in-Some.ensures.some.0
+    (λ next n back replies. changed_told (Put c.args.name old.held)
+    (change (hold []) (rest next)) n back (state_of old) r w replies c.requires.global c.in-Some.ensures.some.1 (sym c.reply_done.ensures)) (refl, c.let_go.ensures None)

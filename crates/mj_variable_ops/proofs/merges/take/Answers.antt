@@ -40,10 +40,12 @@ refused (Ok x) y f rest e =
     ] e
 
 -- where they can, they are taken
-allowed : (second : Result Name Fault) (y : Name) (rest : Timed) → refusal second y ≡ None → given second (λ x. take_nodes x y rest) ≡ access (accesses.Subtree y) (λ r. change (hold (nodes_told r)) rest)
+allowed : (second : Result Name Fault) (y : Name) (rest : Timed) → refusal second y ≡ None
+    → given second (λ x. take_nodes x y rest) ≡ access (accesses.Subtree y) (λ r. change (hold (nodes_told r)) rest)
 allowed (Err g) y rest e = absurd cc
 allowed (Ok x) y rest e =
-    elim (overlaps x y) as (λ b. (if b then Some Overlap else None) ≡ None → (if b then fault Overlap else access (accesses.Subtree y) (λ r. change (hold (nodes_told r)) rest)) ≡ access (accesses.Subtree y) (λ r. change (hold (nodes_told r)) rest)) [
+    elim (overlaps x y) as (λ b. (if b then Some Overlap else None) ≡ None
+    → (if b then fault Overlap else access (accesses.Subtree y) (λ r. change (hold (nodes_told r)) rest)) ≡ access (accesses.Subtree y) (λ r. change (hold (nodes_told r)) rest)) [
       | true ↦ λ h. absurd cc
       | false ↦ λ h. refl
     ] e

@@ -23,5 +23,7 @@ returns-in_ok-nodes-in-Some-clause-ok c =
     let r = c.in-Some.reply.now in
     let rest : Next → Timed = without old c.args.pc c.args.count in
     let w = c.in_ok-nodes-in-Some.nodes in
-    takes (λ next. access (Subtree c.args.name) (λ a. change (hold (nodes_told a)) (rest next))) (λ next. given w (λ l. change (hold l) (rest next))) old (replied c.args.given) r steps.Took c.keep.new.machine c.in-Some.ensures.some.0
-    (λ next n back replies. taken_told c.args.name (rest next) n back (state_of old) r w replies c.requires.global c.in-Some.ensures.some.1 (sym c.in_ok-nodes-in-Some.ensures)) (refl, c.keep.ensures None)
+    takes (λ next. access (Subtree c.args.name) (λ a. change (hold (nodes_told a)) (rest next)))
+    (λ next. given w (λ l. change (hold l) (rest next))) old (replied c.args.given) r steps.Took c.keep.new.machine c.in-Some.ensures.some.0
+    (λ next n back replies. taken_told c.args.name (rest next) n back (state_of old) r w replies c.requires.global c.in-Some.ensures.some.1 (sym c.in_ok-nodes-in-Some.ensures))
+    (refl, c.keep.ensures None)

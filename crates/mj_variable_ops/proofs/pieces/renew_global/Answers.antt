@@ -22,7 +22,8 @@ pub returns-in-None-clause-ok : goal.returns-in-None-clause-ok
 returns-in-None-clause-ok c =
     let old = c.args.machine.now in
     let rest : Next → List ℕ → Timed = with_value old c.args.pc 0 in
-    IfOk-weaker c.ask.result _ _ (λ step d. d (replied c.args.given) c.in-None.ensures.none (λ next. λ a. given (set_piece_value (or_empty (value_told a)) c.args.separator.now c.args.range (top (stack_of old))) (rest next))) c.ask.ensures.ok
+    IfOk-weaker c.ask.result _ _ (λ step d. d (replied c.args.given) c.in-None.ensures.none
+    (λ next. λ a. given (set_piece_value (or_empty (value_told a)) c.args.separator.now c.args.range (top (stack_of old))) (rest next))) c.ask.ensures.ok
 
 pub returns-in-Some-clause-ok : goal.returns-in-Some-clause-ok
 returns-in-Some-clause-ok c =
@@ -31,6 +32,9 @@ returns-in-Some-clause-ok c =
     let rest : Next → List ℕ → Timed = with_value old c.args.pc 0 in
     let w : Result (List ℕ) Fault = then_value (value_or_empty (answer_told r)) (λ o. set_piece_value o c.args.separator.now c.args.range (top (stack_of old))) in
     IfOk-weaker c.put_told.result _ _
-    (λ step t. takes (λ next. renewed c.args.name c.args.separator.now c.args.range (top (stack_of old)) (rest next)) (λ next. given w (rest next)) old (replied c.args.given) r step c.put_told.new.machine c.in-Some.ensures.some.0
-    (λ next n back replies. renewed_told c.args.name c.args.separator.now c.args.range (top (stack_of old)) (rest next) n back (state_of old) r w replies c.requires.global c.in-Some.ensures.some.1 refl) t)
-    (c.put_told.ensures.ok w (subst (λ l. AnswersOrMemory (then_value (value_or_empty (answer_told r)) (λ o. set_piece_value o c.args.separator.now c.args.range l)) c.renewed-renewed.result) (c.top-value.ensures ∙ ap (λ l. top (reverse l)) c.deref.ensures.value) c.renewed-renewed.ensures))
+    (λ step t. takes (λ next. renewed c.args.name c.args.separator.now c.args.range (top (stack_of old)) (rest next))
+    (λ next. given w (rest next)) old (replied c.args.given) r step c.put_told.new.machine c.in-Some.ensures.some.0
+    (λ next n back replies.
+    renewed_told c.args.name c.args.separator.now c.args.range (top (stack_of old)) (rest next) n back (state_of old) r w replies c.requires.global c.in-Some.ensures.some.1 refl) t)
+    (c.put_told.ensures.ok w (subst (λ l. AnswersOrMemory (then_value (value_or_empty (answer_told r)) (λ o. set_piece_value o c.args.separator.now c.args.range l)) c.renewed-renewed.result)
+    (c.top-value.ensures ∙ ap (λ l. top (reverse l)) c.deref.ensures.value) c.renewed-renewed.ensures))

@@ -23,6 +23,8 @@ returns-clause-ok c = λ reply.
     let v : c.top-value.result.now ≡ e = c.top-value.ensures ∙ ap (λ l. top (reverse l)) c.deref.ensures.value in
     let P : Option (List ℕ) → Type 0 = λ o. AnswersOrMemory (set_piece_value (or_empty o) d range c.top-value.result.now) c.with_pieces-renewed.result in
     let Q : List ℕ → Type 0 = λ l. AnswersOrMemory (set_piece_value before d range l) c.with_pieces-renewed.result in
-    does_as (λ next. renewed x d range e (with_value old c.args.pc 0 next)) (λ next. given (set_piece_value before d range e) (with_value old c.args.pc 0 next)) old reply steps.Next c.put_value.new.machine
-    (λ next n back replies. access_made (accesses.Value x) (λ a. given (set_piece_value (or_empty (value_told a)) d range e) (with_value old c.args.pc 0 next)) n back (state_of old) replies c.requires.local)
+    does_as (λ next. renewed x d range e (with_value old c.args.pc 0 next))
+    (λ next. given (set_piece_value before d range e) (with_value old c.args.pc 0 next)) old reply steps.Next c.put_value.new.machine
+    (λ next n back replies.
+    access_made (accesses.Value x) (λ a. given (set_piece_value (or_empty (value_told a)) d range e) (with_value old c.args.pc 0 next)) n back (state_of old) replies c.requires.local)
     (c.in_ok-put_value.ensures.ok (set_piece_value before d range e) (subst Q v (subst P c.value-old.ensures c.with_pieces-renewed.ensures)) reply)

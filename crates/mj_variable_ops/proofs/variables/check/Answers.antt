@@ -30,5 +30,8 @@ returns-clause-ok c = λ reply all u.
     let ss : List (List ℕ) = operands r.count (stack_of old) in
     let under = c.topmost.ensures ∙ ap (λ l. operands r.count (reverse l)) c.deref.ensures.value in
     let no : no_name ss ss ≡ None = sym (c.refusal.ensures ∙ ap (λ l. no_name l l) under) ∙ c.in_default.is in
-    let is : name_of r.scope r.word ss ≡ Ok (name_with r.scope r.word ss) = is_named r.scope r.word ss ss no in
-    (tt, λ next n handle replies. given_is (name_of r.scope r.word ss) (Ok (name_with r.scope r.word ss)) (λ x. next (context_of old) (c.args.pc + 1) (stack_of old)) n (handle (restart_of old)) (state_of old) (given_first reply replies) is)
+    let is : name_of r.scope r.word ss ≡ Ok (name_with r.scope r.word ss) = is_named r.scope r.word ss ss no in (
+      tt,
+      λ next n handle replies. given_is (name_of r.scope r.word ss)
+          (Ok (name_with r.scope r.word ss)) (λ x. next (context_of old) (c.args.pc + 1) (stack_of old)) n (handle (restart_of old)) (state_of old) (given_first reply replies) is,
+    )

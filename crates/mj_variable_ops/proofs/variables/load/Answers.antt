@@ -22,7 +22,8 @@ returns-then-is_plain_local-clause-ok c =
     let is : name_of r.scope r.word (operands r.count (stack_of old)) ≡ Ok x =
     ap (λ (s : Scope). name_of s r.word (operands r.count (stack_of old))) plain.0 ∙ ap (λ (k : ℕ). name_of scopes.Local r.word (operands k (stack_of old))) plain.1 in
     IfOk-weaker c.read_word.result _ _
-    (λ step d all u. does_as (λ next. given (name_of r.scope r.word (operands r.count (stack_of old))) (rest next)) (λ next. read x (λ v. next (context_of old) (c.args.pc + 1) (v ∷ drop 0 (stack_of old))))
+    (λ step d all u. does_as (λ next. given (name_of r.scope r.word (operands r.count (stack_of old))) (rest next))
+    (λ next. read x (λ v. next (context_of old) (c.args.pc + 1) (v ∷ drop 0 (stack_of old))))
     old (replied c.args.given) step _
     (λ next n back replies. given_is (name_of r.scope r.word (operands r.count (stack_of old))) (Ok x) (rest next) n back (state_of old) replies is
     ∙ ap (λ (k : ℕ). read x (λ v. next (context_of old) (c.args.pc + 1) (v ∷ drop k (stack_of old))) n back (state_of old) replies) plain.1)

@@ -1,6 +1,6 @@
 use Rattle.std.specs.Prelude.{slice_get}
-use Rattle.std.proofs.Common.{◌≡◌, ◌-◌, ℕ, Option, None, Some, refl, sym, ap, ◌∙◌, arith}
-use Rattle.std.proofs.lemmas.Option.{slice_get_within, same_Some, none-some}
+use Rattle.std.proofs.Common.{◌≡◌, ◌-◌, Option, Some, sym, ap, ◌∙◌, arith}
+use Rattle.std.proofs.lemmas.Option.{same_Some, none-some}
 use Rattle.mj_ask.specs.declared.ask.Ask.{Ask}
 use Rattle.mj_ask.specs.declared.ask.Reply.{Reply}
 use Rattle.mj_sys.specs.declared.event.Event.{Event}
@@ -23,7 +23,7 @@ overflow_sub-happened g c =
     let i = c.self.inside in
     let lookup = c.in_ok-happened.ensures.lookup in
     let h = c.in_ok-happened.happened.now in
-    let there = there_at i.image g.O.Opening.opening i.system i.slots.items (claim_of i.waiting) i.order.items c.self.invariant.0 c.args.at h
+    let there = there_at g.A.Answerer.answering i.image g.O.Opening.opening i.system i.slots.items (claim_of i.waiting) i.order.items c.self.invariant.0 c.args.at h
     (found_at c.deref.result.now i.order.items c.args.at h c.deref.ensures.value lookup.0 lookup.1) in
     let job = there.2 in omega (arith, job)
 
@@ -32,7 +32,7 @@ returns-in_err-slot g c =
     let i = c.self.inside in
     let lookup = c.in_ok-happened.ensures.lookup in
     let h = c.in_ok-happened.happened.now in
-    let there = there_at i.image g.O.Opening.opening i.system i.slots.items (claim_of i.waiting) i.order.items c.self.invariant.0 c.args.at h
+    let there = there_at g.A.Answerer.answering i.image g.O.Opening.opening i.system i.slots.items (claim_of i.waiting) i.order.items c.self.invariant.0 c.args.at h
     (found_at c.deref.result.now i.order.items c.args.at h c.deref.ensures.value lookup.0 lookup.1) in
     let job = there.2 in
     let is : h.job - 1 ≡ there.1 = omega (arith, job) in
@@ -44,7 +44,7 @@ returns-in_err-ask g c =
     let i = c.self.inside in
     let lookup = c.in_ok-happened.ensures.lookup in
     let h = c.in_ok-happened.happened.now in
-    let there = there_at i.image g.O.Opening.opening i.system i.slots.items (claim_of i.waiting) i.order.items c.self.invariant.0 c.args.at h
+    let there = there_at g.A.Answerer.answering i.image g.O.Opening.opening i.system i.slots.items (claim_of i.waiting) i.order.items c.self.invariant.0 c.args.at h
     (found_at c.deref.result.now i.order.items c.args.at h c.deref.ensures.value lookup.0 lookup.1) in
     let job = there.2 in
     let is : h.job - 1 ≡ there.1 = omega (arith, job) in
@@ -52,7 +52,7 @@ returns-in_err-ask g c =
     let read = c.in_ok-slot.ensures.lookup in
     let here = found_at c.deref-2.result.now i.slots.items (h.job - 1) slot c.deref-2.ensures.value read.0 read.1 in
     let one : slot ≡ there.3 = same_Some slot there.3 (sym here ∙ ap (λ k. slice_get i.slots.items k) is ∙ there.4) in
-    let log = c.log.ensures.which ∙ ap (λ (s : Placed). s.job.run.log) (c.slot.view_is ∙ one) in
+    let log = c.log.ensures.which ∙ ap (λ (s : Placed g.row.A.Denot). s.job.run.log) (c.slot.view_is ∙ one) in
     let none = missed_at c.log.result.now there.3.job.run.log h.at log c.in_err-ask.ensures.lookup.0 in
     absurd (none-some there.0 (sym none ∙ there.5))
 
@@ -61,7 +61,7 @@ returns g c =
     let i = c.self.inside in
     let lookup = c.in_ok-happened.ensures.lookup in
     let h = c.in_ok-happened.happened.now in
-    let there = there_at i.image g.O.Opening.opening i.system i.slots.items (claim_of i.waiting) i.order.items c.self.invariant.0 c.args.at h
+    let there = there_at g.A.Answerer.answering i.image g.O.Opening.opening i.system i.slots.items (claim_of i.waiting) i.order.items c.self.invariant.0 c.args.at h
     (found_at c.deref.result.now i.order.items c.args.at h c.deref.ensures.value lookup.0 lookup.1) in
     let job = there.2 in
     let is : h.job - 1 ≡ there.1 = omega (arith, job) in
@@ -69,7 +69,7 @@ returns g c =
     let read = c.in_ok-slot.ensures.lookup in
     let here = found_at c.deref-2.result.now i.slots.items (h.job - 1) slot c.deref-2.ensures.value read.0 read.1 in
     let one : slot ≡ there.3 = same_Some slot there.3 (sym here ∙ ap (λ k. slice_get i.slots.items k) is ∙ there.4) in
-    let log = c.log.ensures.which ∙ ap (λ (s : Placed). s.job.run.log) (c.slot.view_is ∙ one) in
+    let log = c.log.ensures.which ∙ ap (λ (s : Placed g.row.A.Denot). s.job.run.log) (c.slot.view_is ∙ one) in
     let entry = c.in_ok-ask.field-0.now in
     let told = c.in_ok-ask.ensures.lookup in
     let stands = found_at c.log.result.now there.3.job.run.log h.at entry log told.0 told.1 in

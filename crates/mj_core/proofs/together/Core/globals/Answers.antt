@@ -11,5 +11,5 @@ returns g c =
     let i = c.self.inside in
     let opening = g.O.Opening.opening in
     c.globals.ensures.which
-    ∙ ap (λ (s : Shared). s.globals) (sym (same_state i.image opening i.system i.slots.items (claim_of i.waiting) i.order.items c.self.invariant.0))
+    ∙ ap (λ (s : Shared). s.globals) (sym (same_state g.A.Answerer.answering i.image opening i.system i.slots.items (claim_of i.waiting) i.order.items c.self.invariant.0))
     ∙ ap (λ (s : Shown). (state_of opening s.history).globals) c.self.view_is

@@ -1,5 +1,5 @@
 use Rattle.std.specs.Prelude.{slice_get}
-use Rattle.std.proofs.Common.{◌≡◌, ◌<◌, ◌≤◌, ℕ, suc, length, None, Some, refl, sym, ap, ◌∙◌, subst, arith}
+use Rattle.std.proofs.Common.{◌≡◌, ◌<◌, ◌≤◌, suc, length, None, Some, refl, sym, ap, ◌∙◌, subst, arith}
 use Rattle.std.proofs.lemmas.Option.{slice_get_read, slice_get_past}
 use Rattle.mj_jobs.specs.Rows.{Row, row_at}
 use Rattle.mj_jobvm.specs.Jobs.{IsRunOf}
@@ -39,7 +39,7 @@ returns-in-None-get-clause-none g c =
     let none : slice_get i.slots.items at ≡ None = ap (λ l. slice_get l at) (sym c.deref.ensures.value) ∙ slice_get_past c.deref.result.now at past in
     ap (λ (s : Shown). log_of job s.history) (sym c.self.view_is)
     ∙ ap (λ j. log_of j (woven (logs_of i.slots.items) i.order.items)) is
-    ∙ none_past i.image g.O.Opening.opening i.system i.slots.items (claim_of i.waiting) i.order.items c.self.invariant.0 at none
+    ∙ none_past g.A.Answerer.answering i.image g.O.Opening.opening i.system i.slots.items (claim_of i.waiting) i.order.items c.self.invariant.0 at none
 
 number : (g : Over) (c : After-slot g) → c.args.job ≡ suc c.in-Some.at
 number g c =
@@ -59,7 +59,7 @@ returns-in-Some-get-clause-log g c =
     let i = c.self.inside in
     let job = c.args.job in
     let at = c.in-Some.at in
-    ap (λ (s : Placed). s.job.run.log) c.slot.view_is
+    ap (λ (s : Placed g.row.A.Denot). s.job.run.log) c.slot.view_is
     ∙ sym (c.self.invariant.0.tied at c.in-Some-get.slot.now (here g c)).logged
     ∙ ap (λ j. log_of j (woven (logs_of i.slots.items) i.order.items)) (sym (number g c))
     ∙ ap (λ (s : Shown). log_of job s.history) c.self.view_is
@@ -73,6 +73,6 @@ returns-in-Some-get-clause-run g c =
     subst (λ (s : Shown). (row : Row) × (row_at (state_of opening s.history).rows job ≡ Some row) × IsRunOf s.image (start_in job row.start) c.slot.inside.job) c.self.view_is
     (subst (λ j. (row : Row) × (row_at (state_of opening (woven (logs_of i.slots.items) i.order.items)).rows j ≡ Some row) × IsRunOf i.image (start_in j row.start) c.slot.inside.job)
     (sym (number g c))
-    (subst (λ (p : Placed). (row : Row) × (row_at (state_of opening (woven (logs_of i.slots.items) i.order.items)).rows (suc at) ≡ Some row)
+    (subst (λ (p : Placed g.row.A.Denot). (row : Row) × (row_at (state_of opening (woven (logs_of i.slots.items) i.order.items)).rows (suc at) ≡ Some row)
     × IsRunOf i.image (start_in (suc at) row.start) p.job) (sym c.slot.view_is)
-    (shown_run i.image opening i.system i.slots.items (claim_of i.waiting) i.order.items c.self.invariant.0 at c.in-Some-get.slot.now (here g c))))
+    (shown_run g.A.Answerer.answering i.image opening i.system i.slots.items (claim_of i.waiting) i.order.items c.self.invariant.0 at c.in-Some-get.slot.now (here g c))))

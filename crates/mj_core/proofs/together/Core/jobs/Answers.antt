@@ -11,5 +11,5 @@ returns-clause-value g c =
     let i = c.self.inside in
     let opening = g.O.Opening.opening in
     c.rows.ensures.value
-    ∙ ap (λ (s : Shared). length s.rows) (sym (same_state i.image opening i.system i.slots.items (claim_of i.waiting) i.order.items c.self.invariant.0))
+    ∙ ap (λ (s : Shared). length s.rows) (sym (same_state g.A.Answerer.answering i.image opening i.system i.slots.items (claim_of i.waiting) i.order.items c.self.invariant.0))
     ∙ ap (λ (s : Shown). length (state_of opening s.history).rows) c.self.view_is

@@ -18,4 +18,4 @@ returns-clause-run g c =
     let i = c.self.inside in
     let opening = g.O.Opening.opening in
     subst (λ (s : Shown). IsRun (routines_of s.image) opening s.history) c.self.view_is
-    (is_run i.image opening i.system i.slots.items (claim_of i.waiting) i.order.items c.self.invariant.0)
+    (is_run g.A.Answerer.answering i.image opening i.system i.slots.items (claim_of i.waiting) i.order.items c.self.invariant.0)

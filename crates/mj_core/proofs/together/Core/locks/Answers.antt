@@ -11,5 +11,5 @@ returns-clause-replay g c =
     let i = c.self.inside in
     let opening = g.O.Opening.opening in
     c.locks.ensures.replay
-    ∙ ap (λ (s : Shared). s.locks) (sym (same_state i.image opening i.system i.slots.items (claim_of i.waiting) i.order.items c.self.invariant.0))
+    ∙ ap (λ (s : Shared). s.locks) (sym (same_state g.A.Answerer.answering i.image opening i.system i.slots.items (claim_of i.waiting) i.order.items c.self.invariant.0))
     ∙ ap (λ (s : Shown). (state_of opening s.history).locks) c.self.view_is

@@ -2,6 +2,7 @@ use Rattle.std.proofs.Common.{[], None, length, sym, ap, subst}
 use Rattle.mj_sys.specs.System.{Recorded}
 use Rattle.mj_core.specs.Kept.{AreKept}
 use Rattle.mj_core.proofs.Keeping.{keeps_new}
+use Rattle.mj_core.proofs.Answering.{shown_first}
 use Rattle.mj_core.proofs.together.Core.new.Goals as goal
 
 pub invariant_of-result : goal.invariant_of-result
@@ -9,9 +10,12 @@ invariant_of-result g c =
     let image = c.args.image in
     let opening = g.O.Opening.opening in
     let system = c.in_ok-system.system in (
-      subst (λ (s : Recorded). AreKept image opening s c.new-2.result.items None c.new-3.result.items) (sym c.in_ok-system.ensures.ok)
-          (subst (λ l. AreKept image opening (record { history = []; claimed = 0 }) l None c.new-3.result.items) (sym c.new-2.ensures.items)
-          (subst (λ l. AreKept image opening (record { history = []; claimed = 0 }) [] None l) (sym c.new-3.ensures.items) (keeps_new image opening))),
+      subst (λ (s : Recorded). AreKept g.A.Answerer.answering image opening s c.new-2.result.items None c.new-3.result.items) (sym c.in_ok-system.ensures.ok)
+          (subst (λ l. AreKept g.A.Answerer.answering image opening (record { history = []; claimed = 0 }) l None c.new-3.result.items) (sym c.new-2.ensures.items)
+          (subst (λ l. AreKept g.A.Answerer.answering image opening (record { history = []; claimed = 0 }) [] None l) (sym c.new-3.ensures.items) (keeps_new g.A.Answerer.answering image opening))),
       ap (λ l. length l) c.in-Ok.ensures,
-      tt,
     )
+
+pub returns-clause-ok : goal.returns-clause-ok
+returns-clause-ok g c =
+    shown_first c.args.image c.new-2.result.items c.new-3.result.items _ c.new-2.ensures.items c.new-3.ensures.items c.in-Ok.ensures

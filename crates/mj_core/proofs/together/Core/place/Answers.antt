@@ -1,5 +1,5 @@
-use Rattle.std.specs.Prelude.{IsSome, slice_get}
-use Rattle.std.proofs.Common.{◌≡◌, ◌<◌, ◌≤◌, suc, length, None, sym, ap, ◌∙◌, subst, arith}
+use Rattle.std.specs.Prelude.{IsSome}
+use Rattle.std.proofs.Common.{◌≡◌, ◌<◌, ◌≤◌, suc, length, sym, ap, ◌∙◌, subst, arith}
 use Rattle.std.proofs.lemmas.Option.{slice_get_past}
 use Rattle.mj_jobs.specs.Rows.{row_at}
 use Rattle.mj_sys.specs.Shared.{Shared}
@@ -16,7 +16,7 @@ returns-then-at-rows-clause-some g c =
     let opening = g.O.Opening.opening in
     let same =
     ap (λ (s : Shown). state_of opening s.history) (sym c.self.view_is)
-    ∙ same_state i.image opening i.system i.slots.items (claim_of i.waiting) i.order.items c.self.invariant.0 in
+    ∙ same_state g.A.Answerer.answering i.image opening i.system i.slots.items (claim_of i.waiting) i.order.items c.self.invariant.0 in
     let at = c.in_ok-at.at in
     let above = c.in_ok-at.ensures.0 in
     let less = c.in_ok-at.ensures.1 in
@@ -37,7 +37,7 @@ returns-else-at-rows-clause-none g c =
     let opening = g.O.Opening.opening in
     let same =
     ap (λ (s : Shown). state_of opening s.history) (sym c.self.view_is)
-    ∙ same_state i.image opening i.system i.slots.items (claim_of i.waiting) i.order.items c.self.invariant.0 in
+    ∙ same_state g.A.Answerer.answering i.image opening i.system i.slots.items (claim_of i.waiting) i.order.items c.self.invariant.0 in
     let at = c.in_ok-at.at in
     let above = c.in_ok-at.ensures.0 in
     let less = c.in_ok-at.ensures.1 in

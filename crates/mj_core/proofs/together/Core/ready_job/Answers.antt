@@ -12,33 +12,41 @@ use Rattle.mj_core.proofs.together.Core.ready_job.Goals as goal
 
 pub returns-then-not-is_live-clause-gives : goal.returns-then-not-is_live-clause-gives
 returns-then-not-is_live-clause-gives g c =
+    let ans = g.A.Answerer.answering in
+    let opening = g.O.Opening.opening in
     let i = c.self.inside in
-    readied_done i.image g.O.Opening.opening i.system i.slots.items (claim_of i.waiting) i.order.items c.self.invariant.0 i.over.items c.args.self.now c.self.view_is c.args.job c.in-Some.at
+    readied_done ans i.image opening i.system i.slots.items (claim_of i.waiting) i.order.items c.self.invariant.0 i.over.items c.args.self.now c.self.view_is c.args.job c.in-Some.at
     c.in-Some.ensures.some.0 c.in-Some.ensures.some.2
     c.index.result.now c.self.invariant.1 c.in-Some.ensures.some.1 c.index.ensures c.if-index.false
     (λ live. (let no : false ≡ true = c.if-not-is_live.ensures.1 live in cc))
 
 pub admit-requires-clause-row : goal.admit-requires-clause-row
 admit-requires-clause-row g c =
+    let ans = g.A.Answerer.answering in
+    let opening = g.O.Opening.opening in
     let i = c.self.inside in
-    row_within i.image g.O.Opening.opening i.system i.slots.items (claim_of i.waiting) i.order.items c.self.invariant.0 i.over.items 255 c.args.self.now c.self.view_is c.args.job c.in-Some.at
+    row_within ans i.image opening i.system i.slots.items (claim_of i.waiting) i.order.items c.self.invariant.0 i.over.items 255 c.args.self.now c.self.view_is c.args.job c.in-Some.at
     c.in-Some.ensures.some.0 c.in-Some.ensures.some.2
 
 pub returns-in_default-admit-clause-gives : goal.returns-in_default-admit-clause-gives
 returns-in_default-admit-clause-gives g c =
+    let ans = g.A.Answerer.answering in
+    let opening = g.O.Opening.opening in
     let i = c.self.inside in
-    readied_short i.image g.O.Opening.opening i.system i.slots.items (claim_of i.waiting) i.order.items c.self.invariant.0 i.over.items c.args.self.now c.self.view_is c.args.job c.in-Some.at
+    readied_short ans i.image opening i.system i.slots.items (claim_of i.waiting) i.order.items c.self.invariant.0 i.over.items c.args.self.now c.self.view_is c.args.job c.in-Some.at
     c.in-Some.ensures.some.0 c.in-Some.ensures.some.2
     c.index.result.now c.self.invariant.1 c.in-Some.ensures.some.1 c.index.ensures c.if-index.false
     c.admit.new.slots.items c.deref.result.now c.deref.ensures.value c.admit.ensures.woven c.admit.ensures.turns
 
 pub returns-clause-gives : goal.returns-clause-gives
 returns-clause-gives g c =
+    let ans = g.A.Answerer.answering in
+    let opening = g.O.Opening.opening in
     let i = c.self.inside in
     let long : length c.go_ready.new.slots ≡ c.admit.new.slots.len = c.go_ready.auto.slots ∙ ap (λ l. length l) c.deref_mut.ensures.value ∙ sym c.admit.new.slots.ok.0 in
-    let P : List Placed → Type 0 = λ l. GivesReady g.O.Opening.opening c.args.self.now c.args.job (turn_of c.go_ready.result) (shown i.image l i.order.items i.over.items 255) in
+    let P : List (Placed g.row.A.Denot) → Type 0 = λ l. GivesReady opening c.args.self.now c.args.job (turn_of c.go_ready.result) (shown i.image l i.order.items i.over.items 255) in
     subst P (sym (with_items_is c.admit.new.slots c.go_ready.new.slots long)) (
-    readied i.image g.O.Opening.opening i.system i.slots.items (claim_of i.waiting) i.order.items c.self.invariant.0 i.over.items c.args.self.now c.self.view_is c.args.job c.in-Some.at
+    readied ans i.image opening i.system i.slots.items (claim_of i.waiting) i.order.items c.self.invariant.0 i.over.items c.args.self.now c.self.view_is c.args.job c.in-Some.at
     c.in-Some.ensures.some.0 c.in-Some.ensures.some.2
     c.index.result.now c.self.invariant.1 c.in-Some.ensures.some.1 c.index.ensures c.if-index.false
     c.admit.new.slots.items c.deref.result.now c.deref.ensures.value c.admit.ensures.woven c.admit.ensures.turns
@@ -46,11 +54,13 @@ returns-clause-gives g c =
 
 pub returns-clause-looked : goal.returns-clause-looked
 returns-clause-looked g c =
+    let ans = g.A.Answerer.answering in
+    let opening = g.O.Opening.opening in
     let i = c.self.inside in
-    let at : (found : Running) → IsAtAsk i.image g.O.Opening.opening (woven (logs_of c.deref_mut.result.now) c.deref-2.result.now) (suc c.in-Some.at) found
-    → IsAtAsk c.args.self.now.image g.O.Opening.opening c.args.self.now.history c.args.job found =
+    let at : (found : Running) → IsAtAsk i.image opening (woven (logs_of c.deref_mut.result.now) c.deref-2.result.now) (suc c.in-Some.at) found
+    → IsAtAsk c.args.self.now.image opening c.args.self.now.history c.args.job found =
     λ found asks.
-    readied_at i.image g.O.Opening.opening i.system i.slots.items (claim_of i.waiting) i.order.items c.self.invariant.0 i.over.items c.args.self.now c.self.view_is c.args.job c.in-Some.at
+    readied_at ans i.image opening i.system i.slots.items (claim_of i.waiting) i.order.items c.self.invariant.0 i.over.items c.args.self.now c.self.view_is c.args.job c.in-Some.at
     c.in-Some.ensures.some.0 c.in-Some.ensures.some.2
     c.index.result.now c.self.invariant.1 c.in-Some.ensures.some.1 c.index.ensures c.if-index.false
     c.admit.new.slots.items c.deref.result.now c.deref.ensures.value c.admit.ensures.woven c.admit.ensures.turns

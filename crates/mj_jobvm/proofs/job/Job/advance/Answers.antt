@@ -9,7 +9,7 @@ use Rattle.mj_jobvm.specs.Run.{Log, IsRunAfter}
 use Rattle.mj_jobvm.specs.declared.job.Turn.TheVariants as reports
 use Rattle.mj_jobvm.specs.Told.{AdvanceTells}
 use Rattle.mj_jobvm.specs.Jobs.{Running, IsRunOfAfter, running, given_of, code_in}
-use Rattle.mj_jobvm.proofs.Advance.{counted_as, went_ahead, went_on, went_asks, went_over, told_over}
+use Rattle.mj_jobvm.proofs.Advance.{counted_as, none_made, none_more, further, went_ahead, went_on, went_asks, went_over, told_over}
 use Rattle.mj_jobvm.proofs.Jobs.{run, told_again, told_asks, told_ran}
 use Rattle.mj_jobvm.proofs.job.Job.advance.Goals as goal
 
@@ -20,14 +20,14 @@ returns-in-Some-clause-told c = λ start is.
     (ap (λ job. job.run.pending) (sym c.self.view_is) ∙ c.in-Some.is) is
 
 pub returns-in-Some-clause-forward : goal.returns-in-Some-clause-forward
-returns-in-Some-clause-forward c = λ start turns is. (turns, omega arith, is)
+returns-in-Some-clause-forward c = λ start turns is. (0, omega arith, none_more turns is)
 
 pub returns-in_err-reserve-clause-forward : goal.returns-in_err-reserve-clause-forward
 returns-in_err-reserve-clause-forward c = λ start turns is.
     let s = c.self.inside in
     let P : Log → Type 0 = λ l. IsRunOfAfter c.args.image.now start turns (running (start_of s.start) s.machine l s.given s.pending s.spent) in
     let Q : Running → Type 0 = λ j. IsRunOfAfter c.args.image.now start turns j in
-    (turns, omega arith, subst P (sym c.reserve.ensures.items) (subst Q (sym c.self.view_is) is))
+    (0, none_made _ c.from_residual.result c.args.fuel c.from_residual.ensures.1, none_more turns (subst P (sym c.reserve.ensures.items) (subst Q (sym c.self.view_is) is)))
 
 pub turns-preserved : goal.turns-preserved
 turns-preserved c =
@@ -35,7 +35,8 @@ turns-preserved c =
     let s = c.turns.self-inside in
     let more = c.run_segment-made.result in
     let ahead : (start : Start) (turns : ℕ) → IsRunOfAfter c.args.image.now start turns c.args.self.now
-    → IsRunOfAfter c.args.image.now start (turns + c.turns.done + more) (running (start_of s.start) c.run_segment-made.new.machine s.log.items s.given None (c.args.self.now.run.spent + c.turns.done + more)) =
+    → IsRunOfAfter c.args.image.now start
+    (turns + c.turns.done + more) (running (start_of s.start) c.run_segment-made.new.machine s.log.items s.given None (c.args.self.now.run.spent + c.turns.done + more)) =
     λ start turns is. went_ahead c.args.image.now start (start_of s.start) (turns + c.turns.done) c.units-units.result.now s.log.items i.code
     (c.args.self.now.run.spent + c.turns.done) more s.machine c.run_segment-made.new.machine s.given c.run_segment-made.ensures.turns c.run_segment-made.ensures.sound (i.run start turns is) in
     record {
@@ -46,7 +47,8 @@ turns-preserved c =
           let k : turns + c.turns.done + more + 1 ≡ turns + (c.turns.done + more + 1) = omega arith in
           subst (λ t. P t (c.args.self.now.run.spent + (c.turns.done + more + 1))) k (subst (P (turns + c.turns.done + more + 1)) e
           (went_on c.args.image.now start (start_of s.start) (turns + c.turns.done + more) c.units-units.result.now s.log.items c.deref.result.now i.code c.deref.ensures.value
-          (c.args.self.now.run.spent + c.turns.done + more) c.run_segment-made.new.machine c.go_on.new.machine s.given c.go_on.new.given c.in-Ok.went c.in-Ok.ensures.ok c.go_on.ensures.sound (ahead start turns is) c.in-On.is));
+          (c.args.self.now.run.spent + c.turns.done + more) c.run_segment-made.new.machine c.go_on.new.machine s.given c.go_on.new.given c.in-Ok.went c.in-Ok.ensures.ok c.go_on.ensures.sound
+          (ahead start turns is) c.in-On.is));
       code = i.code;
       small = i.small;
       checked = i.checked;
@@ -89,17 +91,20 @@ returns-in-Err-clause-forward c = λ start turns is.
     let s = c.turns.self-inside in
     let more = c.run_segment-made.result in
     let ahead : (start : Start) (turns : ℕ) → IsRunOfAfter c.args.image.now start turns c.args.self.now
-    → IsRunOfAfter c.args.image.now start (turns + c.turns.done + more) (running (start_of s.start) c.run_segment-made.new.machine s.log.items s.given None (c.args.self.now.run.spent + c.turns.done + more)) =
+    → IsRunOfAfter c.args.image.now start
+    (turns + c.turns.done + more) (running (start_of s.start) c.run_segment-made.new.machine s.log.items s.given None (c.args.self.now.run.spent + c.turns.done + more)) =
     λ start turns is. went_ahead c.args.image.now start (start_of s.start) (turns + c.turns.done) c.units-units.result.now s.log.items i.code
     (c.args.self.now.run.spent + c.turns.done) more s.machine c.run_segment-made.new.machine s.given c.run_segment-made.ensures.turns c.run_segment-made.ensures.sound (i.run start turns is) in (
-      turns + c.turns.done + more,
-      omega arith,
+      c.turns.done + more,
+      (let a = c.run_segment-made.ensures.most in let b = i.most in omega (arith, a, b)),
       let same : standing c.go_on.new.machine (given_of c.go_on.new.given s.log.items) ≡ standing c.run_segment-made.new.machine (given_of s.given s.log.items) =
           subst (λ l. standing c.go_on.new.machine (given_of c.go_on.new.given l) ≡ standing c.run_segment-made.new.machine (given_of s.given l)) c.deref.ensures.value c.in-Err.ensures.err in
-          let P : Standing → Type 0 = λ x. IsRunAfter (routines_of c.args.image.now) start (code_in c.args.image.now (start_of s.start)) (turns + c.turns.done + more) (run s.log.items s.pending s.spent x) in
-          subst P (sym same)
-          (counted_as (routines_of c.args.image.now) start (code_in c.args.image.now (start_of s.start)) (turns + c.turns.done + more) s.log.items None s.pending (c.args.self.now.run.spent + c.turns.done + more) s.spent (standing c.run_segment-made.new.machine (given_of s.given s.log.items)) i.pending
-          (let e = i.spent in omega (arith, e)) (ahead start turns is)),
+          let P : Standing → Type 0 =
+          λ x. IsRunAfter (routines_of c.args.image.now) start (code_in c.args.image.now (start_of s.start)) (turns + c.turns.done + more) (run s.log.items s.pending s.spent x) in
+          further turns c.turns.done more (subst P (sym same)
+          (counted_as (routines_of c.args.image.now) start (code_in c.args.image.now (start_of s.start)) (turns + c.turns.done + more) s.log.items None s.pending
+          (c.args.self.now.run.spent + c.turns.done + more) s.spent (standing c.run_segment-made.new.machine (given_of s.given s.log.items)) i.pending
+          (let e = i.spent in omega (arith, e)) (ahead start turns is))),
     )
 
 pub returns-in-Err-clause-run : goal.returns-in-Err-clause-run
@@ -108,15 +113,18 @@ returns-in-Err-clause-run c = λ start (turns, is).
     let s = c.turns.self-inside in
     let more = c.run_segment-made.result in
     let ahead : (start : Start) (turns : ℕ) → IsRunOfAfter c.args.image.now start turns c.args.self.now
-    → IsRunOfAfter c.args.image.now start (turns + c.turns.done + more) (running (start_of s.start) c.run_segment-made.new.machine s.log.items s.given None (c.args.self.now.run.spent + c.turns.done + more)) =
+    → IsRunOfAfter c.args.image.now start
+    (turns + c.turns.done + more) (running (start_of s.start) c.run_segment-made.new.machine s.log.items s.given None (c.args.self.now.run.spent + c.turns.done + more)) =
     λ start turns is. went_ahead c.args.image.now start (start_of s.start) (turns + c.turns.done) c.units-units.result.now s.log.items i.code
     (c.args.self.now.run.spent + c.turns.done) more s.machine c.run_segment-made.new.machine s.given c.run_segment-made.ensures.turns c.run_segment-made.ensures.sound (i.run start turns is) in (
       turns + c.turns.done + more,
       let same : standing c.go_on.new.machine (given_of c.go_on.new.given s.log.items) ≡ standing c.run_segment-made.new.machine (given_of s.given s.log.items) =
           subst (λ l. standing c.go_on.new.machine (given_of c.go_on.new.given l) ≡ standing c.run_segment-made.new.machine (given_of s.given l)) c.deref.ensures.value c.in-Err.ensures.err in
-          let P : Standing → Type 0 = λ x. IsRunAfter (routines_of c.args.image.now) start (code_in c.args.image.now (start_of s.start)) (turns + c.turns.done + more) (run s.log.items s.pending s.spent x) in
+          let P : Standing → Type 0 =
+          λ x. IsRunAfter (routines_of c.args.image.now) start (code_in c.args.image.now (start_of s.start)) (turns + c.turns.done + more) (run s.log.items s.pending s.spent x) in
           subst P (sym same)
-          (counted_as (routines_of c.args.image.now) start (code_in c.args.image.now (start_of s.start)) (turns + c.turns.done + more) s.log.items None s.pending (c.args.self.now.run.spent + c.turns.done + more) s.spent (standing c.run_segment-made.new.machine (given_of s.given s.log.items)) i.pending
+          (counted_as (routines_of c.args.image.now) start (code_in c.args.image.now (start_of s.start)) (turns + c.turns.done + more) s.log.items None s.pending
+          (c.args.self.now.run.spent + c.turns.done + more) s.spent (standing c.run_segment-made.new.machine (given_of s.given s.log.items)) i.pending
           (let e = i.spent in omega (arith, e)) (ahead start turns is)),
     )
 
@@ -126,15 +134,19 @@ returns-in-Asks-clause-forward c = λ start turns is.
     let s = c.turns.self-inside in
     let more = c.run_segment-made.result in
     let ahead : (start : Start) (turns : ℕ) → IsRunOfAfter c.args.image.now start turns c.args.self.now
-    → IsRunOfAfter c.args.image.now start (turns + c.turns.done + more) (running (start_of s.start) c.run_segment-made.new.machine s.log.items s.given None (c.args.self.now.run.spent + c.turns.done + more)) =
+    → IsRunOfAfter c.args.image.now start
+    (turns + c.turns.done + more) (running (start_of s.start) c.run_segment-made.new.machine s.log.items s.given None (c.args.self.now.run.spent + c.turns.done + more)) =
     λ start turns is. went_ahead c.args.image.now start (start_of s.start) (turns + c.turns.done) c.units-units.result.now s.log.items i.code
     (c.args.self.now.run.spent + c.turns.done) more s.machine c.run_segment-made.new.machine s.given c.run_segment-made.ensures.turns c.run_segment-made.ensures.sound (i.run start turns is) in (
-      turns + c.turns.done + more,
-      omega arith,
-      counted_as (routines_of c.args.image.now) start (code_in c.args.image.now (start_of s.start)) (turns + c.turns.done + more) s.log.items (Some c.in-Asks.ask.value) c.wait.new.pending (c.args.self.now.run.spent + c.turns.done + more) s.spent (standing c.go_on.new.machine (given_of c.go_on.new.given s.log.items)) c.wait.ensures
+      c.turns.done + more,
+      (let a = c.run_segment-made.ensures.most in let b = i.most in omega (arith, a, b)),
+      further turns c.turns.done more
+          (counted_as (routines_of c.args.image.now) start (code_in c.args.image.now (start_of s.start)) (turns + c.turns.done + more) s.log.items (Some c.in-Asks.ask.value)
+          c.wait.new.pending (c.args.self.now.run.spent + c.turns.done + more) s.spent (standing c.go_on.new.machine (given_of c.go_on.new.given s.log.items)) c.wait.ensures
           (let e = i.spent in omega (arith, e))
           (went_asks c.args.image.now start (start_of s.start) (turns + c.turns.done + more) c.units-units.result.now s.log.items c.deref.result.now i.code c.deref.ensures.value
-          (c.args.self.now.run.spent + c.turns.done + more) c.run_segment-made.new.machine c.go_on.new.machine s.given c.go_on.new.given c.in-Ok.went c.in-Ok.ensures.ok c.go_on.ensures.sound (ahead start turns is) c.in-Asks.ask c.in-Asks.is),
+          (c.args.self.now.run.spent + c.turns.done + more) c.run_segment-made.new.machine c.go_on.new.machine s.given c.go_on.new.given c.in-Ok.went c.in-Ok.ensures.ok c.go_on.ensures.sound
+          (ahead start turns is) c.in-Asks.ask c.in-Asks.is)),
     )
 
 pub returns-in-Asks-clause-run : goal.returns-in-Asks-clause-run
@@ -143,14 +155,17 @@ returns-in-Asks-clause-run c = λ start (turns, is).
     let s = c.turns.self-inside in
     let more = c.run_segment-made.result in
     let ahead : (start : Start) (turns : ℕ) → IsRunOfAfter c.args.image.now start turns c.args.self.now
-    → IsRunOfAfter c.args.image.now start (turns + c.turns.done + more) (running (start_of s.start) c.run_segment-made.new.machine s.log.items s.given None (c.args.self.now.run.spent + c.turns.done + more)) =
+    → IsRunOfAfter c.args.image.now start
+    (turns + c.turns.done + more) (running (start_of s.start) c.run_segment-made.new.machine s.log.items s.given None (c.args.self.now.run.spent + c.turns.done + more)) =
     λ start turns is. went_ahead c.args.image.now start (start_of s.start) (turns + c.turns.done) c.units-units.result.now s.log.items i.code
     (c.args.self.now.run.spent + c.turns.done) more s.machine c.run_segment-made.new.machine s.given c.run_segment-made.ensures.turns c.run_segment-made.ensures.sound (i.run start turns is) in (
       turns + c.turns.done + more,
-      counted_as (routines_of c.args.image.now) start (code_in c.args.image.now (start_of s.start)) (turns + c.turns.done + more) s.log.items (Some c.in-Asks.ask.value) c.wait.new.pending (c.args.self.now.run.spent + c.turns.done + more) s.spent (standing c.go_on.new.machine (given_of c.go_on.new.given s.log.items)) c.wait.ensures
+      counted_as (routines_of c.args.image.now) start (code_in c.args.image.now (start_of s.start)) (turns + c.turns.done + more) s.log.items (Some c.in-Asks.ask.value) c.wait.new.pending
+          (c.args.self.now.run.spent + c.turns.done + more) s.spent (standing c.go_on.new.machine (given_of c.go_on.new.given s.log.items)) c.wait.ensures
           (let e = i.spent in omega (arith, e))
           (went_asks c.args.image.now start (start_of s.start) (turns + c.turns.done + more) c.units-units.result.now s.log.items c.deref.result.now i.code c.deref.ensures.value
-          (c.args.self.now.run.spent + c.turns.done + more) c.run_segment-made.new.machine c.go_on.new.machine s.given c.go_on.new.given c.in-Ok.went c.in-Ok.ensures.ok c.go_on.ensures.sound (ahead start turns is) c.in-Asks.ask c.in-Asks.is),
+          (c.args.self.now.run.spent + c.turns.done + more) c.run_segment-made.new.machine c.go_on.new.machine s.given c.go_on.new.given c.in-Ok.went c.in-Ok.ensures.ok c.go_on.ensures.sound
+          (ahead start turns is) c.in-Asks.ask c.in-Asks.is),
     )
 
 pub returns-in-Over-clause-forward : goal.returns-in-Over-clause-forward
@@ -159,15 +174,18 @@ returns-in-Over-clause-forward c = λ start turns is.
     let s = c.turns.self-inside in
     let more = c.run_segment-made.result in
     let ahead : (start : Start) (turns : ℕ) → IsRunOfAfter c.args.image.now start turns c.args.self.now
-    → IsRunOfAfter c.args.image.now start (turns + c.turns.done + more) (running (start_of s.start) c.run_segment-made.new.machine s.log.items s.given None (c.args.self.now.run.spent + c.turns.done + more)) =
+    → IsRunOfAfter c.args.image.now start
+    (turns + c.turns.done + more) (running (start_of s.start) c.run_segment-made.new.machine s.log.items s.given None (c.args.self.now.run.spent + c.turns.done + more)) =
     λ start turns is. went_ahead c.args.image.now start (start_of s.start) (turns + c.turns.done) c.units-units.result.now s.log.items i.code
     (c.args.self.now.run.spent + c.turns.done) more s.machine c.run_segment-made.new.machine s.given c.run_segment-made.ensures.turns c.run_segment-made.ensures.sound (i.run start turns is) in (
-      turns + c.turns.done + more,
-      omega arith,
-      counted_as (routines_of c.args.image.now) start (code_in c.args.image.now (start_of s.start)) (turns + c.turns.done + more) s.log.items None s.pending (c.args.self.now.run.spent + c.turns.done + more) s.spent
+      c.turns.done + more,
+      (let a = c.run_segment-made.ensures.most in let b = i.most in omega (arith, a, b)),
+      further turns c.turns.done more (counted_as (routines_of c.args.image.now) start
+          (code_in c.args.image.now (start_of s.start)) (turns + c.turns.done + more) s.log.items None s.pending (c.args.self.now.run.spent + c.turns.done + more) s.spent
           (standing c.go_on.new.machine (given_of c.go_on.new.given s.log.items)) i.pending (let e = i.spent in omega (arith, e))
           (went_over c.args.image.now start (start_of s.start) (turns + c.turns.done + more) c.units-units.result.now s.log.items c.deref.result.now i.code c.deref.ensures.value
-          (c.args.self.now.run.spent + c.turns.done + more) c.run_segment-made.new.machine c.go_on.new.machine s.given c.go_on.new.given c.in-Ok.went c.in-Ok.ensures.ok c.go_on.ensures.sound (ahead start turns is) c.in-Over.is),
+          (c.args.self.now.run.spent + c.turns.done + more) c.run_segment-made.new.machine c.go_on.new.machine s.given c.go_on.new.given c.in-Ok.went c.in-Ok.ensures.ok c.go_on.ensures.sound
+          (ahead start turns is) c.in-Over.is)),
     )
 
 pub returns-in-Over-clause-run : goal.returns-in-Over-clause-run
@@ -176,23 +194,27 @@ returns-in-Over-clause-run c = λ start (turns, is).
     let s = c.turns.self-inside in
     let more = c.run_segment-made.result in
     let ahead : (start : Start) (turns : ℕ) → IsRunOfAfter c.args.image.now start turns c.args.self.now
-    → IsRunOfAfter c.args.image.now start (turns + c.turns.done + more) (running (start_of s.start) c.run_segment-made.new.machine s.log.items s.given None (c.args.self.now.run.spent + c.turns.done + more)) =
+    → IsRunOfAfter c.args.image.now start
+    (turns + c.turns.done + more) (running (start_of s.start) c.run_segment-made.new.machine s.log.items s.given None (c.args.self.now.run.spent + c.turns.done + more)) =
     λ start turns is. went_ahead c.args.image.now start (start_of s.start) (turns + c.turns.done) c.units-units.result.now s.log.items i.code
     (c.args.self.now.run.spent + c.turns.done) more s.machine c.run_segment-made.new.machine s.given c.run_segment-made.ensures.turns c.run_segment-made.ensures.sound (i.run start turns is) in (
       turns + c.turns.done + more,
-      counted_as (routines_of c.args.image.now) start (code_in c.args.image.now (start_of s.start)) (turns + c.turns.done + more) s.log.items None s.pending (c.args.self.now.run.spent + c.turns.done + more) s.spent
+      counted_as (routines_of c.args.image.now) start
+          (code_in c.args.image.now (start_of s.start)) (turns + c.turns.done + more) s.log.items None s.pending (c.args.self.now.run.spent + c.turns.done + more) s.spent
           (standing c.go_on.new.machine (given_of c.go_on.new.given s.log.items)) i.pending (let e = i.spent in omega (arith, e))
           (went_over c.args.image.now start (start_of s.start) (turns + c.turns.done + more) c.units-units.result.now s.log.items c.deref.result.now i.code c.deref.ensures.value
-          (c.args.self.now.run.spent + c.turns.done + more) c.run_segment-made.new.machine c.go_on.new.machine s.given c.go_on.new.given c.in-Ok.went c.in-Ok.ensures.ok c.go_on.ensures.sound (ahead start turns is) c.in-Over.is),
+          (c.args.self.now.run.spent + c.turns.done + more) c.run_segment-made.new.machine c.go_on.new.machine s.given c.go_on.new.given c.in-Ok.went c.in-Ok.ensures.ok c.go_on.ensures.sound
+          (ahead start turns is) c.in-Over.is),
     )
 
 pub returns-clause-forward : goal.returns-clause-forward
 returns-clause-forward c = λ start turns is.
     let i = c.turns.invariant in
     let s = c.turns.self-inside in (
-      turns + c.turns.done,
-      omega arith,
-      counted_as (routines_of c.args.image.now) start (code_in c.args.image.now (start_of s.start)) (turns + c.turns.done) s.log.items None s.pending (c.args.self.now.run.spent + c.turns.done) c.min-self-inside.result
+      c.turns.done,
+      (let a = c.turns-test.false in let b = i.most in omega (arith, a, b)),
+      counted_as (routines_of c.args.image.now) start
+          (code_in c.args.image.now (start_of s.start)) (turns + c.turns.done) s.log.items None s.pending (c.args.self.now.run.spent + c.turns.done) c.min-self-inside.result
           (standing s.machine (given_of s.given s.log.items)) i.pending
           (let a = c.min-self-inside.ensures in let b = c.saturating_add.ensures in let d = c.turns-test.false in let e = i.spent in omega (arith, a, b, d, e)) (i.run start turns is),
     )
@@ -202,7 +224,8 @@ returns-clause-run c = λ start (turns, is).
     let i = c.turns.invariant in
     let s = c.turns.self-inside in (
       turns + c.turns.done,
-      counted_as (routines_of c.args.image.now) start (code_in c.args.image.now (start_of s.start)) (turns + c.turns.done) s.log.items None s.pending (c.args.self.now.run.spent + c.turns.done) c.min-self-inside.result
+      counted_as (routines_of c.args.image.now) start
+          (code_in c.args.image.now (start_of s.start)) (turns + c.turns.done) s.log.items None s.pending (c.args.self.now.run.spent + c.turns.done) c.min-self-inside.result
           (standing s.machine (given_of s.given s.log.items)) i.pending
           (let a = c.min-self-inside.ensures in let b = c.saturating_add.ensures in let d = c.turns-test.false in let e = i.spent in omega (arith, a, b, d, e)) (i.run start turns is),
     )
@@ -213,7 +236,8 @@ returns-in-Asks-clause-told c = λ start (turns, is).
     let s = c.turns.self-inside in
     let more = c.run_segment-made.result in
     let ahead : (start : Start) (turns : ℕ) → IsRunOfAfter c.args.image.now start turns c.args.self.now
-    → IsRunOfAfter c.args.image.now start (turns + c.turns.done + more) (running (start_of s.start) c.run_segment-made.new.machine s.log.items s.given None (c.args.self.now.run.spent + c.turns.done + more)) =
+    → IsRunOfAfter c.args.image.now start
+    (turns + c.turns.done + more) (running (start_of s.start) c.run_segment-made.new.machine s.log.items s.given None (c.args.self.now.run.spent + c.turns.done + more)) =
     λ start turns is. went_ahead c.args.image.now start (start_of s.start) (turns + c.turns.done) c.units-units.result.now s.log.items i.code
     (c.args.self.now.run.spent + c.turns.done) more s.machine c.run_segment-made.new.machine s.given c.run_segment-made.ensures.turns c.run_segment-made.ensures.sound (i.run start turns is) in
     let spent = c.args.self.now.run.spent + c.turns.done + more in
@@ -223,7 +247,8 @@ returns-in-Asks-clause-told c = λ start (turns, is).
     (told_asks (routines_of c.args.image.now) start (code_in c.args.image.now (start_of s.start)) s.log.items spent c.in-Asks.ask.value at (
       turns + c.turns.done + more,
       went_asks c.args.image.now start (start_of s.start) (turns + c.turns.done + more) c.units-units.result.now s.log.items c.deref.result.now i.code c.deref.ensures.value
-          (c.args.self.now.run.spent + c.turns.done + more) c.run_segment-made.new.machine c.go_on.new.machine s.given c.go_on.new.given c.in-Ok.went c.in-Ok.ensures.ok c.go_on.ensures.sound (ahead start turns is) c.in-Asks.ask c.in-Asks.is,
+          (c.args.self.now.run.spent + c.turns.done + more) c.run_segment-made.new.machine c.go_on.new.machine s.given c.go_on.new.given c.in-Ok.went c.in-Ok.ensures.ok c.go_on.ensures.sound
+          (ahead start turns is) c.in-Asks.ask c.in-Asks.is,
     ))
 
 pub returns-in-Over-clause-told : goal.returns-in-Over-clause-told
@@ -232,11 +257,13 @@ returns-in-Over-clause-told c = λ start (turns, is).
     let s = c.turns.self-inside in
     let more = c.run_segment-made.result in
     let ahead : (start : Start) (turns : ℕ) → IsRunOfAfter c.args.image.now start turns c.args.self.now
-    → IsRunOfAfter c.args.image.now start (turns + c.turns.done + more) (running (start_of s.start) c.run_segment-made.new.machine s.log.items s.given None (c.args.self.now.run.spent + c.turns.done + more)) =
+    → IsRunOfAfter c.args.image.now start
+    (turns + c.turns.done + more) (running (start_of s.start) c.run_segment-made.new.machine s.log.items s.given None (c.args.self.now.run.spent + c.turns.done + more)) =
     λ start turns is. went_ahead c.args.image.now start (start_of s.start) (turns + c.turns.done) c.units-units.result.now s.log.items i.code
     (c.args.self.now.run.spent + c.turns.done) more s.machine c.run_segment-made.new.machine s.given c.run_segment-made.ensures.turns c.run_segment-made.ensures.sound (i.run start turns is) in
     told_over c.args.image.now start (start_of s.start) (turns + c.turns.done + more) c.units-units.result.now s.log.items c.deref.result.now i.code c.deref.ensures.value
-    (c.args.self.now.run.spent + c.turns.done + more) c.run_segment-made.new.machine c.go_on.new.machine s.given c.go_on.new.given c.in-Ok.went c.in-Ok.ensures.ok c.go_on.ensures.sound (ahead start turns is) c.in-Over.is s.pending s.spent
+    (c.args.self.now.run.spent + c.turns.done + more) c.run_segment-made.new.machine c.go_on.new.machine s.given c.go_on.new.given c.in-Ok.went c.in-Ok.ensures.ok c.go_on.ensures.sound
+    (ahead start turns is) c.in-Over.is s.pending s.spent
 
 pub returns-clause-told : goal.returns-clause-told
 returns-clause-told c = λ start (turns, is).
@@ -244,7 +271,8 @@ returns-clause-told c = λ start (turns, is).
     let s = c.turns.self-inside in
     told_ran (routines_of c.args.image.now) start (code_in c.args.image.now (start_of s.start)) s.log.items s.pending c.min-self-inside.result (standing s.machine (given_of s.given s.log.items)) (
       turns + c.turns.done,
-      counted_as (routines_of c.args.image.now) start (code_in c.args.image.now (start_of s.start)) (turns + c.turns.done) s.log.items None s.pending (c.args.self.now.run.spent + c.turns.done) c.min-self-inside.result
+      counted_as (routines_of c.args.image.now) start
+          (code_in c.args.image.now (start_of s.start)) (turns + c.turns.done) s.log.items None s.pending (c.args.self.now.run.spent + c.turns.done) c.min-self-inside.result
           (standing s.machine (given_of s.given s.log.items)) i.pending
           (let a = c.min-self-inside.ensures in let b = c.saturating_add.ensures in let d = c.turns-test.false in let e = i.spent in omega (arith, a, b, d, e)) (i.run start turns is),
     )

@@ -15,7 +15,8 @@ invariant_of-self-in-Some-place c =
     let found : position (is_named c.in-Some.name) os ≡ Some c.in-Some-place.at =
     ap (position (is_named c.in-Some.name)) (sym c.deref.ensures.value) ∙ sym c.place.ensures ∙ c.in-Some-place.is in
     let here : IsSpotWithin (TEXT_LIMIT * s.writes) x.spot =
-    subst (λ (y : Other). IsSpotWithin (TEXT_LIMIT * s.writes) y.spot) (sym c.index_mut-other.ensures.value) (within_at (TEXT_LIMIT * s.writes) os c.in-Some-place.at x (found_within c.in-Some.name os c.in-Some-place.at x found) c.self.invariant.rest) in
+    subst (λ (y : Other). IsSpotWithin (TEXT_LIMIT * s.writes) y.spot) (sym c.index_mut-other.ensures.value)
+    (within_at (TEXT_LIMIT * s.writes) os c.in-Some-place.at x (found_within c.in-Some.name os c.in-Some-place.at x found) c.self.invariant.rest) in
     record {
       first = c.self.invariant.first;
       rest = within_set (TEXT_LIMIT * s.writes) os c.in-Some-place.at _ here c.self.invariant.rest;

@@ -27,7 +27,8 @@ go-requires-in-Some-place-clause-column c =
     let found : position (is_named c.in-Some.name) os ≡ Some c.in-Some-place.at =
     ap (position (is_named c.in-Some.name)) (sym c.deref.ensures.value) ∙ sym c.place.ensures ∙ c.in-Some-place.is in
     let here : IsSpotWithin (TEXT_LIMIT * s.writes) x.spot =
-    subst (λ (y : Other). IsSpotWithin (TEXT_LIMIT * s.writes) y.spot) (sym c.index_mut-other.ensures.value) (within_at (TEXT_LIMIT * s.writes) os c.in-Some-place.at x (found_within c.in-Some.name os c.in-Some-place.at x found) c.self.invariant.rest) in
+    subst (λ (y : Other). IsSpotWithin (TEXT_LIMIT * s.writes) y.spot) (sym c.index_mut-other.ensures.value)
+    (within_at (TEXT_LIMIT * s.writes) os c.in-Some-place.at x (found_within c.in-Some.name os c.in-Some-place.at x found) c.self.invariant.rest) in
     omega (arith, here.0, c.requires.short, c.requires.more, ap (λ (o : Opened). o.writes) c.self.view_is)
 
 pub go-requires-in-Some-place-clause-row : goal.go-requires-in-Some-place-clause-row
@@ -38,7 +39,8 @@ go-requires-in-Some-place-clause-row c =
     let found : position (is_named c.in-Some.name) os ≡ Some c.in-Some-place.at =
     ap (position (is_named c.in-Some.name)) (sym c.deref.ensures.value) ∙ sym c.place.ensures ∙ c.in-Some-place.is in
     let here : IsSpotWithin (TEXT_LIMIT * s.writes) x.spot =
-    subst (λ (y : Other). IsSpotWithin (TEXT_LIMIT * s.writes) y.spot) (sym c.index_mut-other.ensures.value) (within_at (TEXT_LIMIT * s.writes) os c.in-Some-place.at x (found_within c.in-Some.name os c.in-Some-place.at x found) c.self.invariant.rest) in
+    subst (λ (y : Other). IsSpotWithin (TEXT_LIMIT * s.writes) y.spot) (sym c.index_mut-other.ensures.value)
+    (within_at (TEXT_LIMIT * s.writes) os c.in-Some-place.at x (found_within c.in-Some.name os c.in-Some-place.at x found) c.self.invariant.rest) in
     omega (arith, here.1, c.requires.short, c.requires.more, ap (λ (o : Opened). o.writes) c.self.view_is)
 
 pub invariant_of-self-in-Some-place : goal.invariant_of-self-in-Some-place
@@ -52,7 +54,8 @@ invariant_of-self-in-Some-place c =
     let found : position (is_named c.in-Some.name) os ≡ Some c.in-Some-place.at =
     ap (position (is_named c.in-Some.name)) (sym c.deref.ensures.value) ∙ sym c.place.ensures ∙ c.in-Some-place.is in
     let here : IsSpotWithin (TEXT_LIMIT * s.writes) x.spot =
-    subst (λ (y : Other). IsSpotWithin (TEXT_LIMIT * s.writes) y.spot) (sym c.index_mut-other.ensures.value) (within_at (TEXT_LIMIT * s.writes) os c.in-Some-place.at x (found_within c.in-Some.name os c.in-Some-place.at x found) i.rest) in
+    subst (λ (y : Other). IsSpotWithin (TEXT_LIMIT * s.writes) y.spot)
+    (sym c.index_mut-other.ensures.value) (within_at (TEXT_LIMIT * s.writes) os c.in-Some-place.at x (found_within c.in-Some.name os c.in-Some-place.at x found) i.rest) in
     record {
       first = (omega (arith, i.first.0), omega (arith, i.first.1));
       rest = within_set (TEXT_LIMIT * (s.writes + 1)) os c.in-Some-place.at _ (omega (arith, here.0, b.0, c.requires.short), omega (arith, here.1, b.1, c.requires.short))

@@ -1,6 +1,0 @@
-use Rattle.std.proofs.Common.{take}
-use Rattle.mj_core.proofs.Answered.{AreAnswered}
-use Rattle.mj_core.proofs.together.Core.answers.Given as goal
-
-abbrev pub invariant-loop-step : goal.invariant-loop-step
-invariant-loop-step g l = AreAnswered g.O.Opening.opening l.fn.self l.fn.steps l.step-index l.answers.items l.answers.cap l.self

@@ -1,0 +1,98 @@
+-- Stepping by a list and in turn, as lists of steps of the core.
+use Rattle.std.proofs.Common.{◌≡◌, ℕ, zero, suc, ◌+◌, List, [], ◌∷◌, take, Bool, Result, Ok, Err, ◌⊎◌, Option, Some, None, inl, inr, ap, refl, ◌∙◌}
+use Rattle.std.specs.Prelude.{IfNone}
+use Rattle.mj_sys.specs.Shared.{Shared}
+use Rattle.mj_core.specs.Shown.{Shown}
+use Rattle.mj_jobs.specs.Rows.{Row}
+use Rattle.mj_load.specs.Image.{Loaded}
+use Rattle.mj_core.specs.Gives.{CoreStepGives, RunGives, Made, is_late}
+use Rattle.mj_core.specs.declared.seen.Seen.{Seen}
+use Rattle.mj_core.specs.declared.seen.Seen.TheVariants as seen
+use Rattle.mj_steps.specs.declared.step.Step.{Step}
+use Rattle.mj_steps.specs.declared.round.Round.{Round}
+use Rattle.mj_steps.specs.declared.round.Standing.{Standing}
+use Rattle.mj_steps.specs.declared.round.Next.{Next}
+use Rattle.mj_steps.specs.declared.round.Next.TheVariants as nexts
+use Rattle.mj_steps.specs.declared.step.Refusal.{Refusal}
+use Rattle.mj_steps.specs.declared.drive.Ending.{Ending}
+use Rattle.mj_steps.specs.Rounds.{next_step, after_step}
+use Rattle.mj_steps.specs.Driven.{ByList, InTurn, NextIsDone, StopsAt, stand}
+use Rattle.mj_run.specs.Stepping.{StepsAs, AreSteps, jobs_of}
+
+-- one step more, in front
+more : (opening : Shared) (old mid new : Shown) (step : Step) (standing : Standing)
+    → StepsAs opening old step (Ok standing) mid → AreSteps opening mid new → AreSteps opening old new
+more opening old mid new step standing (what, gives, stands) (steps, answers, run) = (step ∷ steps, Ok what ∷ answers, (mid, gives, run))
+
+-- the last one, which is refused
+last : (opening : Shared) (old new : Shown) (step : Step) (why : Refusal) → StepsAs opening old step (Err why) new → AreSteps opening old new
+last opening old new step why gives = (step ∷ [], Err why ∷ [], (new, gives, refl))
+
+-- none
+none : (opening : Shared) (old new : Shown) → new ≡ old → AreSteps opening old new
+none opening old new same = ([], [], same)
+
+pub by_list : (opening : Shared) (steps : List Step) (made : ℕ) (old : Shown) (ending : Ending) (new : Shown)
+    → ByList (StepsAs opening) made steps old ending new → AreSteps opening old new
+by_list opening [] made old ending new (e, same) = none opening old new same
+by_list opening (step ∷ steps) made old ending new (inl (why, makes, e)) = last opening old new step why makes
+by_list opening (step ∷ steps) made old ending new (inr (standing, mid, makes, rest)) =
+    more opening old mid new step standing makes (by_list opening steps (made + 1) mid ending new rest)
+
+comes : (opening : Shared) (number : ℕ) (goes : Step → Standing → Shown → Type 0) (old : Shown) (ending : Ending) (new : Shown) (next : Next)
+    → ((step : Step) (standing : Standing) (mid : Shown) → goes step standing mid → AreSteps opening mid new)
+    → NextIsDone (StepsAs opening) number goes old ending new next → AreSteps opening old new
+comes opening number goes old ending new nexts.Over on (e, same) = none opening old new same
+comes opening number goes old ending new nexts.Stuck on (e, same) = none opening old new same
+comes opening number goes old ending new (nexts.Step step) on (inl (why, makes, e)) = last opening old new step why makes
+comes opening number goes old ending new (nexts.Step step) on (inr (standing, mid, makes, rest)) =
+    more opening old mid new step standing makes (on step standing mid rest)
+
+pub in_turn : (opening : Shared) (most made : ℕ) (round : Round) (jobs : List Standing) (old : Shown) (ending : Ending) (new : Shown)
+    → InTurn (jobs_of opening) (StepsAs opening) most made round jobs old ending new → AreSteps opening old new
+in_turn opening zero made round jobs old ending new (e, same) = none opening old new same
+in_turn opening (suc most) made round jobs old ending new h =
+    comes opening (made + 1)
+    (λ step standing mid. InTurn (jobs_of opening) (StepsAs opening) most (made + 1) (after_step round step standing) (stand jobs step.job standing) mid
+    ending new)
+    old ending new (next_step round (take (jobs_of opening old) jobs))
+    (λ step standing mid rest. in_turn opening most (made + 1) (after_step round step standing) (stand jobs step.job standing) mid ending new rest)
+    h
+
+-- ---- the routines stay
+
+abbrev pub image_of : Shown → Loaded
+image_of s = s.image
+
+module _ (opening : Shared) (old new : Shown) (job : ℕ) (row : Row) (late : Bool) where
+  made_image : (answer : Result Seen Refusal) → Made opening old job row late answer new → new.image ≡ old.image
+  made_image (Ok seen.Ended) made = ap image_of made.1
+  made_image (Ok (seen.Event at)) made = ap image_of made.1.5.1
+  made_image (Ok (seen.Busy holder held)) made = ap image_of made.1.5
+  made_image (Ok seen.NotYet) made = ap image_of made.1.3.3
+  made_image (Ok seen.Unfit) made = ap image_of made.1.3.1
+  made_image (Ok seen.Ran) made = ap image_of made.1.3
+  made_image (Err why) made = ap image_of made.1
+
+step_image : (opening : Shared) (old new : Shown) (step : Step) (answer : Result Seen Refusal) → CoreStepGives opening old step answer new
+    → new.image ≡ old.image
+step_image opening old new step answer (inl nobody) = ap image_of nobody.2
+step_image opening old new step answer (inr (row, is, inl over)) = ap image_of over.2
+step_image opening old new step answer (inr (row, is, inr (inl full))) = ap image_of full.3
+step_image opening old new step answer (inr (row, is, inr (inr goes))) = made_image opening old new step.job row (is_late step.way) answer goes.2
+
+run_image : (opening : Shared) (old : Shown) (steps : List Step) (answers : List (Result Seen Refusal)) (new : Shown)
+    → RunGives opening old steps answers new → new.image ≡ old.image
+run_image opening old [] [] new same = ap image_of same
+run_image opening old (step ∷ steps) (answer ∷ answers) new (mid, gives, rest) =
+    run_image opening mid steps answers new rest ∙ step_image opening old mid step answer gives
+run_image opening old [] (answer ∷ answers) new run = absurd run
+run_image opening old (step ∷ steps) [] new run = absurd run
+
+pub steps_image : (opening : Shared) (old new : Shown) → AreSteps opening old new → new.image ≡ old.image
+steps_image opening old new (steps, answers, run) = run_image opening old steps answers new run
+
+-- what holds is so where there is none
+pub if_none : {A P : Type 0} (r : Option A) → P → IfNone r P
+if_none None p = p
+if_none (Some a) p = tt

@@ -1,0 +1,10 @@
+use Rattle.mj_steps.specs.Driven.{new_round, fresh}
+use Rattle.mj_run.proofs.Stepping.{in_turn}
+use Rattle.mj_run.proofs.jobs.Jobs+D+Sessions+D+O.in_turn.Goals as goal
+
+pub returns-clause-in_turn : goal.returns-clause-in_turn
+returns-clause-in_turn g c = record { turns = c.step_in_turn.ensures }
+
+pub returns-clause-run : goal.returns-clause-run
+returns-clause-run g c =
+    in_turn g.O.Opening.opening c.args.most 0 new_round fresh c.args.self.now c.step_in_turn.result c.step_in_turn.new.jobs c.step_in_turn.ensures

@@ -1,0 +1,58 @@
+-- What a step of the program comes to, by what the core gives for it.
+use Rattle.std.specs.Prelude.{◌≡◌, ℕ, List, length, slice_get, Bool, true, false, Option, Some, None, Result, Ok, Err, ◌⊎◌, if◌then◌else◌}
+use Rattle.mj_ask.specs.declared.ask.Ask.{Ask}
+use Rattle.mj_ask.specs.declared.ask.Ask.TheVariants as asks
+use Rattle.mj_ask.specs.declared.ask.SharedAsk.TheVariants as shared_asks
+use Rattle.mj_sys.specs.declared.event.Event.{Event}
+use Rattle.mj_sys.specs.Shared.{Shared}
+use Rattle.mj_sys.specs.History.{History, state_of}
+use Rattle.mj_core.specs.Shown.{Shown}
+use Rattle.mj_core.specs.Gives.{CoreStepGives, RunGives}
+use Rattle.mj_core.specs.declared.seen.Seen.{Seen}
+use Rattle.mj_core.specs.declared.seen.Seen.TheVariants as seen
+use Rattle.mj_steps.specs.declared.step.Step.{Step}
+use Rattle.mj_steps.specs.declared.round.Standing.{Standing}
+use Rattle.mj_steps.specs.declared.round.Standing.TheVariants as standings
+use Rattle.mj_steps.specs.declared.drive.Ending.{Ending}
+use Rattle.mj_steps.specs.declared.step.Refusal.{Refusal}
+use Rattle.mj_steps.specs.Driven.{InTurn, new_round, fresh}
+
+-- the job waits, with a timeout or without one
+abbrev pub Waits : Standing → Type 0
+Waits standing = (standing ≡ standings.Waits) ⊎ (standing ≡ standings.WaitsTimed)
+
+-- what is asked is the job's end
+abbrev pub is_halt : Ask → Bool
+is_halt (asks.Shared (shared_asks.Halt fault)) = true
+is_halt _ = false
+
+-- the event is the end of its job
+abbrev pub ends_its_job : Option Event → Bool
+ends_its_job None = false
+ends_its_job (Some event) = is_halt event.ask
+
+-- where a job stands behind a step of which this was seen, and which left this history
+abbrev pub StandsSo : History → Seen → Standing → Type 0
+StandsSo history (seen.Event at) standing = standing ≡ (if ends_its_job (slice_get history at) then standings.Ended else standings.Goes)
+StandsSo history (seen.Busy holder held) standing = Waits standing
+StandsSo history seen.NotYet standing = Waits standing
+StandsSo history seen.Unfit standing = standing ≡ standings.Goes
+StandsSo history seen.Ran standing = standing ≡ standings.Goes
+StandsSo history seen.Ended standing = standing ≡ standings.Ended
+
+-- What a step comes to: what the core gives for it, and where its job stands then.
+abbrev pub StepsAs : Shared → Shown → Step → Result Standing Refusal → Shown → Type 0
+StepsAs opening old step (Ok standing) new = (what : Seen) × CoreStepGives opening old step (Ok what) new × StandsSo new.history what standing
+StepsAs opening old step (Err why) new = CoreStepGives opening old step (Err why) new
+
+-- how many jobs there are, ended ones among them
+abbrev pub jobs_of : Shared → Shown → ℕ
+jobs_of opening core = length (state_of opening core.history).rows
+
+-- Jobs are stepped in turn from a beginning, no more often than that. It is a record so that no number of steps is unfolded.
+pub record IsInTurn (opening : Shared) (most : ℕ) (old : Shown) (ending : Ending) (new : Shown) : Type 0 where
+  pub turns : InTurn (jobs_of opening) (StepsAs opening) most 0 new_round fresh old ending new
+
+-- a list of steps of the core leads from the one to the other
+abbrev pub AreSteps : Shared → Shown → Shown → Type 0
+AreSteps opening old new = (steps : List Step) × (answers : List (Result Seen Refusal)) × RunGives opening old steps answers new

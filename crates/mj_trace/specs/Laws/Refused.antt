@@ -1,0 +1,295 @@
+-- A refused trace is refused by its first line that may not stand there, and for one reason.
+use Rattle.std.proofs.Common.{◌≡◌, ◌⊎◌, inl, inr, ◌∙◌, ◌+◌, suc, ℕ, Bool, true, false, not, cond, ◌&&◌, eqb, List, [], ◌∷◌, ◌++◌, length, length-append, Option, Some, None, Result, Ok, Err, refl, sym, ap, subst, append_assoc, arith}
+use Rattle.std.specs.Prelude.{IfErr}
+use Rattle.std.specs.Str.{bytes_eq}
+use Rattle.std.specs.Cmp.Lexicographic.{bytes_decides}
+use Rattle.std.proofs.lemmas.List.Folds.{list_all-append}
+use Rattle.mj_store.specs.Nodes.{is_empty}
+use Rattle.mj_ask.specs.declared.ask.Ask.{Ask}
+use Rattle.mj_ask.specs.declared.ask.Reply.{Reply}
+use Rattle.mj_gfile.specs.Listing.{is_text, lines_of}
+use Rattle.mj_gfile.specs.Refused.{HasLine}
+use Rattle.mj_gfile.specs.Laws.Texts.{both_true}
+use Rattle.mj_gfile.specs.Laws.Listings.{no_end, AreWithin, line_first}
+use Rattle.mj_gfile.specs.Laws.Refused.{cut_line, first_line, has_line, some_lines, no_bytes}
+use Rattle.mj_trace.specs.declared.piece.Piece.{Piece}
+use Rattle.mj_trace.specs.declared.piece.Piece.TheVariants as pieces
+use Rattle.mj_trace.specs.declared.refusal.TraceError.{TraceError}
+use Rattle.mj_trace.specs.declared.refusal.TraceError.TheVariants as errors
+use Rattle.mj_trace.specs.Trace.{Traced, header, trace_text}
+use Rattle.mj_trace.specs.Lines.{piece_text, is_piece, piece_of, events_limit, is_full, stands_behind, last_device, may_start, may_follow, with_piece, followed_by, then_more, lines_from, no_lines, headed, reading_of}
+use Rattle.mj_trace.specs.Sized.{is_count, ask_fits, reply_fits, IsSized}
+use Rattle.mj_trace.specs.Refused.{IsBegun, line_count, is_sized, IsNoLine, IsOneTooMany, IsFirst, IsTraceRefused, HasOneReason}
+use Rattle.mj_trace.specs.Laws.Spelled.{piece_said, text_added, IsFront, front_added, trace_of_front, none_yet}
+use Rattle.mj_trace.specs.Laws.Within.{entry_within, event_within, device_line_within}
+use Rattle.mj_trace.specs.Laws.Whole.{written, event_found, start_found, device_found, trace_on}
+use Rattle.mj_trace.specs.Laws.Fits.{piece_fits}
+
+-- ---- a line that can be written
+
+-- within the sizes of its values it holds no byte 10, and is read
+known : (p : Piece) → is_piece p ≡ true → is_sized p ≡ true → AreWithin (piece_text p) × (piece_of (piece_text p) ≡ Some p)
+unfolding no_end
+known (pieces.Device name count) can fit = let q = both_true (is_text name) (is_count count) fit in (device_line_within name count q.1, device_found name count q.0 q.1)
+known (pieces.Start entry) can fit = (entry_within entry can, start_found entry can)
+known (pieces.Event job ask reply) can fit =
+    let w = written job ask reply can fit in (event_within job ask reply w.number w.ask w.ask_sized w.reply w.reply_sized, event_found job ask reply w can)
+
+none_there : {A : Type 0} (xs : List A) → is_empty xs ≡ true → xs ≡ []
+none_there [] h = refl
+none_there (x ∷ xs) h = absurd cc
+
+some_there : {A : Type 0} (xs : List A) → is_empty xs ≡ false → xs ≡ [] → ⊥
+some_there [] h e = absurd cc
+some_there (x ∷ xs) h e = absurd cc
+
+none_full : (events : List (ℕ × Ask × Reply)) → is_empty events ≡ true → eqb (length events) events_limit ≡ false
+none_full [] h = refl
+none_full (v ∷ events) h = absurd cc
+
+-- ---- up to the line that is refused
+
+-- up to these bytes, which are the lines from k on, the bytes are this trace as far as it goes
+record IsUpTo (bytes : List ℕ) (t : Traced) (k : ℕ) (rest : List ℕ) : Type 0 where
+  cut : bytes ≡ trace_text t ++ rest
+  front : IsFront t
+  begun : (is_empty t.events ≡ true) ⊎ (is_empty t.starts ≡ false)
+  sized : IsSized t
+  place : k ≡ line_count t + 1
+
+begun_more : (t : Traced) (p : Piece) → may_follow t p ≡ true → (is_empty (with_piece t p).events ≡ true) ⊎ (is_empty (with_piece t p).starts ≡ false)
+begun_more t (pieces.Device name count) may =
+    let none = both_true (is_empty t.starts && is_empty t.events) (stands_behind (last_device t.pool) name) may in
+    inl (both_true (is_empty t.starts) (is_empty t.events) none.0).1
+begun_more t (pieces.Start entry) may = inl (both_true (is_empty t.events) (may_start t.pool (length t.starts)) may).0
+begun_more t (pieces.Event job ask reply) may = inr (by (is_empty t.starts) may)
+  where
+    by : (b : Bool) → not b ≡ true → b ≡ false
+    by true h = absurd cc
+    by false h = refl
+
+sized_more : (t : Traced) (p : Piece) → IsSized t → is_sized p ≡ true → IsSized (with_piece t p)
+sized_more t (pieces.Device name count) s fit = record {
+  devices = list_all-append (λ d. is_text d.0 && is_count d.1) t.pool ((name, count) ∷ []) ∙ (λ i. s.devices i && (fit i && true));
+  events = s.events;
+}
+sized_more t (pieces.Start entry) s fit = record { devices = s.devices; events = s.events }
+sized_more t (pieces.Event job ask reply) s fit = record {
+  devices = s.devices;
+  events = list_all-append (λ e. is_count e.0 && ask_fits e.1 && reply_fits e.2) t.events ((job, ask, reply) ∷ []) ∙ (λ i. s.events i && (fit i && true));
+}
+
+count_more : (t : Traced) (p : Piece) → line_count (with_piece t p) ≡ line_count t + 1
+count_more t (pieces.Device name count) = let one = length-append t.pool ((name, count) ∷ []) in omega (arith, one)
+count_more t (pieces.Start entry) = let one = length-append t.starts (entry ∷ []) in omega (arith, one)
+count_more t (pieces.Event job ask reply) = let one = length-append t.events ((job, ask, reply) ∷ []) in omega (arith, one)
+
+module _ (bytes : List ℕ) (t : Traced) (k : ℕ) (rest : List ℕ) (u : IsUpTo bytes t k rest) where
+  begun_all : IsBegun t
+  begun_all = by (is_empty t.starts) refl u.begun
+    where
+      by : (b : Bool) → is_empty t.starts ≡ b → (is_empty t.events ≡ true) ⊎ (is_empty t.starts ≡ false) → IsBegun t
+      by false e h = inr (trace_of_front t u.front e)
+      by true e (inl h) = inl (record { rise = u.front.devices; no_starts = none_there t.starts e; no_events = none_there t.events h })
+      by true e (inr h) = absurd (let both : true ≡ false = sym e ∙ h in cc)
+
+  first : (IsWhy : Traced → List ℕ → Type 0) → IsWhy t rest → IsFirst bytes k IsWhy
+  first IsWhy why = record { before = t; rest = rest; cut = u.cut; begun = begun_all; sized = u.sized; place = u.place; why = why }
+
+  more : (p : Piece) (r : List ℕ) → rest ≡ piece_text p ++ 10 ∷ r → is_piece p ≡ true → is_sized p ≡ true → is_full t ≡ false → may_follow t p ≡ true → IsUpTo bytes (with_piece t p) (suc k) r
+  more p r at can fit room may = record {
+    cut = u.cut ∙ ap (λ x. trace_text t ++ x) (at ∙ sym (append_assoc (piece_text p) (10 ∷ []) r)) ∙ sym (append_assoc (trace_text t) (piece_text p ++ 10 ∷ []) r)
+        ∙ ap (λ x. x ++ r) (sym (text_added t p may));
+    front = front_added t p u.front room can may;
+    begun = begun_more t p may;
+    sized = sized_more t p u.sized fit;
+    place = let one = count_more t p in omega (arith, u.place, one);
+  }
+
+  -- no line is left, and no start is there
+  unstarted : lines_of rest ≡ [] → is_empty t.starts ≡ true → IsNoLine t rest
+  unstarted e none = record {
+    missing = λ there. none_there t.starts none;
+    room = by u.begun;
+    none = λ p can fit may has. absurd (
+        let both : [] ≡ (piece_text p, true) ∷ lines_of has.rest =
+        sym e ∙ ap lines_of (has.is ∙ append_assoc (piece_text p) (10 ∷ []) has.rest) ∙ line_first (piece_text p) has.rest (known p can fit).0 in
+        cc
+        );
+  }
+    where
+      by : (is_empty t.events ≡ true) ⊎ (is_empty t.starts ≡ false) → is_full t ≡ false
+      by (inl h) = none_full t.events h
+      by (inr h) = absurd (let both : true ≡ false = sym none ∙ h in cc)
+
+  module _ (l : List ℕ) (b : Bool) (ls : List (List ℕ × Bool)) (e : lines_of rest ≡ (l, b) ∷ ls) where
+    one_too_many : is_full t ≡ true → IsOneTooMany t rest
+    one_too_many full = record { some = some_lines rest l b ls e; full = full }
+
+    no_line : is_full t ≡ false → ((p : Piece) → is_piece p ≡ true → is_sized p ≡ true → may_follow t p ≡ true → l ≡ piece_text p → b ≡ true → ⊥) → IsNoLine t rest
+    no_line room none = record {
+      missing = λ there. absurd (some_lines rest l b ls e there);
+      room = room;
+      none = λ p can fit may has. let is = first_line (piece_text p) rest l b ls (known p can fit).0 has e in none p can fit may is.0 is.1;
+    }
+
+err_same : (a b : TraceError) → ◌≡◌ {A = Result Traced TraceError} (Err a) (Err b) → a ≡ b
+err_same a b h = cc
+
+so : (bytes : List ℕ) (x a : TraceError) → ◌≡◌ {A = Result Traced TraceError} (Err a) (Err x) → IsTraceRefused bytes a → IsTraceRefused bytes x
+so bytes x a h is = subst (IsTraceRefused bytes) (err_same a x h) is
+
+some_same : (p q : Piece) → Some p ≡ Some q → p ≡ q
+some_same p q e = cc
+
+-- a line that is ended, behind which the lines ls stand
+module _ (bytes : List ℕ) (x : TraceError) (t : Traced) (k : ℕ) (rest : List ℕ) (u : IsUpTo bytes t k rest) (l : List ℕ) (ls : List (List ℕ × Bool)) (e : lines_of rest ≡ (l, true) ∷ ls)
+    (rec : (p : Piece) (r : List ℕ) → IsUpTo bytes (with_piece t p) (suc k) r → lines_of r ≡ ls → lines_from (with_piece t p) (suc k) ls ≡ Err x → IsTraceRefused bytes x) where
+  follows : (p : Piece) (b : Bool) → may_follow t p ≡ b → piece_of l ≡ Some p → is_full t ≡ false
+      → then_more (λ v. lines_from v (suc k) ls) (cond b (Ok (with_piece t p)) (Err (errors.Line k))) ≡ Err x → IsTraceRefused bytes x
+  follows p true may is room f =
+      let cut = cut_line rest l ls e in
+      let said = piece_said l p is in
+      rec p cut.0 (more bytes t k rest u p cut.0 (cut.1 ∙ ap (λ y. y ++ 10 ∷ cut.0) said.0) said.1 (piece_fits l p is) room may) cut.2 f
+  follows p false may is room f = so bytes x (errors.Line k) f (first bytes t k rest u IsNoLine (no_line bytes t k rest u l true ls e room (λ q can fit can_follow spells ended. absurd (
+      let same = some_same p q (sym is ∙ ap piece_of spells ∙ (known q can fit).1) in
+      let both : false ≡ true = sym may ∙ ap (may_follow t) same ∙ can_follow in
+      cc
+      ))))
+
+  says : (o : Option Piece) → piece_of l ≡ o → is_full t ≡ false → then_more (λ v. lines_from v (suc k) ls) (followed_by t k o) ≡ Err x → IsTraceRefused bytes x
+  says None is room f = so bytes x (errors.Line k) f (first bytes t k rest u IsNoLine (no_line bytes t k rest u l true ls e room (λ q can fit can_follow spells ended. absurd (
+      let both : None ≡ Some q = sym is ∙ ap piece_of spells ∙ (known q can fit).1 in
+      cc
+      ))))
+  says (Some p) is room f = follows p (may_follow t p) refl is room f
+
+  fills : (b : Bool) → is_full t ≡ b → then_more (λ v. lines_from v (suc k) ls) (cond b (Err (errors.Long k)) (followed_by t k (piece_of l))) ≡ Err x → IsTraceRefused bytes x
+  fills true full f = so bytes x (errors.Long k) f (first bytes t k rest u IsOneTooMany (one_too_many bytes t k rest u l true ls e full))
+  fills false room f = says (piece_of l) refl room f
+
+-- where no byte 10 ends the line
+module _ (bytes : List ℕ) (x : TraceError) (t : Traced) (k : ℕ) (rest : List ℕ) (u : IsUpTo bytes t k rest) (l : List ℕ) (ls : List (List ℕ × Bool)) (e : lines_of rest ≡ (l, false) ∷ ls) where
+  unended : (b : Bool) → is_full t ≡ b → ◌≡◌ {A = Result Traced TraceError} (Err (cond b (errors.Long k) (errors.Line k))) (Err x) → IsTraceRefused bytes x
+  unended true full f = so bytes x (errors.Long k) f (first bytes t k rest u IsOneTooMany (one_too_many bytes t k rest u l false ls e full))
+  unended false room f =
+      so bytes x (errors.Line k) f (first bytes t k rest u IsNoLine (no_line bytes t k rest u l false ls e room (λ q can fit can_follow spells ended. absurd (let both : false ≡ true = ended in cc))))
+
+-- where no line is left
+at_end : (bytes : List ℕ) (x : TraceError) (t : Traced) (k : ℕ) (rest : List ℕ) → IsUpTo bytes t k rest → lines_of rest ≡ [] → (b : Bool) → is_empty t.starts ≡ b
+    → cond b (Err (errors.Line k)) (Ok t) ≡ Err x → IsTraceRefused bytes x
+at_end bytes x t k rest u e true none f = so bytes x (errors.Line k) f (first bytes t k rest u IsNoLine (unstarted bytes t k rest u e none))
+at_end bytes x t k rest u e false some f = absurd cc
+
+lines_refused : (bytes : List ℕ) (x : TraceError) (t : Traced) (k : ℕ) (rest : List ℕ) (ls : List (List ℕ × Bool)) → IsUpTo bytes t k rest → lines_of rest ≡ ls
+    → lines_from t k ls ≡ Err x → IsTraceRefused bytes x
+lines_refused bytes x t k rest [] u e h = at_end bytes x t k rest u e (is_empty t.starts) refl h
+lines_refused bytes x t k rest ((l, false) ∷ ls) u e h = unended bytes x t k rest u l ls e (is_full t) refl h
+lines_refused bytes x t k rest ((l, true) ∷ ls) u e h =
+    fills bytes x t k rest u l ls e (λ p r v f g. lines_refused bytes x (with_piece t p) (suc k) r ls v f g) (is_full t) refl h
+
+-- ---- the whole
+
+module _ (bytes : List ℕ) where
+  no_header : (l : List ℕ) (b : Bool) (ls : List (List ℕ × Bool)) → lines_of bytes ≡ (l, b) ∷ ls → (b && bytes_eq l header) ≡ false → ¬ HasLine header bytes
+  unfolding no_end
+  no_header l b ls e not_so has =
+      let is = first_line header bytes l b ls refl has e in
+      let is_so : (b && bytes_eq l header) ≡ true = λ i. is.1 i && (bytes_decides l header).1 is.0 i in
+      absurd (let both : true ≡ false = sym is_so ∙ not_so in cc)
+
+  no_lines_there : lines_of bytes ≡ [] → ¬ HasLine header bytes
+  unfolding no_end
+  no_lines_there e has = absurd (let both : [] ≡ (header, true) ∷ lines_of has.rest = sym e ∙ ap lines_of (has.is ∙ append_assoc header (10 ∷ []) has.rest) ∙ line_first header has.rest refl in cc)
+
+  behind_header : (r : List ℕ) → bytes ≡ header ++ 10 ∷ r → IsUpTo bytes no_lines 2 r
+  behind_header r e = record {
+    cut = e ∙ sym (append_assoc header (10 ∷ []) r);
+    front = none_yet;
+    begun = inl refl;
+    sized = record { devices = refl; events = refl };
+    place = omega arith;
+  }
+
+  headed_refused : (x : TraceError) (ls : List (List ℕ × Bool)) → lines_of bytes ≡ ls → headed ls ≡ Err x → IsTraceRefused bytes x
+  headed_refused x [] e h = so bytes x errors.Header h (no_lines_there e)
+  headed_refused x ((l, b) ∷ ls) e h = by (b && bytes_eq l header) refl h
+    where
+      by : (c : Bool) → (b && bytes_eq l header) ≡ c → cond c (lines_from no_lines 2 ls) (Err errors.Header) ≡ Err x → IsTraceRefused bytes x
+      by false not_so f = so bytes x errors.Header f (no_header l b ls e not_so)
+      by true is_so f =
+          let p = both_true b (bytes_eq l header) is_so in
+          let cut = cut_line bytes l ls (e ∙ ap (λ d. (l, d) ∷ ls) p.0) in
+          lines_refused bytes x no_lines 2 cut.0 ls (behind_header cut.0 (cut.1 ∙ ap (λ y. y ++ 10 ∷ cut.0) ((bytes_decides l header).0 p.1))) cut.2 f
+
+-- what isn't read is refused for this reason
+pub refusal : (bytes : List ℕ) (x : TraceError) → reading_of bytes ≡ Err x → IsTraceRefused bytes x
+refusal bytes x h = headed_refused bytes x (lines_of bytes) refl h
+
+-- what a call gives that reads so
+pub refuses_it : (bytes : List ℕ) (r : Result Traced TraceError) → IfErr r (λ e. (e ≡ errors.Memory) ⊎ (reading_of bytes ≡ Err e)) → IfErr r (IsTraceRefused bytes)
+refuses_it bytes (Ok t) h = tt
+refuses_it bytes (Err e) h = by h
+  where
+    by : (e ≡ errors.Memory) ⊎ (reading_of bytes ≡ Err e) → IsTraceRefused bytes e
+    by (inl m) = subst (IsTraceRefused bytes) (sym m) tt
+    by (inr f) = refusal bytes e f
+
+-- ---- one reason
+
+none_is : {A : Type 0} (xs : List A) → xs ≡ [] → is_empty xs ≡ true
+none_is xs e = ap is_empty e
+
+module _ (t : Traced) (k : ℕ) (rest : List ℕ) where
+  -- one line too many is refused so
+  many_read : IsOneTooMany t rest → (ls : List (List ℕ × Bool)) → lines_of rest ≡ ls → lines_from t k ls ≡ Err (errors.Long k)
+  many_read w [] e = absurd (w.some (no_bytes rest e))
+  many_read w ((l, false) ∷ ls) e = ap (λ b. Err (cond b (errors.Long k) (errors.Line k))) w.full
+  many_read w ((l, true) ∷ ls) e = ap (λ b. then_more (λ v. lines_from v (suc k) ls) (cond b (Err (errors.Long k)) (followed_by t k (piece_of l)))) w.full
+
+  module _ (w : IsNoLine t rest) (l : List ℕ) (ls : List (List ℕ × Bool)) (e : lines_of rest ≡ (l, true) ∷ ls) where
+    may_not : (p : Piece) (b : Bool) → may_follow t p ≡ b → piece_of l ≡ Some p
+        → then_more (λ v. lines_from v (suc k) ls) (cond b (Ok (with_piece t p)) (Err (errors.Line k))) ≡ Err (errors.Line k)
+    may_not p false may is = refl
+    may_not p true may is =
+        let cut = cut_line rest l ls e in
+        let said = piece_said l p is in
+        absurd (w.none p said.1 (piece_fits l p is) may (has_line (piece_text p) rest cut.0 (cut.1 ∙ ap (λ y. y ++ 10 ∷ cut.0) said.0)))
+
+    says_none : (o : Option Piece) → piece_of l ≡ o → then_more (λ v. lines_from v (suc k) ls) (followed_by t k o) ≡ Err (errors.Line k)
+    says_none None is = refl
+    says_none (Some p) is = may_not p (may_follow t p) refl is
+
+  -- a line that may not stand there is refused so
+  none_read : IsNoLine t rest → (ls : List (List ℕ × Bool)) → lines_of rest ≡ ls → lines_from t k ls ≡ Err (errors.Line k)
+  none_read w [] e = ap (λ b. cond b (Err (errors.Line k)) (Ok t)) (none_is t.starts (w.missing (no_bytes rest e)))
+  none_read w ((l, false) ∷ ls) e = ap (λ b. Err (cond b (errors.Long k) (errors.Line k))) w.room
+  none_read w ((l, true) ∷ ls) e =
+      ap (λ b. then_more (λ v. lines_from v (suc k) ls) (cond b (Err (errors.Long k)) (followed_by t k (piece_of l)))) w.room ∙ says_none w l ls e (piece_of l) refl
+
+module _ (bytes : List ℕ) where
+  from_first : (number : ℕ) (IsWhy : Traced → List ℕ → Type 0) (f : IsFirst bytes number IsWhy) (x : TraceError) → lines_from f.before number (lines_of f.rest) ≡ Err x → reading_of bytes ≡ Err x
+  from_first number IsWhy f x h =
+      ap reading_of f.cut ∙ trace_on f.before f.begun f.sized f.rest ∙ ap (λ n. lines_from f.before n (lines_of f.rest)) (sym f.place) ∙ h
+
+  headerless : ¬ HasLine header bytes → (ls : List (List ℕ × Bool)) → lines_of bytes ≡ ls → headed ls ≡ Err errors.Header
+  headerless w [] e = refl
+  headerless w ((l, b) ∷ ls) e = by (b && bytes_eq l header) refl
+    where
+      by : (c : Bool) → (b && bytes_eq l header) ≡ c → cond c (lines_from no_lines 2 ls) (Err errors.Header) ≡ Err errors.Header
+      by false is = refl
+      by true is =
+          let p = both_true b (bytes_eq l header) is in
+          let cut = cut_line bytes l ls (e ∙ ap (λ d. (l, d) ∷ ls) p.0) in
+          absurd (w (has_line header bytes cut.0 (cut.1 ∙ ap (λ y. y ++ 10 ∷ cut.0) ((bytes_decides l header).0 p.1))))
+
+  -- what is refused isn't read, for the same reason
+  refused_unread : (x : TraceError) → ¬ (x ≡ errors.Memory) → IsTraceRefused bytes x → reading_of bytes ≡ Err x
+  refused_unread errors.Header not_so w = headerless w (lines_of bytes) refl
+  refused_unread (errors.Line number) not_so f = from_first number IsNoLine f (errors.Line number) (none_read f.before number f.rest f.why (lines_of f.rest) refl)
+  refused_unread (errors.Long number) not_so f = from_first number IsOneTooMany f (errors.Long number) (many_read f.before number f.rest f.why (lines_of f.rest) refl)
+  refused_unread errors.Memory not_so w = absurd (not_so refl)
+
+-- two refusals of some bytes are the same, unless memory was wanting
+pub one_reason : HasOneReason
+one_reason bytes e f p q h i = err_same e f (sym (refused_unread bytes e p h) ∙ refused_unread bytes f q i)

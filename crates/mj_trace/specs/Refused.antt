@@ -1,0 +1,65 @@
+-- Why bytes are refused as a trace, said by the spelling alone: up to the line that is refused the bytes are a trace as far as it goes.
+use Rattle.std.specs.Prelude.{◌≡◌, ◌⊎◌, ℕ, ◌+◌, Bool, true, false, ◌&&◌, List, [], ◌++◌, length}
+use Rattle.mj_gfile.specs.Listing.{is_text}
+use Rattle.mj_gfile.specs.Refused.{HasLine}
+use Rattle.mj_trace.specs.declared.piece.Piece.{Piece}
+use Rattle.mj_trace.specs.declared.piece.Piece.TheVariants as pieces
+use Rattle.mj_trace.specs.declared.refusal.TraceError.{TraceError}
+use Rattle.mj_trace.specs.declared.refusal.TraceError.TheVariants as errors
+use Rattle.mj_trace.specs.Trace.{Traced, header, trace_text}
+use Rattle.mj_trace.specs.Lines.{piece_text, is_piece, is_full, may_follow, rises, IsTrace}
+use Rattle.mj_trace.specs.Sized.{is_count, ask_fits, reply_fits, IsSized}
+
+-- the devices of a trace, of which nothing else is there
+pub record AreDevices (t : Traced) : Type 0 where
+  pub rise : rises t.pool ≡ true
+  pub no_starts : t.starts ≡ []
+  pub no_events : t.events ≡ []
+
+-- a trace as far as it goes: no start is there yet, or it is a trace, to which more may be added
+abbrev pub IsBegun : Traced → Type 0
+IsBegun t = AreDevices t ⊎ IsTrace t
+
+-- how many lines there are, with the header
+abbrev pub line_count : Traced → ℕ
+line_count t = length t.pool + length t.starts + length t.events + 1
+
+-- a line, within the sizes of its values
+abbrev pub is_sized : Piece → Bool
+is_sized (pieces.Device name count) = is_text name && is_count count
+is_sized (pieces.Start entry) = true
+is_sized (pieces.Event job ask reply) = is_count job && ask_fits ask && reply_fits reply
+
+-- Behind these lines, which aren't full, there are bytes or the first start is missing. The bytes don't begin with a line that may follow: none is spelled so,
+-- or byte 10 doesn't end it, or it can't stand there.
+pub record IsNoLine (before : Traced) (rest : List ℕ) : Type 0 where
+  pub missing : (rest ≡ []) → before.starts ≡ []
+  pub room : is_full before ≡ false
+  pub none : (p : Piece) → is_piece p ≡ true → is_sized p ≡ true → may_follow before p ≡ true → ¬ HasLine (piece_text p) rest
+
+-- there are bytes behind as many events as there may be
+pub record IsOneTooMany (before : Traced) (rest : List ℕ) : Type 0 where
+  pub some : ¬ (rest ≡ [])
+  pub full : is_full before ≡ true
+
+-- The line of this number is the first that is refused, and this is why: up to it the bytes are a trace as far as it goes. Lines count from 1, the header
+-- among them.
+pub record IsFirst (bytes : List ℕ) (number : ℕ) (IsWhy : Traced → List ℕ → Type 0) : Type 0 where
+  pub before : Traced
+  pub rest : List ℕ
+  pub cut : bytes ≡ trace_text before ++ rest
+  pub begun : IsBegun before
+  pub sized : IsSized before
+  pub place : number ≡ line_count before + 1
+  pub why : IsWhy before rest
+
+-- why bytes are refused; want of memory says nothing
+abbrev pub IsTraceRefused : List ℕ → TraceError → Type 0
+IsTraceRefused bytes errors.Header = ¬ HasLine header bytes
+IsTraceRefused bytes (errors.Line number) = IsFirst bytes number IsNoLine
+IsTraceRefused bytes (errors.Long number) = IsFirst bytes number IsOneTooMany
+IsTraceRefused bytes errors.Memory = Unit {0}
+
+-- two refusals of some bytes are the same, unless memory was wanting
+abbrev pub HasOneReason : Type 0
+HasOneReason = (bytes : List ℕ) (e f : TraceError) → ¬ (e ≡ errors.Memory) → ¬ (f ≡ errors.Memory) → IsTraceRefused bytes e → IsTraceRefused bytes f → e ≡ f
