@@ -2,25 +2,49 @@
 #![tactic(auto)]
 
 use std::env;
-use std::io::{self, IsTerminal};
+use std::io::{self, ErrorKind, IsTerminal};
 use std::process::ExitCode;
+use std::thread::Builder;
+
+// The stack of the thread in which the program runs, whatever stack the system gives it: expressions nest 64 levels deep, and each is a few calls.
+const STACK: usize = 1 << 23;
 
 fn main(rt: HostRuntime) -> ExitCode {
     let words: Vec<String> = match words(&rt) {
         Ok(words) => words,
-        Err(_) => {
-            let _ = eprintln!(rt; "memory");
-            return ExitCode::from(4);
-        }
+        Err(error) => return ExitCode::from(unread(&rt, error.kind())),
     };
-    let status = mj_main::run(
-        &rt,
-        words.as_slice(),
+    let begun = Builder::new()
+        .stack_size(STACK)
+        .spawn(&rt, move || run(&rt, &words));
+    match begun {
+        Ok(thread) => ExitCode::from(thread.join(&rt)),
+        Err(_) => ExitCode::from(unread(&rt, ErrorKind::OutOfMemory)),
+    }
+}
+
+// Does what the words ask for, and gives the exit status.
+fn run(rt: &HostRuntime, words: &[String]) -> u8 {
+    mj_main::run(
+        rt,
+        words,
         &mut rt.stdin(),
         &mut rt.stdout(),
         &mut rt.stderr(),
-    );
-    ExitCode::from(status)
+    )
+}
+
+// Says why the words can't be had, and gives the exit status: where one of them isn't UTF-8 they are wrong, else memory was refused.
+fn unread(rt: &HostRuntime, why: ErrorKind) -> u8 {
+    if why == ErrorKind::InvalidData {
+        let _ = eprintln!(rt;
+            "error: invalid UTF-8 was detected in one or more arguments\n\nFor more information, try '--help'."
+        );
+        3
+    } else {
+        let _ = eprintln!(rt; "memory");
+        4
+    }
 }
 
 // The words of the command line. Where a debugger's commands come from a terminal, its prompt is asked for too.

@@ -71,7 +71,7 @@ impl Kept {
         }
     }
 
-    /// The same once more.
+    /// A copy of it.
     pub fn try_clone(&self) -> Result<Kept, AllocError>
         ensures { IfOk result (λ kept. kept ≡ self.now) }
     {
@@ -97,7 +97,7 @@ pub struct Clash {
 }
 
 impl Clash {
-    /// The same clash once more.
+    /// A copy of it.
     pub fn try_clone(&self) -> Result<Clash, AllocError>
         ensures { IfOk result (λ clash. clash ≡ self.entry.now) }
     {
@@ -140,7 +140,7 @@ impl BoxedClash {
         &self.kept
     }
 
-    /// The same clash once more.
+    /// A copy of it.
     pub fn try_clone(&self) -> Result<BoxedClash, AllocError>
         ensures { IfOk result (λ boxed. boxed ≡ self.entry.now) }
     {

@@ -37,7 +37,7 @@ impl Entry {
         }) && is_word(self.routine.bytes(&mut digits))
     }
 
-    /// The same entry once more.
+    /// A copy of it.
     pub fn try_clone(&self) -> Result<Entry, AllocError>
         ensures { IfOk result (λ entry. entry ≡ self.now) }
     {

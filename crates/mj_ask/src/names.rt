@@ -49,7 +49,7 @@ impl Names {
         &self.list
     }
 
-    /// The same names once more.
+    /// A copy of them.
     pub fn try_clone(&self) -> Result<Names, AllocError>
         ensures { IfOk result (λ names. names ≡ self.now) }
     {

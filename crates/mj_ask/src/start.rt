@@ -53,7 +53,7 @@ impl Start {
         (entry, values)
     }
 
-    /// The same start once more.
+    /// A copy of it.
     pub fn try_clone(&self) -> Result<Start, AllocError>
         ensures { IfOk result (λ start. start ≡ self.now) }
     {

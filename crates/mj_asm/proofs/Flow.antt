@@ -29,7 +29,10 @@ use Rattle.mj_asm.specs.Correct.{Agree, next_of, DoLines, IsFound, LeadAlike}
 use Rattle.mj_asm.specs.Laws.{after_one, Leaves, same_place, at_found, call_follows}
 use Rattle.mj_pcode.proofs.Agree.{if_at, look_at, change_at, deeper_at, quit_frame_at, given_at, store_at, if_test_at, again_at, first_at, reading_two_at}
 use Rattle.mj_asm.proofs.Lies.{onto, operands_are, rest_below}
-use Rattle.mj_asm.proofs.Follows.{HasAt, has_front, has_back, from, acts, one, moved, expr_follows, assigns_follow, outputs_follow, hangs_follow, jobs_follow, lock_all_follows, opens_follow, uses_follow, closes_follow, inputs_follow, kill_all_follows, merges_follow, new_all_follows, actuals_follow, local_follows, when_follows}
+use Rattle.mj_asm.proofs.Expressions.{HasAt, has_front, has_back, seam, from, acts, one, moved, expr_follows, actuals_follow, local_follows, when_follows}
+use Rattle.mj_asm.proofs.VariableCommands.{assigns_follow, kill_all_follows, merges_follow, new_all_follows}
+use Rattle.mj_asm.proofs.SharingCommands.{hangs_follow, jobs_follow, lock_all_follows}
+use Rattle.mj_asm.proofs.DeviceCommands.{outputs_follow, opens_follow, uses_follow, closes_follow, inputs_follow}
 use Rattle.mj_asm.proofs.Transactions.{transaction_follows, commit_follows, restart_follows, roll_back_follows, break_follows}
 
 -- what holds for so many turns holds for fewer
@@ -104,9 +107,6 @@ module _ (image : List Routine) (units : List unit.Unit) (alike : LeadAlike imag
     fewer_quits b m loops (Some c) None le q = absurd q
     fewer_quits b m loops (Some c) (Some t) le q = fewer_turns b m _ t le q
 
-    seam' : (pc : ℕ) (a c : List Instr) → pc + length a + length c ≡ pc + length (a ++ c)
-    seam' pc a c = omega (arith, length-append a c)
-
     -- the frame below goes on behind a DO
     goes_on : (b n pc : ℕ) (loops : List Loop) (rest : Timed) → n ≤ b → Agree b (there loops pc) rest → Leaves units n (suspended (in_frame loops) pc) (λ v. change popped rest)
     goes_on b n pc loops rest le h v =
@@ -145,7 +145,7 @@ module _ (image : List Routine) (units : List unit.Unit) (alike : LeadAlike imag
           when_follows units u ctx at b (points_of image d) here c.condition (call_code here c)
           (ev_actuals (points_of image d) here c.actuals (λ vs. turn (points_of image d (CalledAt false (entry_of here c.target) vs (λ v. change popped later))))) later pc []
           (has_front code_here pc cc _ has) (λ p has' after. call_one c p later has' after)
-          (calls_follow list (pc + length cc) rest (has_back code_here pc cc _ has) (moved units u ctx at b _ _ [] rest (seam' pc cc (calls_code here (pc + length cc) list)) h))
+          (calls_follow list (pc + length cc) rest (has_back code_here pc cc _ has) (moved units u ctx at b _ _ [] rest (seam pc cc (calls_code here (pc + length cc) list)) h))
 
       block_follows : (pc : ℕ) (rest : Timed) → slice_get code_here pc ≡ Some (instr.DoBlock k) → follows_from (pc + 1) rest → follows_from pc (turn (block (points_of image d) here rest))
       block_follows pc rest has h =
@@ -177,7 +177,7 @@ module _ (image : List Routine) (units : List unit.Unit) (alike : LeadAlike imag
           let later : Timed = jumps (points_of image d) here list leave rest in
           when_follows units u ctx at b (points_of image d) here y.condition (jump_code here y) (turn (points_of image d (JumpedAt (entry_of here y.target) leave))) later pc []
           (has_front code_here pc cc _ has) (λ p has' after. jump_one y p leave has' q)
-          (jumps_follow list (pc + length cc) leave rest (has_back code_here pc cc _ has) q (moved units u ctx at b _ _ [] rest (seam' pc cc (jumps_code here (pc + length cc) list)) h))
+          (jumps_follow list (pc + length cc) leave rest (has_back code_here pc cc _ has) q (moved units u ctx at b _ _ [] rest (seam pc cc (jumps_code here (pc + length cc) list)) h))
 
       quit_follows : (out : Option ℕ) (quit : Option Timed) (leave : Leave) (pc : ℕ) → HasAt code_here pc (quit_code out) → QuitsFor b loops out quit
           → Leaves units b below leave → follows_from pc (turn (elim quit [ None ↦ quit_frame (leave []) | Some t ↦ t ]))
@@ -432,7 +432,7 @@ module _ (image : List Routine) (units : List unit.Unit) (alike : LeadAlike imag
         let cs = steps_code here (pc + length cc) out steps in
         when_follows units u (in_frame loops) at b (points_of image d) here c (λ p. command_code here p out command) done (obey_all (points_of image d) here steps ways) pc []
         (has_front code_here pc cc cs has) made
-        (f b d deep lines loops out ways (pc + length cc) (has_back code_here pc cc cs has) (moved units u (in_frame loops) at b _ _ [] ways.line_end (seam' pc cc cs) h) quits leaves)
+        (f b d deep lines loops out ways (pc + length cc) (has_back code_here pc cc cs has) (moved units u (in_frame loops) at b _ _ [] ways.line_end (seam pc cc cs) h) quits leaves)
 
     -- a command with its postcondition, and the rest of its line
     step_follows : (command : Command) (c : Option Expr) (steps : List LineCommand) → Follows steps → (b d : ℕ)

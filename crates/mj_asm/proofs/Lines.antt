@@ -21,7 +21,7 @@ use Rattle.mj_pcode.specs.Machine.{act, act_in, exec, quits, place_in}
 use Rattle.mj_asm.specs.Code.{steps_code, line_code, lines_code, starts}
 use Rattle.mj_asm.specs.Correct.{Agree, line_of, with_labels, DoLines, LeadAlike, IsUnitOf}
 use Rattle.mj_pcode.proofs.Agree.{if_at, look_at, change_at}
-use Rattle.mj_asm.proofs.Follows.{HasAt, has_front, has_back, from, moved}
+use Rattle.mj_asm.proofs.Expressions.{HasAt, has_front, has_back, from, moved}
 use Rattle.mj_asm.proofs.Flow.{steps_follow, fewer_leaves, quits_same}
 use Rattle.mj_asm.specs.Laws.{Leaves}
 use Rattle.mj_asm.proofs.Labels.{finds}

@@ -17,7 +17,8 @@ use Rattle.mj_asm.specs.Code.{names_code, restores_of, restores_by, begin_code, 
 use Rattle.mj_asm.specs.Correct.{Agree}
 use Rattle.mj_pcode.proofs.Agree.{restartable_at, begin_transaction_at, commit_at, roll_back_at, give_back_at}
 use Rattle.mj_pcode.proofs.Deep.{deep_enough}
-use Rattle.mj_asm.proofs.Follows.{HasAt, has_front, has_back, from, one, moved, names_follow}
+use Rattle.mj_asm.proofs.Expressions.{HasAt, has_front, has_back, from, one, moved}
+use Rattle.mj_asm.proofs.VariableCommands.{names_follow}
 
 -- the instruction says which locals the command restores
 same_words : (r : Restored) → restored_of (restores_of r) ≡ Some (words_of r)

@@ -14,7 +14,8 @@ use Rattle.mj_pcode.specs.Checked.{Footing, bare, footing_behind, footings, Hold
 use Rattle.mj_asm.specs.Code.{steps_code, line_code, lines_code, starts}
 use Rattle.mj_asm.specs.Correct.{line_of}
 use Rattle.mj_asm.proofs.Lines.{line_at, many, LineStands, lines_stand}
-use Rattle.mj_asm.proofs.Checked.{Laid, Fit, Goes, laid_here, laid_front, laid_back, laid_end, line_goes, lines_go}
+use Rattle.mj_asm.proofs.CheckedExpressions.{Laid, Fit, Goes, laid_here, laid_front, laid_back, laid_end}
+use Rattle.mj_asm.proofs.CheckedLines.{line_goes, lines_go}
 
 some_is : {A : Type 0} (a b : A) → Some a ≡ Some b → a ≡ b
 some_is a b e = ap (λ o. elim o [ None ↦ a | Some x ↦ x ]) e

@@ -3,7 +3,8 @@
 ghost use Rattle.std.specs.Prelude.{◌≡◌, ◌+◌, ◌++◌, length, map, option_map, OnOk};
 ghost use Rattle.mj_ast.specs.Trees.{expr_of, variable_of, layout_of, output_of, opened_of, received_of, input_of};
 ghost use Rattle.mj_asm.specs.Code as code_spec;
-ghost use Rattle.mj_asm.specs.Code.{format_code, output_code, outputs_code, open_code, opens_code, use_code, uses_code, close_code, closes_code, receive_code, input_code, inputs_code};
+ghost use Rattle.mj_asm.specs.Code.{format_code, output_code, outputs_code, open_code, opens_code, use_code, uses_code, close_code, closes_code, receive_code};
+ghost use Rattle.mj_asm.specs.Code.{input_code, inputs_code};
 
 use crate::expr::{emit_expr, put, reference};
 use crate::sharing::emit_timeout;

@@ -2,8 +2,11 @@
 
 ghost use Rattle.std.specs.Prelude.{◌≡◌, ◌<◌, ◌+◌, ◌^◌, [], ◌∷◌, ◌++◌, length, map, slice_set, option_map, IfOk, OnOk};
 ghost use Rattle.mj_pcode.specs.Checked.{IsChecked};
-ghost use Rattle.mj_ast.specs.Trees.{expr_of, variable_of, assignment_of, killed_of, merged_of, called_of, jumped_of, range_of, renewed_of, restored_of, restartable_of, command_of, step_of, line_of, routine_of};
-ghost use Rattle.mj_asm.specs.Code.{assignment_code, assignments_code, names_code, kill_code, kills_code, kill_all_code, merge_code, merges_code, code_if, command_code, steps_code, if_code, ifs_code, else_code, for_code, body_code, range_code, ranges_code, do_code, call_code, jumps_code, jump_code, new_all_code, set_piece_code, listed_of, restores_of, begin_code, transaction_code, line_code};
+ghost use Rattle.mj_ast.specs.Trees.{expr_of, variable_of, assignment_of, killed_of, merged_of, called_of, jumped_of, range_of, renewed_of, restored_of};
+ghost use Rattle.mj_ast.specs.Trees.{restartable_of, command_of, step_of, line_of, routine_of};
+ghost use Rattle.mj_asm.specs.Code.{assignment_code, assignments_code, names_code, kill_code, kills_code, kill_all_code, merge_code, merges_code, code_if};
+ghost use Rattle.mj_asm.specs.Code.{command_code, steps_code, if_code, ifs_code, else_code, for_code, body_code, range_code, ranges_code, do_code, call_code};
+ghost use Rattle.mj_asm.specs.Code.{jumps_code, jump_code, new_all_code, set_piece_code, listed_of, restores_of, begin_code, transaction_code, line_code};
 ghost use Rattle.mj_semantics.specs.Transactions as transactions;
 ghost use Rattle.mj_asm.specs.Sites.{here_of};
 ghost use Rattle.mj_asm.specs.Correct.{with_labels, IsUnitOf};

@@ -3,7 +3,8 @@
 ghost use Rattle.std.specs.Prelude.{◌≡◌, ◌++◌, length, map, option_map, IfOk, OnOk};
 ghost use Rattle.mj_ast.specs.Trees.{expr_of, variable_of, started_of, lock_names_of, locked_of};
 ghost use Rattle.mj_asm.specs.Code as code_spec;
-ghost use Rattle.mj_asm.specs.Code.{timeout_code, wait_of, hang_code, hangs_code, start_code, jobs_code, variables_code, lock_variables, taking_code, lock_code, locks_code, lock_all_code};
+ghost use Rattle.mj_asm.specs.Code.{timeout_code, wait_of, hang_code, hangs_code, start_code, jobs_code, variables_code, lock_variables, taking_code};
+ghost use Rattle.mj_asm.specs.Code.{lock_code, locks_code, lock_all_code};
 ghost use Rattle.mj_asm.specs.Sites.{here_of};
 
 use crate::entries::{emit_actuals, entry_of};

@@ -10,7 +10,9 @@ ghost use Rattle.mj_cmd.specs.Parts.{mark_sign};
 ghost use Rattle.mj_lex.specs.Seen.{tokens_seen};
 ghost use Rattle.mj_line.specs.Machine.{refused};
 ghost use Rattle.mj_cmd.specs.Reads.{Refuses};
-ghost use Rattle.mj_cmd.specs.Heads.{HasNoBlank, HasNoCaret, HasNoClose, HasNoColon, HasNoComma, HasNoDot, HasNoEquals, HasNoLabel, HasNoMark, HasNoMinus, HasNoName, HasNoOpen, HasNoPiece, HasNoPlus, HasNoQuestion, HasNoQuoted, HasNoStar, HasNoWord, HasOther, HasParted, StartsWith, StartsWithLabel, StartsWithName, StartsWithPiece, StartsWithQuoted, StepsOver};
+ghost use Rattle.mj_cmd.specs.Heads.{HasNoBlank, HasNoCaret, HasNoClose, HasNoColon, HasNoComma, HasNoDot, HasNoEquals, HasNoLabel, HasNoMark, HasNoMinus};
+ghost use Rattle.mj_cmd.specs.Heads.{HasNoName, HasNoOpen, HasNoPiece, HasNoPlus, HasNoQuestion, HasNoQuoted, HasNoStar, HasNoWord, HasOther, HasParted};
+ghost use Rattle.mj_cmd.specs.Heads.{StartsWith, StartsWithLabel, StartsWithName, StartsWithPiece, StartsWithQuoted, StepsOver};
 
 use mj_ast::{Callee, FormatMark, Function, Sign};
 use mj_expr::{ParseError, callee};

@@ -92,12 +92,12 @@ module _ {A : Type 0} (ans : Answering A) (image : Loaded) (opening : Shared) (s
       let P : List (Placed A) → Type 0 = λ l. AreKept ans image opening system l None order in
       let Q : Option (Claimed × Heard) → Type 0 = λ w. AreKept ans image opening system more (claim_of w) order in
       subst Q (sym none) (subst P (sym end) (keeps_slot ans image opening system slots claim order kept_so slot refl first
-      (tied_first ans image opening system slots claim order kept_so job x runs told_so) held))
+      (tied_first ans image opening system slots claim order kept_so job x runs first told_so) held))
 
   pub slot_woven : woven (logs_of more) order ≡ woven (logs_of slots) order
   slot_woven =
       ap (λ l. woven (logs_of l) order) end
-      ∙ shows_slot ans image opening system slots claim order kept_so slot refl first (tied_first ans image opening system slots claim order kept_so job x runs told_so) held
+      ∙ shows_slot ans image opening system slots claim order kept_so slot refl first (tied_first ans image opening system slots claim order kept_so job x runs first told_so) held
 
   pub slot_turns : (n : ℕ) → turns_of n more ≡ turns_of n slots
   slot_turns n = ap (turns_of n) end ∙ counted_more n slots slot rests

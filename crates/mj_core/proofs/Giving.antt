@@ -18,7 +18,7 @@ use Rattle.mj_core.specs.declared.seen.Seen.{Seen}
 use Rattle.mj_core.specs.declared.seen.Seen.TheVariants as seen
 use Rattle.mj_steps.specs.declared.step.Refusal.{Refusal}
 use Rattle.mj_steps.specs.declared.step.Step.{Step}
-use Rattle.mj_core.specs.declared.slot.Made.TheVariants as made
+use Rattle.mj_core.specs.declared.parts.Made.TheVariants as made
 use Rattle.mj_core.specs.Runs.{start_in}
 use Rattle.mj_core.specs.Shown.{Shown, with_spent, with_over}
 use Rattle.mj_core.specs.Having.{has_session}
@@ -166,12 +166,14 @@ module _ {A : Type 0} (ans : Answering A) (image : Loaded) (opening : Shared) (s
     new = shown image slots' order' over n
 
     pub gives_event : Makes (routines_of image) (start_of slot) slot.job.run.log a → IsTimely late a
-        → IsReplyTold (state_of opening system.history) slot.claim.job a late reply (state_of opening system'.history) → ans.means.Told given a reply (Unit {0})
+        → IsReplyTold (state_of opening system.history) slot.claim.job a late reply (state_of opening system'.history)
+        → ans.means.Told slot.job.run.log given a late reply (Unit {0})
         → LiveStepGives ans.means (routines_of image) opening (suc k) start late given old (seen.Event (length order)) new
     gives_event makes timely told said =
         let later : state_of opening new.history ≡ state_of opening system'.history = same_state ans image opening system' slots' waiting order' kept' in
         let F : ℕ → Start → Log → Shared → Type 0 = λ j st l s. Makes (routines_of image) st l a × IsReplyTold s j a late reply (state_of opening system'.history) in
         let there = move F (makes, told) in
+        let T : ℕ → Start → Log → Shared → Type 0 = λ j st l s. ans.means.Told l given a late reply (Unit {0}) in
         let long : length order ≡ length old.history = sym (as_many (logs_of slots) order kept.there) in
         let history_on = shows_event ans image opening system slots waiting order kept k slot slot' here numbered system' a reply late log in
         let shows : new ≡ record old { history = old.history ++ record { job = suc k; ask = a; reply = reply } ∷ []; spent = with_spent old.spent (suc k) 0 } =
@@ -183,10 +185,10 @@ module _ {A : Type 0} (ans : Answering A) (image : Loaded) (opening : Shared) (s
           there.0,
           timely,
           subst (λ s. IsReplyTold (state_of opening old.history) (suc k) a late reply s) (sym later) there.1,
-          ans.means.with_told given a reply
+          ans.means.with_told (log_of (suc k) old.history) given a late reply
               ((length order ≡ length old.history)
               × (new ≡ record old { history = old.history ++ record { job = suc k; ask = a; reply = reply } ∷ []; spent = with_spent old.spent (suc k) 0 }))
-              said (long, shows),
+              (move T said) (long, shows),
         )
 
   -- it isn't made

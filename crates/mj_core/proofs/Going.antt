@@ -15,8 +15,8 @@ use Rattle.mj_core.specs.Woven.{woven}
 use Rattle.mj_core.specs.declared.seen.Seen.{Seen}
 use Rattle.mj_core.specs.declared.seen.Seen.TheVariants as seen
 use Rattle.mj_steps.specs.declared.step.Refusal.{Refusal}
-use Rattle.mj_core.specs.declared.slot.Made.{Made}
-use Rattle.mj_core.specs.declared.slot.Made.TheVariants as made
+use Rattle.mj_core.specs.declared.parts.Made.{Made}
+use Rattle.mj_core.specs.declared.parts.Made.TheVariants as made
 use Rattle.mj_core.specs.Shown.{with_over}
 use Rattle.mj_core.specs.Gives.{IsStepRefused}
 use Rattle.mj_core.specs.Gives as gives

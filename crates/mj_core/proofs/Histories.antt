@@ -38,7 +38,7 @@ module _ {A : Type 0} (ans : Answering A) (image : Loaded) (opening : Shared) (s
       → start_in slot.claim.job slot.claim.start ≡ start_in (suc k) row.start
   starts k slot row here is =
       let at = kept.tied k slot here in
-      let claimed = at.placed.row in
+      let claimed = at.placed.entered.row in
       let row_there : row_at (state_of opening system.history).rows slot.claim.job ≡ Some row =
       ap (λ (s : Shared). row_at s.rows slot.claim.job) (sym same_state) ∙ ap (λ j. row_at (state_of opening history).rows j) at.numbered ∙ is in
       let one : claimed.0 ≡ row = same_Some claimed.0 row (sym claimed.1 ∙ row_there) in
@@ -53,7 +53,7 @@ module _ {A : Type 0} (ans : Answering A) (image : Loaded) (opening : Shared) (s
     by (Some slot) here =
         let at = kept.tied k slot here in
         subst (λ l. IsTrace (routines_of image) (start_in (suc k) row.start) l) (sym at.logged)
-        (subst (λ s. IsTrace (routines_of image) s slot.job.run.log) (starts k slot row here is) at.placed.run.1.trace)
+        (subst (λ s. IsTrace (routines_of image) s slot.job.run.log) (starts k slot row here is) at.placed.own.run.1.trace)
 
   talks_at : (job : ℕ) → AreTalks (log_of job history)
   talks_at zero = subst (λ l. AreTalks l) (sym (silent_zero (logs_of slots) order)) (λ name. (beginning, refl))
@@ -62,7 +62,7 @@ module _ {A : Type 0} (ans : Answering A) (image : Loaded) (opening : Shared) (s
     by None past = subst (λ l. AreTalks l) (sym (none_past k past)) (λ name. (beginning, refl))
     by (Some slot) here =
         let at = kept.tied k slot here in
-        subst (λ l. AreTalks l) (sym at.logged) (ans.talks slot.answerer slot.job.run.log at.placed.told)
+        subst (λ l. AreTalks l) (sym at.logged) (ans.talks slot.answerer slot.job.run.log at.placed.own.told)
 
   pub is_run : IsRun (routines_of image) opening history
   is_run = record { happen = kept.happen; traces = trace_at; talks = talks_at }

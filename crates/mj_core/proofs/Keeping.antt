@@ -30,7 +30,7 @@ use Rattle.mj_core.specs.Runs.{start_in}
 use Rattle.mj_core.specs.Having.{has_behind, has_after, has_session}
 use Rattle.mj_core.specs.Gives.{IsReplyTold}
 use Rattle.mj_core.specs.Answering.{Answering, HasAll, HasStill, AreBehind}
-use Rattle.mj_core.specs.Ties.{Placed, IsTied, IsPlaced}
+use Rattle.mj_core.specs.Ties.{Placed, IsTied, IsPlaced, shared_in}
 use Rattle.mj_core.specs.Kept.{AreKept, IsSlotOf, IsClaimed, logs_of}
 use Rattle.mj_core.proofs.Histories.{same_state, none_past}
 
@@ -102,15 +102,16 @@ pub tied_beside : {A : Type 0} (ans : Answering A) (image : Loaded) (opening : S
     → IsTied ans image opening old claim job xs → new.history ≡ old.history ++ more → old.claimed ≤ new.claimed → events_of claim.job more ≡ 0
     → IsTied ans image opening new claim job xs
 tied_beside ans image opening old new more claim job xs tied on claimed none = record {
-  numbered = tied.numbered;
-  claimed = (let a = tied.claimed in omega (arith, a, claimed));
-  row = row_later opening old.history new.history more claim on tied.row;
-  counted =
-      tied.counted
-      ∙ sym (ap (events_of claim.job) on ∙ events_of_append claim.job old.history more ∙ ap (λ n. events_of claim.job old.history + n) none
-      ∙ (let plus : events_of claim.job old.history + 0 ≡ events_of claim.job old.history = omega arith in plus));
-  run = tied.run;
-  told = tied.told;
+  own = tied.own;
+  entered = record {
+    numbered = tied.entered.numbered;
+    claimed = (let a = tied.entered.claimed in omega (arith, a, claimed));
+    row = row_later opening old.history new.history more claim on tied.entered.row;
+    counted =
+        tied.entered.counted
+        ∙ sym (ap (events_of claim.job) on ∙ events_of_append claim.job old.history more ∙ ap (λ n. events_of claim.job old.history + n) none
+        ∙ (let plus : events_of claim.job old.history + 0 ≡ events_of claim.job old.history = omega arith in plus));
+  };
 }
 
 -- how many rows were claimed stays where the history goes on
@@ -302,18 +303,20 @@ module _ {A : Type 0} (ans : Answering A) (image : Loaded) (opening : Shared) (s
 module _ {A : Type 0} (ans : Answering A) (image : Loaded) (opening : Shared) (system : Recorded) (slots : List (Placed A)) (claim : Claimed) (order : List Happened)
     (kept : AreKept ans image opening system slots (Some claim) order) where
   -- the job of a row that waited for its slot is tied, where it hasn't gone on yet
-  pub tied_first : (job : Running) (xs : A) → IsRunOf image (start_in claim.job claim.start) job → ans.IsOf xs job.run.log → IsTied ans image opening system claim job xs
-  tied_first job xs run told =
+  pub tied_first : (job : Running) (xs : A) → IsRunOf image (start_in claim.job claim.start) job → job.run.log ≡ [] → ans.IsOf xs job.run.log
+      → IsTied ans image opening system claim job xs
+  tied_first job xs run first told =
       let none = none_past ans image opening system slots (Some claim) order kept (length slots) (slice_get_end slots) in
       let silent : log_of (suc (length slots)) system.history ≡ [] =
       ap (log_of (suc (length slots))) (sym kept.history) ∙ shared_silent (suc (length slots)) (woven (logs_of slots) order) none in
       record {
-        numbered = (let n = kept.claimed.1 in omega (arith, n));
-        claimed = (let n = kept.claimed.1 in let m = kept.claimed.0 in omega (arith, n, m));
-        row = kept.claimed.3;
-        counted = kept.claimed.2 ∙ sym (ap (λ j. events_of j system.history) kept.claimed.1 ∙ no_events (suc (length slots)) system.history silent);
-        run = run;
-        told = told;
+        own = record { run = run; told = told; shared = kept.claimed.2 ∙ sym (ap shared_in first) };
+        entered = record {
+          numbered = (let n = kept.claimed.1 in omega (arith, n));
+          claimed = (let n = kept.claimed.1 in let m = kept.claimed.0 in omega (arith, n, m));
+          row = kept.claimed.3;
+          counted = kept.claimed.2 ∙ sym (ap (λ j. events_of j system.history) kept.claimed.1 ∙ no_events (suc (length slots)) system.history silent);
+        };
       }
 
   module _ (slot : Placed A) (is : slot.claim ≡ claim) (log : slot.job.run.log ≡ []) (placed : IsPlaced ans image opening system slot)

@@ -2,13 +2,16 @@ pub mod Happen
 pub mod Weave
 pub mod Logs
 mod Behind
+pub mod Owning
 mod Telling
+pub mod Placing
 mod Stepping
+pub mod Owned
 mod Serving
 mod Hearing
 mod Histories
 mod Keeping
-mod Views
+pub mod Views
 mod Giving
 mod Going
 mod Admitting
@@ -17,3 +20,4 @@ mod Answering
 mod Answered
 mod Readied
 mod Ended
+mod Plain

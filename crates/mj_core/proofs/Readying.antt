@@ -27,6 +27,7 @@ use Rattle.mj_core.specs.Ties.{Placed, IsPlaced, start_of}
 use Rattle.mj_core.specs.Kept.{AreKept, logs_of, shown}
 use Rattle.mj_core.proofs.Histories.{is_run}
 use Rattle.mj_core.proofs.Keeping.{keeps_still}
+use Rattle.mj_core.proofs.Owning.{own_still}
 use Rattle.mj_core.proofs.Ended.{has_halted}
 use Rattle.mj_core.proofs.Giving.{shown_still, gives_ran, move}
 use Rattle.mj_core.proofs.Views.{shown_run}
@@ -43,16 +44,11 @@ module _ {A : Type 0} (ans : Answering A) (image : Loaded) (opening : Shared) (s
   is_placed = (kept.tied k slot here).placed
 
   placed_on : IsPlaced ans image opening system slot_on
-  placed_on =
-      let T : Log → Type 0 = λ l. ans.IsOf slot.answerer l in
-      record {
-        numbered = is_placed.numbered;
-        claimed = is_placed.claimed;
-        row = is_placed.row;
-        counted = is_placed.counted;
-        run = run (start_of slot) is_placed.run;
-        told = subst T (sym log) is_placed.told;
-      }
+  placed_on = record {
+    own = own_still ans image slot.claim slot.job slot.answerer is_placed.own job slot.answerer (run (start_of slot) is_placed.own.run) log
+        ((λ l of. of), (λ name has is. is));
+    entered = is_placed.entered;
+  }
 
   pub keeps_ready : AreKept ans image opening system (slice_set slots k slot_on) waiting order
   keeps_ready = keeps_still ans image opening system slots waiting order kept k slot slot_on here refl placed_on log (λ name has is. is)

@@ -10,6 +10,7 @@ use Rattle.mj_dev.specs.declared.talk.State.TheVariants as states
 use Rattle.mj_sessions.specs.declared.answer.Answer.{Answer}
 use Rattle.mj_sessions.specs.declared.answer.Answer.TheVariants as answers
 use Rattle.mj_sessions.specs.Answers.{Answers as Served}
+use Rattle.mj_sessions.specs.Asked.{Answering as Tells, AreAsked}
 use Rattle.mj_sessions.specs.Events.{Log, device_of, talk_on}
 use Rattle.mj_sessions.specs.Follow.{Follow, ends_on}
 use Rattle.mj_sessions.specs.Named.{Named, Roomy, is_named, session_of, TalkLeaves, AreTold, AreLeft}
@@ -29,24 +30,24 @@ stands log xs name s told there = (subst (λ o. TalkLeaves (talk_on name log) o)
 quiet : (log : Log) (xs : List Named) (a : Ask) → AreTold log xs → IsQuietOf xs a → IsQuiet log a
 quiet log xs a told q = (q.0, q.1, (stand_of q.2.0.session, stands log xs q.0 q.2.0 told q.2.1, q.2.2, q.2.3))
 
-shut : (log : Log) (x : Roomy) (a : Ask) (has : List ℕ → Bool) → AreTold log x.sessions → HasAll by_sessions x has → IsShut x.sessions a
-    → (name : List ℕ) × (device_of a ≡ Some name) × ((has name ≡ false) ⊎ HasFailed log name)
-shut log x a has told all q = (q.0, q.1, by q.2) where
-  by : ((session_of q.0 x.sessions ≡ None) ⊎ ((s : Named) × (session_of q.0 x.sessions ≡ Some s) × (s.session.state ≡ states.Open → ⊥)))
-      → (has q.0 ≡ false) ⊎ HasFailed log q.0
+shut : (tells : Tells) (log : Log) (x : Roomy) (a : Ask) (has : List ℕ → Bool) → AreTold log x.sessions → HasAll (by_sessions tells) x has → IsShut x.sessions a
+    → (name : List ℕ) × (device_of a ≡ Some name) × ((has name ≡ false) ⊎ ((ends_on name a ≡ false) × HasFailed log name))
+shut tells log x a has told all q = (q.0, q.1, by q.2) where
+  by : ((session_of q.0 x.sessions ≡ None) ⊎ ((ends_on q.0 a ≡ false) × ((s : Named) × (session_of q.0 x.sessions ≡ Some s) × (s.session.state ≡ states.Open → ⊥))))
+      → (has q.0 ≡ false) ⊎ ((ends_on q.0 a ≡ false) × HasFailed log q.0)
   by (inl none) = inl (sym (all q.0) ∙ ap is_some none)
-  by (inr s) = inr (stand_of s.0.session, stands log x.sessions q.0 s.0 told s.1, s.2)
+  by (inr s) = inr (s.0, (stand_of s.1.0.session, stands log x.sessions q.0 s.1.0 told s.1.1, s.1.2))
 
 -- the sessions are those that they were
-pub stays_so : (old new : Roomy) → new.sessions ≡ old.sessions → Stays by_sessions old new
-stays_so old new same = (
+pub stays_so : (tells : Tells) (old new : Roomy) → new.sessions ≡ old.sessions → Stays (by_sessions tells) old new
+stays_so tells old new same = (
   (λ log told. (let T : List Named → Type 0 = λ l. AreTold log l in subst T (sym same) told)),
   (λ name has held. ap (λ l. is_some (session_of name l)) same ∙ held),
 )
 
 -- but for what the device of one keeps they are
-pub stays_left : (old new : Roomy) → AreLeft old.sessions new.sessions → Stays by_sessions old new
-stays_left old new left = (
+pub stays_left : (tells : Tells) (old new : Roomy) → AreLeft old.sessions new.sessions → Stays (by_sessions tells) old new
+stays_left tells old new left = (
   (λ log told. left_told log old.sessions new.sessions left told),
   (λ name has held. left_there name old.sessions new.sessions left ∙ held),
 )
@@ -70,24 +71,26 @@ there_more name (y ∷ xs) x = by (bytes_eq x.name name) (is_named name y) (ther
   by false true rest = refl
   by false false rest = rest
 
-pub serves : (old new : Roomy) (a : Ask) (late : Bool) (given : Option Reply) → IsOfDevice a → (answer : Answer) → Served old.sessions a late answer new.sessions
+pub serves : (tells : Tells) (old new : Roomy) (a : Ask) (late : Bool) (given : Option Reply) → IsOfDevice a → (answer : Answer) → Served old.sessions a late answer new.sessions
+    → AreAsked tells old.sessions a late answer new.sessions
     → ((log : Log) (reply : Reply) → answer ≡ answers.Told reply → AreTold log old.sessions → AreTold (log ++ (a, reply) ∷ []) new.sessions)
     → ((name : List ℕ) (reply : Reply) → answer ≡ answers.Told reply
     → is_some (session_of name new.sessions) ≡ (if ends_on name a then false else is_some (session_of name old.sessions)))
-    → Answers by_sessions old a late given answer new
-serves old new a late given of (answers.Told reply) is told there =
+    → Answers (by_sessions tells) old a late given answer new
+serves tells old new a late given of (answers.Told reply) is asked told there =
     let fit = fits_answer old.sessions new.sessions late reply a is in (
       fit.0,
       fit.1,
       (λ log all. told log reply refl all),
       (λ s name has held.
           there name reply refl ∙ sym (unopened s name a (is_some (session_of name old.sessions)) (unshared a of)) ∙ ap (λ b. has_behind s name a b) held),
-      tt,
+      (λ log all. ((λ device. (new.sessions, (old.sessions, all, is, asked), told log reply refl all)), tt)),
     )
-serves old new a late given of answers.NotYet is told there =
+serves tells old new a late given of answers.NotYet is asked told there =
     let waits = waits_answer old.sessions new.sessions late a is in
-    ((λ log all. (waits.0, waits.1, quiet log old.sessions a all waits.2, tt)), stays_left old new waits.3)
-serves old new a late given of answers.Unfit is told there =
+    let stays = stays_left tells old new waits.3 in
+    ((λ log all. (waits.0, waits.1, quiet log old.sessions a all waits.2, (new.sessions, (old.sessions, all, is, asked), stays.0 log all), tt)), stays)
+serves tells old new a late given of answers.Unfit is asked told there =
     let unfit = unfit_answer old.sessions new.sessions late a is in
-    ((λ s log has all held. (inl (shut log old a has all held unfit.0), tt)), stays_so old new unfit.1)
-serves old new a late given of answers.Memory is told there = stays_left old new (short_answer old.sessions new.sessions late a is)
+    ((λ s log has all held. (inl (shut tells log old a has all held unfit.0), tt)), stays_so tells old new unfit.1)
+serves tells old new a late given of answers.Memory is asked told there = stays_left tells old new (short_answer old.sessions new.sessions late a is)

@@ -21,30 +21,23 @@ use Rattle.mj_sys.specs.System.{Recorded, Claimed}
 use Rattle.mj_sys.specs.Told.{recorded}
 use Rattle.mj_sys.proofs.Rows.{rows_kept, state_of_append, events_of_append}
 use Rattle.mj_core.specs.Happen.{shared_of}
-use Rattle.mj_core.specs.declared.slot.Made.{Made}
-use Rattle.mj_core.specs.declared.slot.Made.TheVariants as made
+use Rattle.mj_core.specs.declared.parts.Made.{Made}
+use Rattle.mj_core.specs.declared.parts.Made.TheVariants as made
 use Rattle.mj_core.specs.Runs.{start_in}
 use Rattle.mj_steps.specs.declared.step.Refusal.{Refusal}
 use Rattle.mj_steps.specs.declared.step.Refusal.TheVariants as refusals
 use Rattle.mj_core.specs.Gives.{Makes, IsTimely, IsStepRefused}
 use Rattle.mj_core.specs.Answering.{Answering, Stays}
 use Rattle.mj_core.specs.Meaning.{IsOfDevice}
-use Rattle.mj_core.specs.Ties.{Placed, IsTied, Steps, IsStill, JobIsTold, Talks, Shares, IsMuted, GoesOnBy}
+use Rattle.mj_core.specs.Ties.{Placed, IsJobOf, IsClaimIn, IsTied, Steps, IsStill, JobIsTold, Talks, Shares, IsMuted, GoesOnBy}
+use Rattle.mj_core.proofs.Owning.{own_still, own_talk, own_share}
 
 -- nothing but the place in the private run changes
 pub tied_same : {A : Type 0} (ans : Answering A) (image : Loaded) (opening : Shared) (old new : Recorded) (claim claim' : Claimed) (job mid job' : Running) (xs xs' : A)
     → IsTied ans image opening old claim job xs → IsRunOf image (start_in claim.job claim.start) mid → mid.run.log ≡ job.run.log → new ≡ old → claim' ≡ claim
     → job' ≡ mid → Stays ans xs xs' → IsTied ans image opening new claim' job' xs'
 tied_same ans image opening old new claim claim' job mid job' xs xs' tied run log same claims jobs stays =
-    let T : Log → Type 0 = λ l. ans.IsOf xs l in
-    let here : IsTied ans image opening old claim mid xs' = record {
-      numbered = tied.numbered;
-      claimed = tied.claimed;
-      row = tied.row;
-      counted = tied.counted;
-      run = run;
-      told = stays.0 mid.run.log (subst T (sym log) tied.told);
-    } in
+    let here : IsTied ans image opening old claim mid xs' = record { own = own_still ans image claim job xs tied.own mid xs' run log stays; entered = tied.entered } in
     let P : Recorded → Type 0 = λ r. IsTied ans image opening r claim mid xs' in
     let Q : Claimed → Type 0 = λ c. IsTied ans image opening new c mid xs' in
     let R : Running → Type 0 = λ j. IsTied ans image opening new claim' j xs' in
@@ -54,26 +47,17 @@ module _ {A : Type 0} (ans : Answering A) (image : Loaded) (opening : Shared) (o
     (tied : IsTied ans image opening old claim job xs) (run : IsRunOf image (start_in claim.job claim.start) mid) (log : mid.run.log ≡ job.run.log)
     (a : Ask) (reply : Reply) (goes : GoesOnBy mid a reply job')
     (told : ans.IsOf xs mid.run.log → ans.IsOf xs' (mid.run.log ++ (a, reply) ∷ [])) where
-  told_on : ans.IsOf xs' job'.run.log
-  told_on =
-      let T : Log → Type 0 = λ l. ans.IsOf xs l in
-      let U : Log → Type 0 = λ l. ans.IsOf xs' l in
-      subst U (sym goes.0) (told (subst T (sym log) tied.told))
+  -- it went on before
+  own : IsJobOf ans image claim mid xs
+  own = own_still ans image claim job xs tied.own mid xs run log ((λ l of. of), (λ name has is. is))
 
   log_on : job'.run.log ≡ job.run.log ++ (a, reply) ∷ []
   log_on = goes.0 ∙ ap (λ l. l ++ (a, reply) ∷ []) log
 
   -- a session told it
-  pub tied_talk : (new : Recorded) (claim' : Claimed) → new ≡ old → claim' ≡ claim → IsTied ans image opening new claim' job' xs'
-  tied_talk new claim' same claims =
-      let here : IsTied ans image opening old claim job' xs' = record {
-        numbered = tied.numbered;
-        claimed = tied.claimed;
-        row = tied.row;
-        counted = tied.counted;
-        run = goes.1 image (start_in claim.job claim.start) run;
-        told = told_on;
-      } in
+  pub tied_talk : is_shared a ≡ false → (new : Recorded) (claim' : Claimed) → new ≡ old → claim' ≡ claim → IsTied ans image opening new claim' job' xs'
+  tied_talk unshared new claim' same claims =
+      let here : IsTied ans image opening old claim job' xs' = record { own = own_talk ans image claim mid xs own job' xs' a reply goes told unshared; entered = tied.entered } in
       let P : Recorded → Type 0 = λ r. IsTied ans image opening r claim job' xs' in
       let Q : Claimed → Type 0 = λ c. IsTied ans image opening new c job' xs' in
       subst Q (sym claims) (subst P (sym same) here)
@@ -87,19 +71,21 @@ module _ {A : Type 0} (ans : Answering A) (image : Loaded) (opening : Shared) (o
 
   row_on : (row : Row) × (row_at (state_of opening (old.history ++ event ∷ [])).rows claim.job ≡ Some row) × (row.start ≡ claim.start)
   row_on =
-      let kept = (rows_kept (state_of opening old.history) (event ∷ [])).starts claim.job tied.row.0 tied.row.1 in
-      (kept.0, ap (λ (s : Shared). row_at s.rows claim.job) (state_of_append opening old.history (event ∷ [])) ∙ kept.1, kept.2 ∙ tied.row.2)
+      let there = tied.entered.row in
+      let kept = (rows_kept (state_of opening old.history) (event ∷ [])).starts claim.job there.0 there.1 in
+      (kept.0, ap (λ (s : Shared). row_at s.rows claim.job) (state_of_append opening old.history (event ∷ [])) ∙ kept.1, kept.2 ∙ there.2)
 
-  pub tied_share : (new : Recorded) (claim' : Claimed) → new ≡ recorded old claim.job a reply → claim' ≡ record claim { events = claim.events + 1 } → IsTied ans image opening new claim' job' xs'
-  tied_share new claim' same claims =
-      let here : IsTied ans image opening (recorded old claim.job a reply) (record claim { events = claim.events + 1 }) job' xs' = record {
-        numbered = tied.numbered;
-        claimed = tied.claimed;
+  pub tied_share : is_shared a ≡ true → (new : Recorded) (claim' : Claimed) → new ≡ recorded old claim.job a reply → claim' ≡ record claim { events = claim.events + 1 }
+      → IsTied ans image opening new claim' job' xs'
+  tied_share shared new claim' same claims =
+      let entered : IsClaimIn opening (recorded old claim.job a reply) (record claim { events = claim.events + 1 }) = record {
+        numbered = tied.entered.numbered;
+        claimed = tied.entered.claimed;
         row = row_on;
-        counted = ap (λ n. n + 1) tied.counted ∙ sym (events_of_append claim.job old.history (event ∷ []) ∙ ap (λ n. events_of claim.job old.history + n) one_event);
-        run = goes.1 image (start_in claim.job claim.start) run;
-        told = told_on;
+        counted = ap (λ n. n + 1) tied.entered.counted ∙ sym (events_of_append claim.job old.history (event ∷ []) ∙ ap (λ n. events_of claim.job old.history + n) one_event);
       } in
+      let here : IsTied ans image opening (recorded old claim.job a reply) (record claim { events = claim.events + 1 }) job' xs' =
+      record { own = own_share ans image claim mid xs own job' xs' a reply goes told shared; entered = entered } in
       let P : Recorded → Type 0 = λ r. IsTied ans image opening r (record claim { events = claim.events + 1 }) job' xs' in
       let Q : Claimed → Type 0 = λ c. IsTied ans image opening new c job' xs' in
       subst Q (sym claims) (subst P (sym same) here)
@@ -150,7 +136,7 @@ module _ {A : Type 0} (ans : Answering A) (image : Loaded) (opening : Shared) (o
   here : (F : Log → Type 0) → (ans.IsOf xs mid.run.log → F mid.run.log) → F job.run.log
   here F said =
       let T : Log → Type 0 = λ l. ans.IsOf xs l in
-      subst F log (said (subst T (sym log) tied.told))
+      subst F log (said (subst T (sym log) tied.own.told))
 
   by_talk : (m : Made) (a : Ask) → mid.run.pending ≡ Some a → IsTimely late a → is_shared a ≡ false → Talks ans mid xs a late given m job' xs' → new ≡ old → claim' ≡ claim → Goal m
   by_talk made.Event a is timely unshared t same claims =
@@ -169,9 +155,9 @@ module _ {A : Type 0} (ans : Answering A) (image : Loaded) (opening : Shared) (o
           t.3.2,
           t.5 (state_of opening old.history),
           system,
-          t.6,
+          here (λ l. ans.means.Told l given a late t.0 (Unit {0})) t.6,
         ),
-        tied_talk ans image opening old claim job mid job' xs xs' tied run log a t.0 t.3 t.4 new claim' same claims,
+        tied_talk ans image opening old claim job mid job' xs xs' tied run log a t.0 t.3 t.4 unshared new claim' same claims,
       )
   by_talk (made.Busy holder held) a is timely unshared t same claims = absurd t
   by_talk made.NotYet a is timely unshared t same claims = (
@@ -202,9 +188,9 @@ module _ {A : Type 0} (ans : Answering A) (image : Loaded) (opening : Shared) (o
           t.5.2,
           t.7,
           system,
-          ans.means.of_no_device given a t.0 (no_device a shared),
+          ans.means.of_no_device job.run.log given a late t.0 (no_device a shared),
         ),
-        tied_share ans image opening old claim job mid job' xs xs' tied run log a t.0 t.5 t.6 new claim' t.3 t.4,
+        tied_share ans image opening old claim job mid job' xs xs' tied run log a t.0 t.5 t.6 shared new claim' t.3 t.4,
       )
   by_share (made.Busy holder held) a is timely shared t =
       ((a, makes_it a is, timely, t.0, t.1, t.2, still t.4 t.5), tied_same ans image opening old new claim claim' job mid job' xs xs' tied run log t.2 t.3 t.4 t.5)

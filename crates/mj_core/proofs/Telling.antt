@@ -15,6 +15,7 @@ use Rattle.mj_ask.specs.Late.{is_timed_out}
 use Rattle.mj_sessions.specs.Answers.{Answers, Asked, SessionEnds, IsEnding, IsReading}
 use Rattle.mj_dev.specs.declared.talk.State.TheVariants as states
 use Rattle.mj_sessions.specs.Events.{device_of}
+use Rattle.mj_sessions.specs.Follow.{ends_on}
 use Rattle.mj_sessions.specs.Named.{Named, is_named, session_of, with_session, AreLeft}
 use Rattle.mj_dev.specs.Heard.{Heard}
 use Rattle.mj_sys.specs.Shared.{Shared, served}
@@ -26,11 +27,11 @@ IsQuietOf xs a =
     (name : List ℕ) × (device_of a ≡ Some name)
     × ((s : Named) × (session_of name xs ≡ Some s) × (s.session.state ≡ states.Open) × (s.session.rest ≡ None))
 
--- none of these sessions can serve the ask: there is none with its device, or it isn't open
+-- none of these sessions can serve the ask: there is none with its device, or it isn't open, and another thing than its end is asked of it
 abbrev pub IsShut : List Named → Ask → Type 0
 IsShut xs a =
     (name : List ℕ) × (device_of a ≡ Some name)
-    × ((session_of name xs ≡ None) ⊎ ((s : Named) × (session_of name xs ≡ Some s) × (s.session.state ≡ states.Open → ⊥)))
+    × ((session_of name xs ≡ None) ⊎ ((ends_on name a ≡ false) × ((s : Named) × (session_of name xs ≡ Some s) × (s.session.state ≡ states.Open → ⊥))))
 
 -- by the system
 pub fits_served : (s : Shared) (job : ℕ) (ask : Ask) (late : Bool) (reply : Reply) (t : Shared) → is_shared ask ≡ true → served s job ask late ≡ Some (reply, t) → fits ask reply ≡ true
@@ -91,9 +92,10 @@ module _ (xs new : List Named) (late : Bool) where
   call_waits device ask (inl absent) = absurd (let no : answers.NotYet ≡ answers.Unfit = absent.1 in cc)
   call_waits device ask (inr t) = (t.2.1.1, t.2.1.3, (device, refl, (t.0, t.1, t.2.1.0, t.2.1.2)), inr (device, t.0, t.1, (t.2.0, t.2.1.4, t.2.2)))
 
-  call_unfit : (device : List ℕ) (ask : DeviceAsk) → Asked device xs ask late answers.Unfit new → IsShut xs (asks.Device device ask) × (new ≡ xs)
-  call_unfit device ask (inl absent) = ((device, refl, inl absent.0), absent.2)
-  call_unfit device ask (inr t) = ((device, refl, inr (t.0, t.1, t.2.1.0)), left_so device xs new t.0 t.2.0 t.1 t.2.1.1 t.2.2)
+  call_unfit : (device : List ℕ) (ask : DeviceAsk) → ends_on device (asks.Device device ask) ≡ false → Asked device xs ask late answers.Unfit new
+      → IsShut xs (asks.Device device ask) × (new ≡ xs)
+  call_unfit device ask on (inl absent) = ((device, refl, inl absent.0), absent.2)
+  call_unfit device ask on (inr t) = ((device, refl, inr (on, (t.0, t.1, t.2.1.0))), left_so device xs new t.0 t.2.0 t.1 t.2.1.1 t.2.2)
 
   call_short : (device : List ℕ) (ask : DeviceAsk) → Asked device xs ask late answers.Memory new → AreLeft xs new
   call_short device ask (inl absent) = absurd (let no : answers.Memory ≡ answers.Unfit = absent.1 in cc)
@@ -127,10 +129,10 @@ module _ (xs new : List Named) (late : Bool) where
   waits_answer (asks.Shared x) a = absurd a
 
   pub unfit_answer : (ask : Ask) → Answers xs ask late answers.Unfit new → IsShut xs ask × (new ≡ xs)
-  unfit_answer (asks.Device d device_asks.Begin) a = call_unfit d device_asks.Begin a
-  unfit_answer (asks.Device d (device_asks.Write bytes)) a = call_unfit d (device_asks.Write bytes) a
-  unfit_answer (asks.Device d (device_asks.Line t)) a = call_unfit d (device_asks.Line t) a
-  unfit_answer (asks.Device d (device_asks.Byte t)) a = call_unfit d (device_asks.Byte t) a
+  unfit_answer (asks.Device d device_asks.Begin) a = call_unfit d device_asks.Begin refl a
+  unfit_answer (asks.Device d (device_asks.Write bytes)) a = call_unfit d (device_asks.Write bytes) refl a
+  unfit_answer (asks.Device d (device_asks.Line t)) a = call_unfit d (device_asks.Line t) refl a
+  unfit_answer (asks.Device d (device_asks.Byte t)) a = call_unfit d (device_asks.Byte t) refl a
   unfit_answer (asks.Device d device_asks.End) a = end_unfit d a
   unfit_answer (asks.Rest t) a = absurd (let no : answers.Unfit ≡ answers.Told replies.Done = a.0 in cc)
   unfit_answer (asks.Shared x) a = absurd a

@@ -116,8 +116,8 @@ module _ {A : Type 0} (ans : Answering A) (image : Loaded) (opening : Shared) (s
       → (row : Row) × (row_at (state_of opening (woven (logs_of slots) order)).rows (suc k) ≡ Some row) × IsRunOf image (start_in (suc k) row.start) slot.job
   shown_run k slot here =
       let at = kept.tied k slot here in
-      let row = at.placed.row in
+      let row = at.placed.entered.row in
       let there : row_at (state_of opening (woven (logs_of slots) order)).rows (suc k) ≡ Some row.0 =
       ap (λ (s : Shared). row_at s.rows (suc k)) (same_state ans image opening system slots waiting order kept)
       ∙ ap (λ j. row_at (state_of opening system.history).rows j) (sym at.numbered) ∙ row.1 in
-      (row.0, there, subst (λ s. IsRunOf image s slot.job) (starts ans image opening system slots waiting order kept k slot row.0 here there) at.placed.run)
+      (row.0, there, subst (λ s. IsRunOf image s slot.job) (starts ans image opening system slots waiting order kept k slot row.0 here there) at.placed.own.run)

@@ -1,5 +1,5 @@
 -- Who answers what a job asks a device.
-use Rattle.std.specs.Prelude.{◌≡◌, ℕ, List, [], ◌∷◌, ◌++◌, Bool, true, Option, Some, None}
+use Rattle.std.specs.Prelude.{◌≡◌, ℕ, List, [], ◌∷◌, ◌++◌, Bool, true, false, Option, Some, None, ℤ}
 use Rattle.mj_ask.specs.declared.ask.Ask.{Ask}
 use Rattle.mj_ask.specs.declared.ask.Ask.TheVariants as asks
 use Rattle.mj_ask.specs.declared.ask.SharedAsk.TheVariants as shared_asks
@@ -14,6 +14,8 @@ use Rattle.mj_sessions.specs.Follow.{AreTalks}
 use Rattle.mj_sys.specs.Shared.{Shared, takes_session}
 use Rattle.mj_core.specs.declared.answerer.Unplaced.{Unplaced}
 use Rattle.mj_core.specs.declared.answerer.Unplaced.TheVariants as unplaced
+use Rattle.mj_core.specs.declared.parts.Place.{Place}
+use Rattle.mj_core.specs.declared.parts.Place.TheVariants as places
 use Rattle.mj_core.specs.Having.{opens_on, has_behind}
 use Rattle.mj_core.specs.Meaning.{Means}
 
@@ -53,7 +55,7 @@ abbrev pub Answers : {A : Type 0} → Answering A → A → Ask → Bool → Opt
 Answers by old a late given (answers.Told reply) new =
     (fits a reply ≡ true) × (reply ≡ replies.Late → is_timed_out (timeout_of a) late ≡ true)
     × ((log : Log) → by.IsOf old log → by.IsOf new (log ++ (a, reply) ∷ [])) × ((s : Shared) → AreBehind by s a old new)
-    × by.means.Told given a reply (Unit {0})
+    × ((log : Log) → by.IsOf old log → by.means.Told log given a late reply (Unit {0}))
 Answers by old a late given answers.NotYet new = ((log : Log) → by.IsOf old log → by.means.NotYet log a late (Unit {0})) × Stays by old new
 Answers by old a late given answers.Unfit new =
     ((s : Shared) (log : Log) (has : List ℕ → Bool) → by.IsOf old log → HasAll by old has → by.means.Unfit s log has a late given (Unit {0}))
@@ -65,13 +67,14 @@ abbrev pub IsRefused : {A : Type 0} → Answering A → A → List ℕ → Unpla
 IsRefused by x name unplaced.Taken = (s : Shared) (a : Ask) → opens_on name a ≡ true → takes_session s a ≡ true → IsNobodys by x s a
 IsRefused by x name unplaced.Memory = Unit {0}
 
--- there is room for the session that goes to the job by the ask, with the name for it
-abbrev pub IsPlace : {A : Type 0} → Answering A → A → Ask → Option (List ℕ) → Type 0
-IsPlace by x (asks.Shared (shared_asks.Open device timeout)) None = ⊥
-IsPlace by x (asks.Shared (shared_asks.Open device timeout)) (Some name) = (name ≡ device) × by.HasRoom x device
-IsPlace by x _ place = Unit {0}
+-- there is room for a session that goes to the job by the ask, under the name of the device that it opens
+abbrev pub IsRoomFor : {A : Type 0} → Answering A → A → Ask → Place → Type 0
+IsRoomFor by x a (places.Ready name) = ((timeout : Option ℤ) × (a ≡ asks.Shared (shared_asks.Open name timeout))) × by.HasRoom x name
+IsRoomFor by x a _ = ⊥
 
--- why there is no place for it
-abbrev pub IsUnplaced : {A : Type 0} → Answering A → A → Ask → Unplaced → Type 0
-IsUnplaced by x a unplaced.Taken = (s : Shared) → takes_session s a ≡ true → IsNobodys by x s a
-IsUnplaced by x a unplaced.Memory = Unit {0}
+-- What is ready for a session that may go to the job by the ask, before it is known whether one does: none can; or the job has one with that device, so
+-- that nobody could answer for both; or there is room for it.
+abbrev pub IsPlaceFor : {A : Type 0} → Answering A → A → Ask → Place → A → Type 0
+IsPlaceFor by old a places.Unneeded new = (s : Shared) → takes_session s a ≡ false
+IsPlaceFor by old a places.Taken new = (s : Shared) → takes_session s a ≡ true → IsNobodys by old s a
+IsPlaceFor by old a (places.Ready name) new = IsRoomFor by new a (places.Ready name)

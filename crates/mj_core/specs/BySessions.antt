@@ -2,11 +2,12 @@
 use Rattle.std.specs.Prelude.{◌≡◌, ◌<◌, List, Option, Some, None}
 use Rattle.std.specs.Option.{is_some}
 use Rattle.mj_dev.specs.Talk.{TalkStand, beginning, stand_of}
+use Rattle.mj_sessions.specs.Asked.{Answering as Tells}
 use Rattle.mj_sessions.specs.Events.{Log, talk_on}
 use Rattle.mj_sessions.specs.Follow.{Follow, AreTalks}
 use Rattle.mj_sessions.specs.Named.{Named, Roomy, session_of, TalkLeaves, AreTold}
 use Rattle.mj_core.specs.Answering.{Answering}
-use Rattle.mj_core.specs.Serving.{serving}
+use Rattle.mj_core.specs.Serving.{calling}
 use Rattle.mj_core.specs.Silent.{silent_on}
 
 -- a job whose sessions are those of which its log tells has talked as the protocol says
@@ -16,13 +17,13 @@ told_talks log xs told name = by (session_of name xs) (told name) where
   by None t = (beginning, t.0)
   by (Some s) t = (stand_of s.session, t.0)
 
--- they are those of which the job's log tells, no two with one device
-abbrev pub by_sessions : Answering Roomy
-by_sessions = record {
+-- they are those of which the job's log tells, no two with one device; and what they answer comes of calls to their devices
+abbrev pub by_sessions : Tells → Answering Roomy
+by_sessions tells = record {
   IsOf = λ x log. AreTold log x.sessions;
   Has = λ x name has. is_some (session_of name x.sessions) ≡ has;
   HasRoom = λ x name. (0 < x.room) × (session_of name x.sessions ≡ None);
-  means = serving;
+  means = calling tells;
   talks = λ x log told. told_talks log x.sessions told;
   silent = λ x log a reply none told name. silent_on (λ t. TalkLeaves t (session_of name x.sessions)) name log a reply none (told name);
 }

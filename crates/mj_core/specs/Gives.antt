@@ -14,6 +14,7 @@ use Rattle.mj_jobvm.specs.declared.job.Turn.{Turn}
 use Rattle.mj_jobvm.specs.declared.job.Turn.TheVariants as turns
 use Rattle.mj_jobvm.specs.Run.{Log, replies_of, GoesOn}
 use Rattle.mj_ask.specs.Late.{is_timed_out}
+use Rattle.mj_sessions.specs.Asked.{Answering}
 use Rattle.mj_sys.specs.Shared.{Shared, served}
 use Rattle.mj_sys.specs.History.{state_of, log_of}
 use Rattle.mj_sys.specs.System.{KeepsBusy, history_limit}
@@ -27,7 +28,7 @@ use Rattle.mj_steps.specs.declared.step.Way.TheVariants as ways
 use Rattle.mj_core.specs.Shown.{Shown, was_over, with_over, spent_by, with_spent}
 use Rattle.mj_core.specs.Having.{has_session}
 use Rattle.mj_core.specs.Meaning.{Means}
-use Rattle.mj_core.specs.Serving.{serving}
+use Rattle.mj_core.specs.Serving.{serving, calling}
 use Rattle.mj_core.specs.Runs.{start_in}
 
 -- the turns that a step lets a job go on for
@@ -70,7 +71,7 @@ abbrev pub LiveStepGives : Means → List Routine → Shared → ℕ → Start �
 LiveStepGives means image opening job start late given old (seen.Event at) new =
     (a : Ask) × (reply : Reply) × Makes image start (log_of job old.history) a × IsTimely late a
     × IsReplyTold (state_of opening old.history) job a late reply (state_of opening new.history)
-    × means.Told given a reply ((at ≡ length old.history)
+    × means.Told (log_of job old.history) given a late reply ((at ≡ length old.history)
     × (new ≡ record old { history = old.history ++ record { job = job; ask = a; reply = reply } ∷ []; spent = with_spent old.spent job 0 }))
 LiveStepGives means image opening job start late given old (seen.Busy holder held) new =
     (a : Ask) × Makes image start (log_of job old.history) a × IsTimely late a
@@ -116,6 +117,10 @@ StepGivesBy means opening old step given answer new =
 -- What a step gives where a job's own sessions serve what it asks a device.
 abbrev pub CoreStepGives : Shared → Shown → Step → Result Seen Refusal → Shown → Type 0
 CoreStepGives opening old step answer new = StepGivesBy serving opening old step None answer new
+
+-- What a step gives, and which call to a device each reply comes from: `tells` says which call was the last to a device with these counts.
+abbrev pub DeviceStepGives : Answering → Shared → Shown → Step → Result Seen Refusal → Shown → Type 0
+DeviceStepGives tells opening old step answer new = StepGivesBy (calling tells) opening old step None answer new
 
 -- and so of a job
 abbrev pub Made : Shared → Shown → ℕ → Row → Bool → Result Seen Refusal → Shown → Type 0

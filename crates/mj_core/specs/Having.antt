@@ -41,9 +41,9 @@ IsQuiet log a =
     (name : List ℕ) × (device_of a ≡ Some name)
     × ((last : TalkStand) × Follow beginning (talk_on name log) last × (last.state ≡ states.Open) × (last.rest ≡ None))
 
--- No session of a job can serve what it asks: it has none with that device, or one that has failed; or it is to open a device that nobody holds,
--- though its session with it wasn't ended yet. It has these sessions, by their names, and that log.
+-- No session of a job can serve what it asks: it has none with that device, or one that has failed, of which it asks another thing than its end; or it is to
+-- open a device that nobody holds, though its session with it wasn't ended yet. It has these sessions, by their names, and that log.
 abbrev pub IsUnfitBy : Shared → Log → (List ℕ → Bool) → Ask → Type 0
 IsUnfitBy s log has a =
-    ((name : List ℕ) × (device_of a ≡ Some name) × ((has name ≡ false) ⊎ HasFailed log name))
+    ((name : List ℕ) × (device_of a ≡ Some name) × ((has name ≡ false) ⊎ ((ends_on name a ≡ false) × HasFailed log name)))
     ⊎ ((name : List ℕ) × (opens_on name a ≡ true) × (takes_session s a ≡ true) × (has name ≡ true))

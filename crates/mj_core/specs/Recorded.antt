@@ -41,16 +41,16 @@ IsHeard log a reply (Some heard) = AreHeeds (log ++ (a, reply) ∷ []) heard.0
 -- a job is told what is recorded; no step says that nothing is there to read yet; or what is recorded can't be the reply
 abbrev pub repeating : Means
 repeating = record {
-  Told = λ given a reply rest. IsRecorded given a reply × rest;
+  Told = λ log given a late reply rest. IsRecorded given a reply × rest;
   NotYet = λ log a late rest. ⊥;
   Unfit = λ s log has a late given rest. IsOfDevice a × IsUnheard log a late given × rest;
-  with_told = λ given a reply rest told more. (told.0, more);
+  with_told = λ log given a late reply rest told more. (told.0, more);
   with_not_yet = λ log a late rest not_yet more. not_yet;
   with_unfit = λ s log has a late given rest unfit more. (unfit.0, unfit.1, more);
-  told_rest = λ given a reply rest told. told.1;
+  told_rest = λ log given a late reply rest told. told.1;
   not_yet_rest = λ log a late rest not_yet. absurd not_yet;
   unfit_rest = λ s log has a late given rest unfit. unfit.2;
-  of_no_device = λ given a reply none. ((λ of. absurd (none-some of.0 (sym none ∙ of.1))), tt);
+  of_no_device = λ log given a late reply none. ((λ of. absurd (none-some of.0 (sym none ∙ of.1))), tt);
 }
 
 -- What a step gives where no device is called, for which this is recorded or nothing.

@@ -1,5 +1,5 @@
 -- One job among many, and what a step of it gives.
-use Rattle.std.specs.Prelude.{◌≡◌, ℕ, ◌+◌, ◌≤◌, min, List, [], ◌∷◌, ◌++◌, Bool, true, false, Option, Some, None, ◌⊎◌}
+use Rattle.std.specs.Prelude.{◌≡◌, ℕ, ◌+◌, ◌≤◌, min, List, [], ◌∷◌, ◌++◌, Bool, true, false, Option, Some, None, ◌⊎◌, count_by}
 use Rattle.mj_ask.specs.declared.ask.Ask.{Ask}
 use Rattle.mj_ask.specs.declared.ask.Reply.{Reply}
 use Rattle.mj_ask.specs.declared.ask.Reply.TheVariants as replies
@@ -8,21 +8,26 @@ use Rattle.mj_ast.specs.Syntax.{Routine}
 use Rattle.mj_semantics.specs.Job.{Start}
 use Rattle.mj_load.specs.Image.{Loaded}
 use Rattle.mj_jobs.specs.Rows.{Row, row_at, IsLive}
-use Rattle.mj_jobvm.specs.Run.{GoesOn, HasEnded}
+use Rattle.mj_dev.specs.Heard.{Heard, IsNew}
+use Rattle.mj_jobvm.specs.Run.{Log, GoesOn, HasEnded}
 use Rattle.mj_jobvm.specs.Jobs.{Running, IsRunOf}
 use Rattle.mj_ask.specs.Late.{is_timed_out}
-use Rattle.mj_sys.specs.Shared.{Shared, served}
+use Rattle.mj_sys.specs.declared.served.Served.{Served}
+use Rattle.mj_sys.specs.declared.served.Served.TheVariants as serveds
+use Rattle.mj_sys.specs.Shared.{Shared, served, takes_session}
 use Rattle.mj_sys.specs.History.{state_of, events_of}
 use Rattle.mj_sys.specs.System.{Recorded, Claimed, KeepsBusy}
-use Rattle.mj_sys.specs.Told.{recorded}
+use Rattle.mj_sys.specs.Told.{Serves, recorded}
 use Rattle.mj_steps.specs.declared.step.Refusal.{Refusal}
 use Rattle.mj_steps.specs.declared.step.Refusal.TheVariants as refusals
-use Rattle.mj_core.specs.declared.slot.Made.{Made}
-use Rattle.mj_core.specs.declared.slot.Made.TheVariants as made
+use Rattle.mj_core.specs.declared.parts.Made.{Made}
+use Rattle.mj_core.specs.declared.parts.Made.TheVariants as made
+use Rattle.mj_core.specs.declared.parts.Place.{Place}
+use Rattle.mj_core.specs.declared.parts.Place.TheVariants as places
 use Rattle.mj_core.specs.Happen.{shared_of}
 use Rattle.mj_core.specs.Runs.{start_in}
 use Rattle.mj_core.specs.Gives.{fuel, spent_limit, Makes, IsTimely, IsReplyTold}
-use Rattle.mj_core.specs.Answering.{Answering, HasAll, HasStill, Stays, AreBehind, IsNobodys}
+use Rattle.mj_core.specs.Answering.{Answering, HasAll, HasStill, Stays, AreBehind, IsNobodys, IsRoomFor}
 
 -- a job with its claim, and who answers for it what it asks a device
 pub record Placed (A : Type 0) : Type 0 where
@@ -34,15 +39,28 @@ pub record Placed (A : Type 0) : Type 0 where
 abbrev pub start_of : {A : Type 0} → Placed A → Start
 start_of slot = start_in slot.claim.job slot.claim.start
 
--- the job's row was claimed, and it is that of its claim, which counts its events; it runs the routines from its row's start; and who answers for it is
--- so by its log
-pub record IsTied {A : Type 0} (by : Answering A) (image : Loaded) (opening : Shared) (system : Recorded) (claim : Claimed) (job : Running) (x : A) : Type 0 where
+-- how many asks of what all jobs share a log has
+abbrev pub shared_in : Log → ℕ
+shared_in log = count_by (λ e. is_shared e.0) log
+
+-- The job is that of this claim, whatever the system is: it runs the routines from the claim's start, so that its log is a trace of them; who answers for
+-- it is so by its log, so that its talks obey the device protocol; and its log has as many asks of what all jobs share as the claim counts.
+pub record IsJobOf {A : Type 0} (by : Answering A) (image : Loaded) (claim : Claimed) (job : Running) (x : A) : Type 0 where
+  pub run : IsRunOf image (start_in claim.job claim.start) job
+  pub told : by.IsOf x job.run.log
+  pub shared : claim.events ≡ shared_in job.run.log
+
+-- The claim is one of the system: the row of its job was claimed, starts as the claim says, and had as many events as it counts.
+pub record IsClaimIn (opening : Shared) (system : Recorded) (claim : Claimed) : Type 0 where
   pub numbered : 1 ≤ claim.job
   pub claimed : claim.job ≤ system.claimed
   pub row : (row : Row) × (row_at (state_of opening system.history).rows claim.job ≡ Some row) × (row.start ≡ claim.start)
   pub counted : claim.events ≡ events_of claim.job system.history
-  pub run : IsRunOf image (start_in claim.job claim.start) job
-  pub told : by.IsOf x job.run.log
+
+-- the job is that of a claim of the system
+pub record IsTied {A : Type 0} (by : Answering A) (image : Loaded) (opening : Shared) (system : Recorded) (claim : Claimed) (job : Running) (x : A) : Type 0 where
+  pub own : IsJobOf by image claim job x
+  pub entered : IsClaimIn opening system claim
 
 abbrev pub IsPlaced : {A : Type 0} → Answering A → Loaded → Shared → Recorded → Placed A → Type 0
 IsPlaced by image opening system slot = IsTied by image opening system slot.claim slot.job slot.answerer
@@ -62,7 +80,7 @@ Steps by image opening late given old slot made.Event new slot' =
     × (slot'.job.run.spent ≡ 0)
     × AreBehind by (state_of opening old.history) a slot.answerer slot'.answerer
     × (new ≡ record old { history = old.history ++ shared_of (record { job = slot.claim.job; ask = a; reply = reply } ∷ []) })
-    × by.means.Told given a reply (Unit {0})
+    × by.means.Told slot.job.run.log given a late reply (Unit {0})
 Steps by image opening late given old slot (made.Busy holder held) new slot' =
     (a : Ask) × Makes image (start_of slot) slot.job.run.log a × IsTimely late a
     × (served (state_of opening old.history) slot.claim.job a late ≡ None) × KeepsBusy (state_of opening old.history) slot.claim.job a holder held
@@ -90,13 +108,48 @@ abbrev pub Talks : {A : Type 0} → Answering A → Running → A → Ask → Bo
 Talks by old x a late given made.Event new x' =
     (reply : Reply) × (fits a reply ≡ true) × (reply ≡ replies.Late → is_timed_out (timeout_of a) late ≡ true)
     × GoesOnBy old a reply new × (by.IsOf x old.run.log → by.IsOf x' (old.run.log ++ (a, reply) ∷ []))
-    × ((s : Shared) → AreBehind by s a x x') × by.means.Told given a reply (Unit {0})
+    × ((s : Shared) → AreBehind by s a x x') × (by.IsOf x old.run.log → by.means.Told old.run.log given a late reply (Unit {0}))
 Talks by old x a late given made.NotYet new x' =
     (by.IsOf x old.run.log → by.means.NotYet old.run.log a late (Unit {0})) × (new ≡ old) × Stays by x x'
 Talks by old x a late given made.Unfit new x' =
     ((s : Shared) (has : List ℕ → Bool) → by.IsOf x old.run.log → HasAll by x has → by.means.Unfit s old.run.log has a late given (Unit {0}))
     × (new ≡ old) × Stays by x x'
 Talks by old x a late given _ new x' = ⊥
+
+-- What the system comes to for a job with such a place, where it alone is asked: it serves the ask; or, where a session would go to a job that has one
+-- with that device, it serves nothing.
+abbrev pub IsServedAt : Shared → Recorded → Claimed → Ask → Place → Bool → Option (Served Heard) → Recorded → Claimed → Type 0
+IsServedAt opening old claim a place late None new claim' =
+    (place ≡ places.Taken) × (takes_session (state_of opening old.history) a ≡ true) × (new ≡ old) × (claim' ≡ claim)
+IsServedAt opening old claim a place late (Some told) new claim' =
+    Serves opening old claim a late told new claim' × (place ≡ places.Taken → takes_session (state_of opening old.history) a ≡ false)
+
+-- What was served can be told to a job that asks this: the reply fits; and a session that goes to it is new, and has its place.
+abbrev pub CanBeTold : {A : Type 0} → Answering A → A → Ask → Place → Served Heard → Type 0
+CanBeTold by x a place (serveds.Reply reply) = fits a reply ≡ true
+CanBeTold by x a place (serveds.Opened session) = IsNew session × IsRoomFor by x a place
+CanBeTold by x a place (serveds.Busy holder held) = Unit {0}
+
+-- a claim behind what its job was told: one event more, but where it was busy
+abbrev pub claim_behind : Claimed → Served Heard → Claimed
+claim_behind claim (serveds.Busy holder held) = claim
+claim_behind claim _ = record claim { events = claim.events + 1 }
+
+-- what comes of a step by what was served
+abbrev pub made_of : Served Heard → Made
+made_of (serveds.Busy holder held) = made.Busy holder held
+made_of _ = made.Event
+
+-- The job is told what was served, whatever the system is: it goes on by the reply; and the sessions that it has behind it are those that it had, and
+-- one more where one goes to it. Where the ask is busy, it isn't told.
+abbrev pub TakesUp : {A : Type 0} → Answering A → Running → A → Ask → Served Heard → Running → A → Type 0
+TakesUp by old x a (serveds.Reply reply) new x' =
+    GoesOnBy old a reply new × (by.IsOf x old.run.log → by.IsOf x' (old.run.log ++ (a, reply) ∷ []))
+    × ((s : Shared) → takes_session s a ≡ false → AreBehind by s a x x')
+TakesUp by old x a (serveds.Opened session) new x' =
+    GoesOnBy old a replies.Got new × (by.IsOf x old.run.log → by.IsOf x' (old.run.log ++ (a, replies.Got) ∷ []))
+    × ((s : Shared) → takes_session s a ≡ true → AreBehind by s a x x')
+TakesUp by old x a (serveds.Busy holder held) new x' = (new ≡ old) × Stays by x x'
 
 -- what a job that asks is told by the system, or isn't
 abbrev pub Shares : {A : Type 0} → Answering A → Shared → Recorded → Claimed → Running → A → Ask → Bool → Made → Recorded → Claimed → Running → A → Type 0

@@ -8,7 +8,7 @@ ghost use Rattle.mj_dev.specs.Pools.{shelves_of};
 ghost use Rattle.mj_dev.specs.Shelves.{principal, left_of};
 ghost use Rattle.mj_jobs.specs.Rows.{rows_limit};
 ghost use Rattle.mj_sessions.specs.Events.{Log};
-ghost use Rattle.mj_sys.specs.Opening.{opening_of};
+ghost use Rattle.mj_sys.specs.Opening.{opening_of, are_bare};
 ghost use Rattle.mj_sys.specs.Shared.{are_global};
 ghost use Rattle.mj_expect.specs.Heeds.{AreHeeds};
 ghost use Rattle.mj_core.specs.Answering.{Answers};
@@ -135,11 +135,12 @@ impl<O: Opening> Core<Blank, Heeds, O> {
         sessions: Vec<(Text, u32)>,
         starts: Vec<Start>,
     ) -> Result<Core<Blank, Heeds, O>, AllocError>
-        requires opening { opening_of globals (shelves_of sessions.items) starts.items ≡ O.opening }
-        requires global { are_global globals ≡ true }
+        requires opening { opening_of globals.content (shelves_of sessions.items) starts.items ≡ O.opening }
+        requires global { are_global globals.content ≡ true }
         requires some { 1 ≤ length starts.items }
         requires few { length starts.items ≤ rows_limit }
         requires fits { length starts.items ≤ left_of principal (shelves_of sessions.items) }
+        requires bare { are_bare starts.items ≡ true }
         ensures ok { IfOk result (λ core. core ≡ begun image) }
     {
         match pool_of(alloc, &sessions) {

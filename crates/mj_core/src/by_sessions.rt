@@ -2,11 +2,12 @@
 
 ghost use Rattle.std.specs.Prelude.{◌≡◌, ◌<◌, ℕ, List, Bool, true, None, if◌then◌else◌, IfOk, OnErr};
 ghost use Rattle.std.specs.Str.{bytes_eq};
+ghost use Rattle.mj_dev.specs.Told.{IsToldBy};
 ghost use Rattle.mj_load.specs.Image.{routines_of};
 ghost use Rattle.mj_locktab.specs.Locks.{LocksApart};
 ghost use Rattle.mj_sessions.specs.Events.{Log};
 ghost use Rattle.mj_sys.specs.History.{state_of};
-ghost use Rattle.mj_core.specs.Gives.{CoreStepGives, RunGives};
+ghost use Rattle.mj_core.specs.Gives.{CoreStepGives, DeviceStepGives, RunGives};
 ghost use Rattle.mj_core.specs.Runs.{IsRun};
 
 use crate::answerer::{Answerer, Fresh, Unplaced};
@@ -21,9 +22,10 @@ use mj_text::Text;
 use std::alloc::{AllocError, Global};
 
 impl<D: Device> Answerer<Fresh<D>> for Sessions<D> {
+    ghost use Rattle.mj_dev.specs.Told.{IsToldBy};
     ghost use Rattle.mj_core.specs.BySessions.{by_sessions};
 
-    ghost answering = { by_sessions };
+    ghost answering = { by_sessions (IsToldBy D.inside D.failures D.taken D.given D.IsTold) };
 
     fn new(alloc: Global) -> Sessions<D> {
         Sessions::new(alloc)
@@ -40,10 +42,11 @@ impl<D: Device> Answerer<Fresh<D>> for Sessions<D> {
     }
 
     fn open(&mut self, name: Text, session: Fresh<D>)
-        requires { by_sessions.HasRoom self.old name }
-        ensures of { (log : Log) → by_sessions.IsOf self.old log → by_sessions.IsOf self.new log }
-        ensures there { (other : List ℕ) (has : Bool) → by_sessions.Has self.old other has
-            → by_sessions.Has self.new other (if bytes_eq name other then true else has) }
+        requires { (by_sessions (IsToldBy D.inside D.failures D.taken D.given D.IsTold)).HasRoom self.old name }
+        ensures of { (log : Log) → (by_sessions (IsToldBy D.inside D.failures D.taken D.given D.IsTold)).IsOf self.old log
+            → (by_sessions (IsToldBy D.inside D.failures D.taken D.given D.IsTold)).IsOf self.new log }
+        ensures there { (other : List ℕ) (has : Bool) → (by_sessions (IsToldBy D.inside D.failures D.taken D.given D.IsTold)).Has self.old other has
+            → (by_sessions (IsToldBy D.inside D.failures D.taken D.given D.IsTold)).Has self.new other (if bytes_eq name other then true else has) }
     {
         self.open(name, session.session());
     }
@@ -56,7 +59,8 @@ impl<D: Device> Answerer<Fresh<D>> for Sessions<D> {
 impl<D: Device, O: Opening> Core<D, Sessions<D>, O> {
     /// Makes a step: the job goes on for at most 10,000 turns to its next ask, which is served. Where it isn't made, nothing is asked or told.
     pub fn step(&mut self, step: Step) -> Result<Seen, Refusal>
-        ensures { CoreStepGives O.opening self.old step result self.new }
+        ensures gives { CoreStepGives O.opening self.old step result self.new }
+        ensures called { DeviceStepGives (IsToldBy D.inside D.failures D.taken D.given D.IsTold) O.opening self.old step result self.new }
     {
         self.make(step, None)
     }

@@ -10,7 +10,7 @@
 // (`by_record.rt`).
 //
 // `Core` (`together.rt`) keeps all jobs and the history; what a step of it gives says `specs/Gives.antt`, and the theorem on lists of steps is the
-// contract of `run`, over sessions. One job's step among many is in `slot.rt`.
+// contract of `run`, over sessions. One job's step among many is in `slot.rt`; `parts.rt` has its parts apart, for who shares the system under a lock.
 #![tactic(auto)]
 
 mod answerer;
@@ -18,6 +18,7 @@ mod by_record;
 mod by_sessions;
 mod happened;
 mod laws;
+mod parts;
 mod seen;
 mod slot;
 mod together;
@@ -26,6 +27,7 @@ pub use answerer::{Answerer, Fresh, Unplaced};
 pub use happened::Happened;
 pub use laws::ended_by_halt;
 pub use mj_steps::{Refusal, Step, Way};
+pub use parts::{Made, Place, make_place, serve_at, take_up, talk};
 pub use seen::{Ready, Seen};
-pub use slot::{FUEL, Made, Slot, step_slot};
+pub use slot::{FUEL, Slot, step_slot};
 pub use together::Core;

@@ -16,7 +16,7 @@ pub enum Seen {
     },
     /// there is nothing to read yet
     NotYet,
-    /// nobody can answer what the job asks: it has no session for it, or what is recorded can't be the reply
+    /// nobody can answer what the job asks: it has no session for it, which never comes in a run, or what is recorded can't be the reply
     Unfit,
     /// the job asked nothing within 10,000 turns
     Ran,

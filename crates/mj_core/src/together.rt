@@ -1,13 +1,14 @@
 // Many jobs over one system.
 
-ghost use Rattle.std.specs.Prelude.{◌≡◌, ◌<◌, ◌≤◌, ℕ, suc, List, [], length, replicate, Bool, true, false, Option, Some, None, IsSome, slice_get, vec_len, vec_capacity, IfOk, IfErr, OnOk, OnErr, IfSome, IfNone, option_copied};
+ghost use Rattle.std.specs.Prelude.{◌≡◌, ◌<◌, ◌≤◌, ℕ, suc, List, [], length, replicate, Bool, true, false, Option, Some, None, IsSome, slice_get, vec_len};
+ghost use Rattle.std.specs.Prelude.{vec_capacity, IfOk, IfErr, OnOk, OnErr, IfSome, IfNone, option_copied};
 ghost use Rattle.mj_load.specs.Image.{routines_of};
 ghost use Rattle.mj_dev.specs.Shelves.{principal, left_of};
 ghost use Rattle.mj_jobs.specs.Rows.{Row, row_at, rows_limit, IsLive};
 ghost use Rattle.mj_jobvm.specs.Jobs.{IsRunOf};
 ghost use Rattle.mj_locktab.specs.Locks.{LocksApart};
 ghost use Rattle.mj_sys.specs.History.{state_of, log_of};
-ghost use Rattle.mj_sys.specs.Opening.{opening_of};
+ghost use Rattle.mj_sys.specs.Opening.{opening_of, are_bare, NoneIsOpen};
 ghost use Rattle.mj_sys.specs.Shared.{are_global};
 ghost use Rattle.mj_sys.specs.System.{Claimed, history_limit};
 ghost use Rattle.mj_core.specs.Woven.{woven};
@@ -20,8 +21,9 @@ ghost use Rattle.std.specs.Fn.{FnOnceReturnsAt};
 
 use crate::answerer::{Answerer, Fresh};
 use crate::happened::Happened;
+use crate::parts::Made;
 use crate::seen::{Ready, Seen};
-use crate::slot::{FUEL, Made, Slot, step_slot};
+use crate::slot::{FUEL, Slot, step_slot};
 use mj_ask::{Ask, Reply, Start};
 use mj_dev::{Device, Pool};
 use mj_globs::Globals;
@@ -87,11 +89,12 @@ impl<D: Device, A: Answerer<Fresh<D>>, O: Opening> Core<D, A, O> {
         pool: Pool<D>,
         starts: Vec<Start>,
     ) -> Result<Core<D, A, O>, Unmade<D>>
-        requires opening { opening_of globals pool starts.items ≡ O.opening }
-        requires global { are_global globals ≡ true }
+        requires opening { opening_of globals.content pool starts.items ≡ O.opening }
+        requires global { are_global globals.content ≡ true }
         requires some { 1 ≤ length starts.items }
         requires few { length starts.items ≤ rows_limit }
         requires fits { length starts.items ≤ left_of principal pool }
+        requires bare { are_bare starts.items ≡ true }
         ensures ok { IfOk result (λ core. core ≡ begun image) }
         ensures globals { IfErr result (λ back. back.globals ≡ globals) }
         ensures pool { IfErr result (λ back. back.pool ≡ pool) }
@@ -224,11 +227,15 @@ impl<D: Device, A: Answerer<Fresh<D>>, O: Opening> Core<D, A, O> {
         &self.image
     }
 
-    /// How many events there are. The history is a run, whatever steps were made.
+    /// How many events there are. The history is a run, whatever steps were made, from an opening at which no transaction is open, and no longer
+    /// than it may be.
     pub fn len(&self) -> usize
         ensures value { result ≡ length self.now.history }
+        ensures within { length self.now.history ≤ history_limit }
         ensures run { IsRun (routines_of self.now.image) O.opening self.now.history }
+        ensures none_open { NoneIsOpen O.opening }
     {
+        let _rows = self.system.rows(); // for the proof
         self.order.len()
     }
 
@@ -244,15 +251,15 @@ impl<D: Device, A: Answerer<Fresh<D>>, O: Opening> Core<D, A, O> {
 
     /// The globals: those that the history leaves.
     pub fn globals(&self) -> &Globals
-        ensures { result.now ≡ (state_of O.opening self.now.history).globals }
+        ensures { result.now.content ≡ (state_of O.opening self.now.history).globals }
     {
         self.system.globals()
     }
 
     /// Who holds which names: as the history leaves it. No name of one job overlaps a name of another.
     pub fn locks(&self) -> &LockTable
-        ensures replay { result.now ≡ (state_of O.opening self.now.history).locks }
-        ensures apart { LocksApart result.now }
+        ensures replay { result.now.holds ≡ (state_of O.opening self.now.history).locks }
+        ensures apart { LocksApart result.now.holds }
     {
         self.system.locks()
     }

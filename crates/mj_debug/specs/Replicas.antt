@@ -7,7 +7,7 @@ use Rattle.mj_jobs.specs.Rows.{rows_limit}
 use Rattle.mj_load.specs.Image.{Loaded, routines_of}
 use Rattle.mj_jobvm.specs.Jobs.{Running}
 use Rattle.mj_sys.specs.declared.event.Event.{Event}
-use Rattle.mj_sys.specs.Opening.{opening_of}
+use Rattle.mj_sys.specs.Opening.{opening_of, are_bare}
 use Rattle.mj_sys.specs.Shared.{Shared, are_global}
 use Rattle.mj_sys.specs.History.{History, state_of}
 use Rattle.mj_sys.specs.System.{Recorded}
@@ -36,6 +36,7 @@ pub record BeginsRun (opening : Shared) (kept : Keeping) : Type 0 where
   pub some : 1 ≤ length kept.starts
   pub few : length kept.starts ≤ rows_limit
   pub fit : length kept.starts ≤ left_of principal (shelves_of kept)
+  pub bare : are_bare kept.starts ≡ true
   pub rising : AreRising (shelves_of kept)
   pub counted : All (λ count. 1 ≤ count.1) kept.counts
 

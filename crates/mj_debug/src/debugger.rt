@@ -1,6 +1,7 @@
 // A debugger.
 
-ghost use Rattle.std.specs.Prelude.{◌≡◌, ◌≤◌, List, [], ◌∷◌, length, map, replicate, All, true, false, Ok, OnOk, OnErr, IfOk, IfErr, IfSome, IfNone, Some, None};
+ghost use Rattle.std.specs.Prelude.{◌≡◌, ◌≤◌, List, [], ◌∷◌, length, map, replicate, All, true, false, Ok, OnOk, OnErr, IfOk, IfErr, IfSome, IfNone, Some};
+ghost use Rattle.std.specs.Prelude.{None};
 ghost use Rattle.mj_dev.specs.Shelves.{principal, left_of};
 ghost use Rattle.mj_frames.specs.Frames.{frames_of, place_at};
 ghost use Rattle.mj_jobs.specs.Rows.{row_at, rows_limit};
@@ -11,7 +12,7 @@ ghost use Rattle.mj_load.specs.Image.{routines_of};
 ghost use Rattle.mj_semantics.specs.State as states;
 ghost use Rattle.mj_semantics.specs.State.{place_of};
 ghost use Rattle.mj_sys.specs.History.{state_of};
-ghost use Rattle.mj_sys.specs.Opening.{opening_of};
+ghost use Rattle.mj_sys.specs.Opening.{opening_of, are_bare};
 ghost use Rattle.mj_sys.specs.Shared.{are_global};
 ghost use Rattle.mj_sys.specs.System.{history_limit};
 ghost use Rattle.mj_core.specs.Gives.{CoreStepGives, GivesReady};
@@ -131,11 +132,12 @@ impl<D: Device, O: Opening> Debugger<D, Sessions<D>, O> {
         pool: Pool<D>,
         starts: Vec<Start>,
     ) -> Result<Debugger<D, Sessions<D>, O>, Unmade<D>>
-        requires opening { opening_of globals pool starts.items ≡ O.opening }
-        requires global { are_global globals ≡ true }
+        requires opening { opening_of globals.content pool starts.items ≡ O.opening }
+        requires global { are_global globals.content ≡ true }
         requires some { 1 ≤ length starts.items }
         requires few { length starts.items ≤ rows_limit }
         requires fits { length starts.items ≤ left_of principal pool }
+        requires bare { are_bare starts.items ≡ true }
         requires whole { AreWhole pool }
         ensures core { IfOk result (λ d. d.core ≡ begun image) }
         ensures image { IfOk result (λ d. d.core.image ≡ image) }
@@ -268,7 +270,7 @@ impl<D: Device, O: Opening> Debugger<D, Sessions<D>, O> {
     /// The committed globals at the place.
     pub fn globals(&self) -> &Globals
         requires { self.now.ready ≡ true }
-        ensures { result.now ≡ (state_of O.opening (front self.now)).globals }
+        ensures { result.now.content ≡ (state_of O.opening (front self.now)).globals }
     {
         match self.shown() {
             Ok(view) => view.globals(),
@@ -279,7 +281,7 @@ impl<D: Device, O: Opening> Debugger<D, Sessions<D>, O> {
     /// Who holds which names at the place.
     pub fn locks(&self) -> &LockTable
         requires { self.now.ready ≡ true }
-        ensures { result.now ≡ (state_of O.opening (front self.now)).locks }
+        ensures { result.now.holds ≡ (state_of O.opening (front self.now)).locks }
     {
         match self.shown() {
             Ok(view) => view.locks(),

@@ -141,7 +141,11 @@ impl Sink for Left {
 
     ghost nothing = { λ _. tt };
 
+    ghost closes = { λ _ _ _. Unit {0} };
+
     ghost more = { λ _ _ _ _ _ _ _. tt };
+
+    ghost closed = { λ _ _ _ _ _ _ _. tt };
 
     fn take(
         &mut self,

@@ -7,7 +7,7 @@ ghost use Rattle.mj_dev.specs.Shelves.{principal, left_of};
 ghost use Rattle.mj_jobs.specs.Rows.{IsLive, rows_limit};
 ghost use Rattle.mj_load.specs.Image.{routines_of};
 ghost use Rattle.mj_sys.specs.History.{History, state_of};
-ghost use Rattle.mj_sys.specs.Opening.{opening_of};
+ghost use Rattle.mj_sys.specs.Opening.{opening_of, are_bare};
 ghost use Rattle.mj_sys.specs.Shared.{are_global};
 ghost use Rattle.mj_sys.specs.System.{history_limit};
 ghost use Rattle.mj_debug.specs.Replays.{event_of, history_of, Says};
@@ -43,11 +43,12 @@ pub fn replay<D: Device, O: Opening>(
     starts: Vec<Start>,
     events: &[(u32, Ask, Reply)],
 ) -> Result<Verdict, AllocError>
-    requires opening { opening_of globals pool starts.items ≡ O.opening }
-    requires global { are_global globals ≡ true }
+    requires opening { opening_of globals.content pool starts.items ≡ O.opening }
+    requires global { are_global globals.content ≡ true }
     requires some { 1 ≤ length starts.items }
     requires few { length starts.items ≤ rows_limit }
     requires fits { length starts.items ≤ left_of principal pool }
+    requires bare { are_bare starts.items ≡ true }
     requires short { length events.now ≤ history_limit }
     ensures { IfOk result (λ verdict. Says (routines_of image.now) O.opening (history_of events.now) verdict) }
 {

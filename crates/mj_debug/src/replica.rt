@@ -53,7 +53,7 @@ impl Model for Kept {
 
     ghost Value = { Keeping };
 
-    ghost view = { λ k. record { globals = k.globals; counts = k.counts.items; starts = k.starts.items } };
+    ghost view = { λ k. record { globals = k.globals.content; counts = k.counts.items; starts = k.starts.items } };
 }
 
 // The first events of a record, played again.
@@ -171,14 +171,14 @@ impl<O: Opening> Replica<O> {
 
     // The globals.
     pub fn globals(&self) -> &Globals
-        ensures { result.now ≡ (state_of O.opening self.now.system.history).globals }
+        ensures { result.now.content ≡ (state_of O.opening self.now.system.history).globals }
     {
         self.system.globals()
     }
 
     // Who holds which names.
     pub fn locks(&self) -> &LockTable
-        ensures { result.now ≡ (state_of O.opening self.now.system.history).locks }
+        ensures { result.now.holds ≡ (state_of O.opening self.now.system.history).locks }
     {
         self.system.locks()
     }
@@ -370,7 +370,7 @@ pub fn keep<D: Device>(
     starts: &[Start],
 ) -> Result<Kept, AllocError>
     requires { AreWhole pool.now }
-    ensures globals { IfOk result (λ kept. kept.globals ≡ globals.now) }
+    ensures globals { IfOk result (λ kept. kept.globals ≡ globals.now.content) }
     ensures pool { IfOk result (λ kept. shelves_of kept ≡ pool.now) }
     ensures starts { IfOk result (λ kept. kept.starts ≡ starts.now) }
     ensures counted { IfOk result (λ kept. All (λ count. 1 ≤ count.1) kept.counts) }

@@ -92,7 +92,7 @@ pub fn locks_at<D: Device, O: Opening>(
 
 // Writes the lines of the names in a table.
 fn lock_lines(alloc: Global, locks: &LockTable) -> Result<Vec<u8>, AllocError>
-    ensures { IfOk result (λ bytes. bytes.items ≡ held_lines locks.now) }
+    ensures { IfOk result (λ bytes. bytes.items ≡ held_lines locks.now.holds) }
 {
     let held = locks.held(alloc)?;
     let mut bytes = Vec::new(alloc);

@@ -3,7 +3,8 @@
 ghost use Rattle.std.specs.Prelude.{◌≡◌, ◌++◌, ◌∷◌, [], false, IfOk, OnOk};
 ghost use Rattle.mj_ask.specs.Fits.{is_shared};
 ghost use Rattle.mj_sessions.specs.Events.{Log, did_of, input_of, code_of};
-ghost use Rattle.mj_expect.specs.Heeds.{heed_of, with_heed, heed_by, after_call, after_end, after_line, rest_line, after_byte, one_more, AreHeeds, Heard, TakesIn};
+ghost use Rattle.mj_expect.specs.Heeds.{heed_of, with_heed, heed_by, after_call, after_end, after_line, rest_line, after_byte, one_more, AreHeeds, Heard};
+ghost use Rattle.mj_expect.specs.Heeds.{TakesIn};
 
 use mj_ask::{Ask, DeviceAsk, Reply};
 use mj_text::{TEXT_LIMIT, Text};

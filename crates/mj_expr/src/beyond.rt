@@ -5,7 +5,9 @@ ghost use Rattle.mj_ast.specs.Expressions.{symbol};
 ghost use Rattle.mj_ast.specs.Tokens.{Token as SpelledToken};
 ghost use Rattle.mj_expr.specs.Machine.{Whole, Target, Wanted, Sought, Front, AsTarget, Alone, unary_of, binary_of};
 ghost use Rattle.mj_expr.specs.Reads.{symbols_seen, BeginsNone};
-ghost use Rattle.mj_expr.specs.Shapes.{IsEndOf, PassesAs, sort_of as the_sort, stray_turn, comma_turn, close_turn, colon_turn, behind_turn, bare_goes as the_bare, operand_turn, variable_turn, name_turn, arguments_turn, subscripts_turn, inside as the_inside, turn_at, may_end, is_last, ended as the_end, led as the_lead, IsLed, pass, AdvancesFrom, EndsFrom};
+ghost use Rattle.mj_expr.specs.Shapes.{IsEndOf, PassesAs, sort_of as the_sort, stray_turn, comma_turn, close_turn, colon_turn, behind_turn};
+ghost use Rattle.mj_expr.specs.Shapes.{bare_goes as the_bare, operand_turn, variable_turn, name_turn, arguments_turn, subscripts_turn, inside as the_inside};
+ghost use Rattle.mj_expr.specs.Shapes.{turn_at, may_end, is_last, ended as the_end, led as the_lead, IsLed, pass, AdvancesFrom, EndsFrom};
 ghost use Rattle.mj_lex.specs.Seen.{token_seen, tokens_seen};
 
 use crate::stop::ParseError;

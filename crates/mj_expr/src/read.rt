@@ -5,7 +5,8 @@ ghost use Rattle.mj_ast.specs.declared.expr.Scope.{Scope};
 ghost use Rattle.mj_ast.specs.Trees.{operand_of, expr_of, variable_of, exprs_of, choice_of};
 ghost use Rattle.mj_expr.specs.Lists.{choices_of};
 ghost use Rattle.mj_expr.specs.Reads.{symbols_seen, HasNoBinary};
-ghost use Rattle.mj_expr.specs.Readers.{ReadsOperand, ReadsGroup, ReadsOther, ReadsCall, ReadsAbout, ReadsChoices, ReadsChosen, ReadsOthers, ReadsGlobal, ReadsNamed, ReadsSought, ReadsExpr, ReadsList};
+ghost use Rattle.mj_expr.specs.Readers.{ReadsOperand, ReadsGroup, ReadsOther, ReadsCall, ReadsAbout, ReadsChoices, ReadsChosen, ReadsOthers, ReadsGlobal};
+ghost use Rattle.mj_expr.specs.Readers.{ReadsNamed, ReadsSought, ReadsExpr, ReadsList};
 
 use crate::list::added;
 use crate::stop::ParseError;

@@ -3,10 +3,13 @@
 ghost use Rattle.std.specs.Prelude.{◌≡◌, ◌+◌, List, ◌∷◌, ◌<◌, ◌≤◌, [], length, nat_le, ◌&&◌, if◌then◌else◌, IfOk, MatchOption};
 ghost use Rattle.mj_expr.specs.declared.stop.ParseError.TheVariants.{Stuck, Long};
 ghost use Rattle.std.specs.Str.{str_eq_ignore_ascii_case};
-ghost use Rattle.mj_ast.specs.Expressions.{Symbol, symbol, constant_of, Constant, Name, Mark, Other, callee_of, special_of, is_named, least as least_of_function, most as most_of_function, least_subscripts as least_subscripts_of, most_others as most_others_of, levels as levels_of_callee};
+ghost use Rattle.mj_ast.specs.Expressions.{Symbol, symbol, constant_of, Constant, Name, Mark, Other, callee_of, special_of, is_named};
+ghost use Rattle.mj_ast.specs.Expressions.{least as least_of_function, most as most_of_function, least_subscripts as least_subscripts_of};
+ghost use Rattle.mj_ast.specs.Expressions.{most_others as most_others_of, levels as levels_of_callee};
 ghost use Rattle.mj_ast.specs.declared.sign.Sign.TheVariants.{Caret, Open, Close, Comma, Colon};
 ghost use Rattle.mj_expr.specs.Machine.{unary_of, binary_of, refused_in};
-ghost use Rattle.mj_expr.specs.Reads.{symbols_seen, Refuses, IsHead, HasNoBinary, HasNoOpen, HasNoComma, HasNoColon, HasNoClose, HasNoCaret, HasNoName, least_in, most_in, limited_in, StartsWith, StartsWithBinary, StartsWithName};
+ghost use Rattle.mj_expr.specs.Reads.{symbols_seen, Refuses, IsHead, HasNoBinary, HasNoOpen, HasNoComma, HasNoColon, HasNoClose, HasNoCaret, HasNoName};
+ghost use Rattle.mj_expr.specs.Reads.{least_in, most_in, limited_in, StartsWith, StartsWithBinary, StartsWithName};
 ghost use Rattle.mj_num.specs.Number.{reading};
 ghost use Rattle.mj_lex.specs.Seen.{token_seen};
 

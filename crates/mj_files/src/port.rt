@@ -4,7 +4,8 @@ ghost use Rattle.std.specs.Prelude.{◌≡◌, [], true, false, OnOk, OnErr, IfO
 ghost use Rattle.std.specs.Option.{is_some};
 ghost use Rattle.mj_files.specs.Ported.{untouched, HasFile, PortBegins, Gets};
 
-use crate::bytes::{Trouble, whole};
+use crate::bytes::Trouble;
+use crate::reading::file_bytes;
 use mj_dev::{Device, Did, Input, Lines};
 use mj_text::Text;
 use std::alloc::Global;
@@ -100,8 +101,8 @@ impl<R: Files + Drop> Port<R> {
         let Some(source) = &self.source else {
             return Ok(None);
         };
-        let mut file = File::open(&source.files, source.path.as_str())?;
-        Ok(Some(whole(self.alloc, &mut file)?))
+        let bytes = file_bytes(self.alloc, &source.files, source.path.as_str())?;
+        Ok(Some(bytes))
     }
 
     // The file that it writes to, if it is to, with nothing in it.

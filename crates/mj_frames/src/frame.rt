@@ -14,7 +14,7 @@ pub struct Place {
 }
 
 impl Place {
-    /// The same place once more.
+    /// A copy of it.
     pub fn try_clone(&self) -> Result<Place, AllocError>
         ensures routine { IfOk result (λ place. place.routine ≡ self.now.routine) }
         ensures line { IfOk result (λ place. place.line ≡ self.now.line) }

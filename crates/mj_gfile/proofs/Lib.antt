@@ -5,3 +5,4 @@ pub mod Lines
 pub mod Nodes
 mod Global
 pub mod InOrder
+mod Sizes

@@ -21,10 +21,10 @@ use std::alloc::Global;
 /// none: in a line, one that isn't spelled so before one over a limit, and that before one out of order. Up to the refused line the bytes
 /// are the listing of some globals.
 pub fn read(alloc: Global, bytes: &[u8]) -> Result<Globals, ReadError>
-    ensures ok { IfOk result (λ globals. reading_of bytes.now ≡ Ok globals) }
+    ensures ok { IfOk result (λ globals. reading_of bytes.now ≡ Ok globals.content) }
     ensures err { IfErr result (λ e. (e ≡ error.Memory) ⊎ (reading_of bytes.now ≡ Err e)) }
-    ensures lists { IfOk result (λ globals. (bytes.now ≡ listing_of globals) × AreGlobals globals) }
-    ensures global { IfOk result (λ globals. list_all (λ e. e.0.global) globals ≡ true) }
+    ensures lists { IfOk result (λ globals. (bytes.now ≡ listing_of globals.content) × AreGlobals globals.content) }
+    ensures global { IfOk result (λ globals. list_all (λ e. e.0.global) globals.content ≡ true) }
     ensures refused { IfErr result (λ e. IsListingRefused bytes.now e) }
     ensures all { (content : Content) → bytes.now ≡ listing_of content → AreGlobals content → IfErr result (λ e. e ≡ error.Memory) }
 {
@@ -33,7 +33,7 @@ pub fn read(alloc: Global, bytes: &[u8]) -> Result<Globals, ReadError>
 
 // The globals that the header and the lines behind it list.
 fn read_lines(alloc: Global, bytes: &[u8]) -> Result<Globals, ReadError>
-    ensures ok { IfOk result (λ globals. reading_of bytes.now ≡ Ok globals) }
+    ensures ok { IfOk result (λ globals. reading_of bytes.now ≡ Ok globals.content) }
     ensures err { IfErr result (λ e. (e ≡ error.Memory) ⊎ (reading_of bytes.now ≡ Err e)) }
 {
     let Some((first, rest)) = split_line(bytes) else {
@@ -48,7 +48,7 @@ fn read_lines(alloc: Global, bytes: &[u8]) -> Result<Globals, ReadError>
 // The globals that the lines behind the header list.
 fn read_nodes(alloc: Global, bytes: &[u8]) -> Result<Globals, ReadError>
     requires { length bytes.now + 2 < 2 ^ 64 }
-    ensures ok { IfOk result (λ globals. nodes_of None 2 (lines_of bytes.now) ≡ Ok globals) }
+    ensures ok { IfOk result (λ globals. nodes_of None 2 (lines_of bytes.now) ≡ Ok globals.content) }
     ensures err { IfErr result (λ e. (e ≡ error.Memory) ⊎ (nodes_of None 2 (lines_of bytes.now) ≡ Err e)) }
 {
     let mut globals = Globals::new(alloc);
@@ -72,9 +72,9 @@ fn put_nodes(
     last: &mut Option<Name>,
 ) -> Result<(), ReadError>
     requires long { length bytes.now + 2 < 2 ^ 64 }
-    requires globals { globals.old ≡ [] }
+    requires globals { globals.old.content ≡ [] }
     requires last { last.old ≡ None }
-    ensures ok { IfOk result (λ u. nodes_of None 2 (lines_of bytes.now) ≡ Ok globals.new) }
+    ensures ok { IfOk result (λ u. nodes_of None 2 (lines_of bytes.now) ≡ Ok globals.new.content) }
     ensures err { IfErr result (λ e. (e ≡ error.Memory) ⊎ (nodes_of None 2 (lines_of bytes.now) ≡ Err e)) }
 {
     let mut number = 2;
@@ -99,7 +99,7 @@ fn put_node(
     globals: &mut Globals,
     last: &mut Option<Name>,
 ) -> Result<(), ReadError>
-    ensures ok { IfOk result (λ u. IsPut last.old number line.now globals.old last.new globals.new) }
+    ensures ok { IfOk result (λ u. IsPut last.old number line.now globals.old.content last.new globals.new.content) }
     ensures err { IfErr result (λ e. (e ≡ error.Memory) ⊎ (judged last.old number (line_of line.now) ≡ Err e)) }
 {
     let (name, text) = read_node(alloc, line, number, last.as_ref())?;

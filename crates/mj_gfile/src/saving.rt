@@ -18,7 +18,7 @@ const PART: usize = 65_536;
 
 /// The listing of a store, as bytes.
 pub fn write(alloc: Global, globals: &Globals) -> Result<Vec<u8>, AllocError>
-    ensures { IfOk result (λ bytes. bytes.items ≡ listing_of globals.now) }
+    ensures { IfOk result (λ bytes. bytes.items ≡ listing_of globals.now.content) }
 {
     match write_to(alloc, globals, Vec::new(alloc)) {
         Ok(bytes) => Ok(bytes),
@@ -29,7 +29,7 @@ pub fn write(alloc: Global, globals: &Globals) -> Result<Vec<u8>, AllocError>
 /// Writes the listing of a store to a writer, a part at a time, and gives the writer back. Beside a part and a line it takes no memory. After a refusal
 /// a front of the listing may have been written.
 pub fn write_to<W: Write + Drop>(alloc: Global, globals: &Globals, out: W) -> Result<W, SinkStop>
-    ensures { IfOk result (λ given. Appends (W.contents out) (W.contents given) (listing_of globals.now)) }
+    ensures { IfOk result (λ given. Appends (W.contents out) (W.contents given) (listing_of globals.now.content)) }
 {
     let mut lines = Lines {
         bytes: first_line(alloc)?,
@@ -71,6 +71,11 @@ impl<W: Write> Sink for Lines<W> {
     ghost more = { λ r s t xs ys one two.
         lines_more (with_waiting (W.contents r.out) r.bytes.items) (with_waiting (W.contents s.out) s.bytes.items)
         (with_waiting (W.contents t.out) t.bytes.items) xs ys one two };
+
+    // Of what a writer closes at nothing is said.
+    ghost closes = { λ _ _ _. Unit {0} };
+
+    ghost closed = { λ _ _ _ _ _ _ _. tt };
 
     fn take(
         &mut self,

@@ -1,8 +1,12 @@
 // Lines of listings, and their fields, are put to the end of bytes.
 
-ghost use Rattle.std.specs.Prelude.{◌≡◌, ◌<◌, ◌++◌, ◌∷◌, [], if◌then◌else◌, is_ok, IfOk, OnOk};
+ghost use Rattle.std.specs.Prelude.{◌≡◌, ◌<◌, ◌≤◌, ◌++◌, ◌∷◌, [], true, length, if◌then◌else◌, is_ok, IfOk, OnOk};
+ghost use Rattle.std.specs.List.{list_all};
+ghost use Rattle.mj_text.specs.declared.text.TheConstants.{TEXT_LIMIT};
 ghost use Rattle.mj_gfile.specs.Begins.{HasFront};
-ghost use Rattle.mj_gfile.specs.Spelling.{digit_byte, is_shown, quoted_byte, quoted_bytes, listed_text, listed_subscript, listed_rest, listed_subscripts, listed_name, listed_line, listed_lines, ended_line};
+ghost use Rattle.mj_gfile.specs.Listing.{is_text};
+ghost use Rattle.mj_gfile.specs.Spelling.{digit_byte, is_shown, quoted_byte, quoted_bytes, listed_text, listed_subscript, listed_rest, listed_subscripts};
+ghost use Rattle.mj_gfile.specs.Spelling.{listed_name, listed_line, listed_lines, ended_line};
 
 use mj_num::is_canonic_bytes;
 use mj_subs::{Name, Sub};
@@ -73,7 +77,8 @@ fn add_value(bytes: &mut Vec<u8>, text: &Text) -> Result<(), AllocError>
 
 /// Puts a name to the end of some bytes, as a listing has it.
 pub fn put_name(bytes: &mut Vec<u8>, name: &Name) -> Result<(), AllocError>
-    ensures { bytes.new.items ≡ (if is_ok result then bytes.old.items ++ listed_name name.now else bytes.old.items) }
+    ensures text { bytes.new.items ≡ (if is_ok result then bytes.old.items ++ listed_name name.now else bytes.old.items) }
+    ensures fits { OnOk result (list_all is_text name.now.subscripts ≡ true) }
 {
     let before = bytes.len();
     let added = add_name(bytes, name);
@@ -88,6 +93,7 @@ pub fn put_name(bytes: &mut Vec<u8>, name: &Name) -> Result<(), AllocError>
 fn add_name(bytes: &mut Vec<u8>, name: &Name) -> Result<(), AllocError>
     ensures ok { OnOk result (bytes.new.items ≡ bytes.old.items ++ listed_name name.now) }
     ensures kept { HasFront bytes.old.items bytes.new.items }
+    ensures fits { OnOk result (list_all is_text name.now.subscripts ≡ true) }
 {
     let mut digits = Digits::new();
     let word = name.word().bytes(&mut digits);
@@ -99,6 +105,7 @@ fn add_name(bytes: &mut Vec<u8>, name: &Name) -> Result<(), AllocError>
 fn add_parts(bytes: &mut Vec<u8>, global: bool, word: &[u8], subs: &[Sub]) -> Result<(), AllocError>
     ensures ok { OnOk result (bytes.new.items ≡ bytes.old.items ++ listed_name (record { global = global; word = word.now; subscripts = subs.now })) }
     ensures kept { HasFront bytes.old.items bytes.new.items }
+    ensures fits { OnOk result (list_all is_text subs.now ≡ true) }
 {
     if global {
         bytes.push(b'^')?;
@@ -109,7 +116,8 @@ fn add_parts(bytes: &mut Vec<u8>, global: bool, word: &[u8], subs: &[Sub]) -> Re
 
 /// Puts a list of subscripts to the end of some bytes, as a listing has it: nothing for none.
 pub fn put_subscripts(bytes: &mut Vec<u8>, subs: &[Sub]) -> Result<(), AllocError>
-    ensures { bytes.new.items ≡ (if is_ok result then bytes.old.items ++ listed_subscripts subs.now else bytes.old.items) }
+    ensures text { bytes.new.items ≡ (if is_ok result then bytes.old.items ++ listed_subscripts subs.now else bytes.old.items) }
+    ensures fits { OnOk result (list_all is_text subs.now ≡ true) }
 {
     let before = bytes.len();
     let added = add_subscripts(bytes, subs);
@@ -124,6 +132,7 @@ pub fn put_subscripts(bytes: &mut Vec<u8>, subs: &[Sub]) -> Result<(), AllocErro
 fn add_subscripts(bytes: &mut Vec<u8>, subs: &[Sub]) -> Result<(), AllocError>
     ensures ok { OnOk result (bytes.new.items ≡ bytes.old.items ++ listed_subscripts subs.now) }
     ensures kept { HasFront bytes.old.items bytes.new.items }
+    ensures fits { OnOk result (list_all is_text subs.now ≡ true) }
 {
     let [first, rest @ ..] = subs else {
         return Ok(());
@@ -140,7 +149,8 @@ fn add_subscripts(bytes: &mut Vec<u8>, subs: &[Sub]) -> Result<(), AllocError>
 
 /// Puts a subscript to the end of some bytes, as a listing has it.
 pub fn put_subscript(bytes: &mut Vec<u8>, sub: &Sub) -> Result<(), AllocError>
-    ensures { bytes.new.items ≡ (if is_ok result then bytes.old.items ++ listed_subscript sub.now else bytes.old.items) }
+    ensures text { bytes.new.items ≡ (if is_ok result then bytes.old.items ++ listed_subscript sub.now else bytes.old.items) }
+    ensures fits { OnOk result (is_text sub.now ≡ true) }
 {
     let before = bytes.len();
     let added = add_subscript(bytes, sub);
@@ -155,18 +165,22 @@ pub fn put_subscript(bytes: &mut Vec<u8>, sub: &Sub) -> Result<(), AllocError>
 fn add_subscript(bytes: &mut Vec<u8>, sub: &Sub) -> Result<(), AllocError>
     ensures ok { OnOk result (bytes.new.items ≡ bytes.old.items ++ listed_subscript sub.now) }
     ensures kept { HasFront bytes.old.items bytes.new.items }
+    ensures fits { OnOk result (is_text sub.now ≡ true) }
 {
     if sub.number().is_none() {
         return add_text(bytes, sub.text());
     }
     let mut digits = Digits::new();
-    bytes.extend_from_slice(sub.bytes(&mut digits))?;
+    let spelled = sub.text().bytes(&mut digits);
+    lie_within(spelled);
+    bytes.extend_from_slice(spelled)?;
     Ok(())
 }
 
 /// Puts a text in listing quotes to the end of some bytes.
 pub fn put_text(bytes: &mut Vec<u8>, text: &Text) -> Result<(), AllocError>
-    ensures { bytes.new.items ≡ (if is_ok result then bytes.old.items ++ listed_text text.now else bytes.old.items) }
+    ensures text { bytes.new.items ≡ (if is_ok result then bytes.old.items ++ listed_text text.now else bytes.old.items) }
+    ensures fits { OnOk result (is_text text.now ≡ true) }
 {
     let before = bytes.len();
     let added = add_text(bytes, text);
@@ -181,13 +195,22 @@ pub fn put_text(bytes: &mut Vec<u8>, text: &Text) -> Result<(), AllocError>
 fn add_text(bytes: &mut Vec<u8>, text: &Text) -> Result<(), AllocError>
     ensures ok { OnOk result (bytes.new.items ≡ bytes.old.items ++ listed_text text.now) }
     ensures kept { HasFront bytes.old.items bytes.new.items }
+    ensures fits { OnOk result (is_text text.now ≡ true) }
 {
     let mut digits = Digits::new();
+    let spelled = text.bytes(&mut digits);
+    lie_within(spelled);
     bytes.push(b'"')?;
-    add_quoted(bytes, text.bytes(&mut digits))?;
+    add_quoted(bytes, spelled)?;
     bytes.push(b'"')?;
     Ok(())
 }
+
+// Bytes that lie in memory are those of a text, if they aren't too many. There is nothing to do.
+fn lie_within(bytes: &[u8])
+    requires { length bytes.now ≤ TEXT_LIMIT }
+    ensures { is_text bytes.now ≡ true }
+{}
 
 #[tactic(auto, using(crate::proofs::Longer::begins_same, crate::proofs::Longer::begins_more, crate::proofs::Longer::begins_trans))]
 fn add_quoted(bytes: &mut Vec<u8>, text: &[u8]) -> Result<(), AllocError>

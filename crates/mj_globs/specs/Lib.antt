@@ -1,3 +1,4 @@
 pub mod Words
 pub mod Changes
 pub mod Parts
+pub mod Stamps

@@ -25,8 +25,8 @@ type Log = Vec<(Name, Option<Text>)>;
 
 /// Makes the changes in order, all of them or none.
 pub fn make_all(globals: &mut Globals, changes: &[Change]) -> Result<(), AllocError>
-    ensures ok { OnOk result (globals.new ≡ after_changes globals.old changes.now) }
-    ensures err { OnErr result (globals.new ≡ globals.old) }
+    ensures ok { OnOk result (globals.new.content ≡ after_changes globals.old.content changes.now) }
+    ensures err { OnErr result (globals.new.content ≡ globals.old.content) }
 {
     let alone = alone(globals.allocator(), changes)?;
     if is_any_rewritten(&alone, changes) {
@@ -48,7 +48,7 @@ pub fn make_all(globals: &mut Globals, changes: &[Change]) -> Result<(), AllocEr
 
 // What the changes leave where there was no name.
 fn alone(alloc: Global, changes: &[Change]) -> Result<Globals, AllocError>
-    ensures { IfOk result (λ alone. alone ≡ after_changes [] changes.now) }
+    ensures { IfOk result (λ alone. alone.content ≡ after_changes [] changes.now) }
 {
     let mut alone = Globals::new(alloc);
     make_each(&mut alone, changes)?;
@@ -57,8 +57,8 @@ fn alone(alloc: Global, changes: &[Change]) -> Result<Globals, AllocError>
 
 // Makes the changes in order on a copy of the store.
 fn make_on_copy(globals: &mut Globals, changes: &[Change]) -> Result<(), AllocError>
-    ensures ok { OnOk result (globals.new ≡ after_changes globals.old changes.now) }
-    ensures err { OnErr result (globals.new ≡ globals.old) }
+    ensures ok { OnOk result (globals.new.content ≡ after_changes globals.old.content changes.now) }
+    ensures err { OnErr result (globals.new.content ≡ globals.old.content) }
 {
     let mut changed = globals.try_clone()?;
     make_each(&mut changed, changes)?;
@@ -68,7 +68,7 @@ fn make_on_copy(globals: &mut Globals, changes: &[Change]) -> Result<(), AllocEr
 
 // Makes the changes in order. After an error some are made.
 fn make_each(globals: &mut Globals, changes: &[Change]) -> Result<(), AllocError>
-    ensures { OnOk result (globals.new ≡ after_changes globals.old changes.now) }
+    ensures { OnOk result (globals.new.content ≡ after_changes globals.old.content changes.now) }
 {
     for change in changes {
         if globals.make(change).is_err() {
@@ -80,13 +80,13 @@ fn make_each(globals: &mut Globals, changes: &[Change]) -> Result<(), AllocError
 
 // Whether something stands at a name that goes, or below it, where the changes have been made without what was there before.
 fn is_any_rewritten(alone: &Globals, changes: &[Change]) -> bool
-    ensures { result ≡ list_any (is_rewritten alone.now) changes.now }
+    ensures { result ≡ list_any (is_rewritten alone.now.content) changes.now }
 {
     changes.iter().any(|change| is_rewritten(alone, change))
 }
 
 fn is_rewritten(alone: &Globals, change: &Change) -> bool
-    ensures { result ≡ is_rewritten alone.now change.now }
+    ensures { result ≡ is_rewritten alone.now.content change.now }
 {
     match change {
         Change::Kill(name) => alone.data(name) != 0,
@@ -96,8 +96,8 @@ fn is_rewritten(alone: &Globals, change: &Change) -> bool
 
 // Gives the texts that the changes give, and logs what was there. After want of memory some are given.
 fn give_all(globals: &mut Globals, changes: &[Change], log: &mut Log) -> Result<(), AllocError>
-    ensures ok { OnOk result (globals.new ≡ all_given globals.old changes.now) }
-    ensures before { undone name_cmp log.new.items globals.new ≡ undone name_cmp log.old.items globals.old }
+    ensures ok { OnOk result (globals.new.content ≡ all_given globals.old.content changes.now) }
+    ensures before { undone name_cmp log.new.items globals.new.content ≡ undone name_cmp log.old.items globals.old.content }
 {
     for change in changes {
         give(globals, change, log)?;
@@ -107,8 +107,8 @@ fn give_all(globals: &mut Globals, changes: &[Change], log: &mut Log) -> Result<
 
 // Gives the texts that a change gives, and logs what was there.
 fn give(globals: &mut Globals, change: &Change, log: &mut Log) -> Result<(), AllocError>
-    ensures ok { OnOk result (globals.new ≡ changed_without_name globals.old change.now) }
-    ensures before { undone name_cmp log.new.items globals.new ≡ undone name_cmp log.old.items globals.old }
+    ensures ok { OnOk result (globals.new.content ≡ changed_without_name globals.old.content change.now) }
+    ensures before { undone name_cmp log.new.items globals.new.content ≡ undone name_cmp log.old.items globals.old.content }
 {
     match change {
         Change::Set(name, text) => exchange(globals, name.try_clone()?, text, log),
@@ -124,8 +124,8 @@ fn give_nodes(
     nodes: &[(Subs, Text)],
     log: &mut Log,
 ) -> Result<(), AllocError>
-    ensures ok { OnOk result (globals.new ≡ after_put globals.old name.now nodes.now) }
-    ensures before { undone name_cmp log.new.items globals.new ≡ undone name_cmp log.old.items globals.old }
+    ensures ok { OnOk result (globals.new.content ≡ after_put globals.old.content name.now nodes.now) }
+    ensures before { undone name_cmp log.new.items globals.new.content ≡ undone name_cmp log.old.items globals.old.content }
 {
     for node in nodes {
         let place = followed_by(name, &node.0)?;
@@ -136,8 +136,8 @@ fn give_nodes(
 
 // Gives a text to a name, and logs what was there.
 fn exchange(globals: &mut Globals, name: Name, text: &Text, log: &mut Log) -> Result<(), AllocError>
-    ensures ok { OnOk result (globals.new ≡ after_set globals.old name text.now) }
-    ensures before { undone name_cmp log.new.items globals.new ≡ undone name_cmp log.old.items globals.old }
+    ensures ok { OnOk result (globals.new.content ≡ after_set globals.old.content name text.now) }
+    ensures before { undone name_cmp log.new.items globals.new.content ≡ undone name_cmp log.old.items globals.old.content }
 {
     globals.rises();
     let before = text_of(globals, &name)?;
@@ -154,7 +154,7 @@ fn exchange(globals: &mut Globals, name: Name, text: &Text, log: &mut Log) -> Re
 
 // The text of a name, for keeps.
 fn text_of(globals: &Globals, name: &Name) -> Result<Option<Text>, AllocError>
-    ensures { IfOk result (λ text. text ≡ value_at globals.now name.now) }
+    ensures { IfOk result (λ text. text ≡ value_at globals.now.content name.now) }
 {
     Ok(match globals.value(name) {
         None => None,
@@ -164,7 +164,7 @@ fn text_of(globals: &Globals, name: &Name) -> Result<Option<Text>, AllocError>
 
 // Takes back what a log says.
 fn undo(globals: &mut Globals, log: Log)
-    ensures { globals.new ≡ undone name_cmp log.items globals.old }
+    ensures { globals.new.content ≡ undone name_cmp log.items globals.old.content }
 {
     let mut left = log;
     while let Some((name, before)) = left.pop() {
@@ -174,7 +174,7 @@ fn undo(globals: &mut Globals, log: Log)
 
 // Takes the names that the changes take.
 fn take_all(globals: &mut Globals, changes: &[Change])
-    ensures { globals.new ≡ all_taken globals.old changes.now }
+    ensures { globals.new.content ≡ all_taken globals.old.content changes.now }
 {
     for change in changes {
         if let Change::Kill(name) = change {

@@ -9,6 +9,7 @@ ghost use Rattle.mj_store.specs.Nodes.{subtree};
 ghost use Rattle.mj_store.specs.Questions.{with_subscripts, value_at, subtree_at};
 ghost use Rattle.mj_tree.specs.Nest.{nodes_of};
 ghost use Rattle.mj_tree.specs.Undo.{restored};
+ghost use Rattle.mj_tree.specs.Walks.{StopsSo};
 ghost use Rattle.mj_globs.specs.Changes.{after_change, after_changes, goes_too_deep, keeping};
 ghost use Rattle.mj_text.specs.declared.fault.Failure.TheVariants as failure;
 ghost use Rattle.mj_text.specs.declared.fault.Fault.TheVariants as fault;
@@ -34,17 +35,17 @@ pub struct Globals {
 }
 
 impl Model for Globals {
-    ghost use Rattle.std.specs.Prelude.{T};
+    ghost use Rattle.std.specs.Prelude.{T, []};
     ghost use Rattle.std.specs.FinMap.{is_sorted};
     ghost use Rattle.std.specs.Ordering.{nat_cmp};
     ghost use Rattle.std.specs.Cmp.Lexicographic.{slice_cmp};
     ghost use Rattle.mj_subs.specs.Collation.{name_cmp};
-    ghost use Rattle.mj_store.specs.Questions.{Content};
+    ghost use Rattle.mj_globs.specs.Stamps.{Stamped};
     ghost use Rattle.mj_globs.specs.Words.{spelled, of_both, AreRising};
 
-    ghost Value = { Content };
+    ghost Value = { Stamped };
 
-    ghost view = { λ a. of_both (spelled a.globals.entries) (spelled a.locals.entries) };
+    ghost view = { λ a. record { content = of_both (spelled a.globals.entries) (spelled a.locals.entries); stamps = [] } };
 
     ghost invariant = { λ a. AreRising (spelled a.globals.entries) (spelled a.locals.entries) };
 }
@@ -52,7 +53,7 @@ impl Model for Globals {
 impl Globals {
     /// A store without a name.
     pub fn new(alloc: Global) -> Globals
-        ensures { result ≡ [] }
+        ensures { result.content ≡ [] }
     {
         Globals {
             alloc,
@@ -68,7 +69,7 @@ impl Globals {
 
     /// A copy.
     pub fn try_clone(&self) -> Result<Globals, AllocError>
-        ensures { IfOk result (λ g. g ≡ self.now) }
+        ensures { IfOk result (λ g. g.content ≡ self.now.content) }
     {
         Ok(Globals {
             alloc: self.alloc,
@@ -79,7 +80,7 @@ impl Globals {
 
     /// Its names in their order, each with its text.
     pub fn nodes(&self) -> Result<Vec<(Name, Text)>, AllocError>
-        ensures { IfOk result (λ nodes. nodes.items ≡ self.now) }
+        ensures { IfOk result (λ nodes. nodes.items ≡ self.now.content) }
     {
         let mut nodes = Vec::new(self.alloc);
         words::gather(&self.globals, self.alloc, true, &mut nodes)?;
@@ -88,9 +89,10 @@ impl Globals {
     }
 
     /// Has a sink take its names in their order, each with its text. What the sink keeps is all the memory that it takes, but for the subscripts of one
-    /// name.
+    /// name. It is told that the sink closed only where that did, behind what was walked until then.
     pub fn walk<S: Sink>(&self, sink: &mut S) -> Result<(), SinkStop>
-        ensures { OnOk result (S.takes sink.old self.now sink.new) }
+        ensures taken { OnOk result (S.takes sink.old self.now.content sink.new) }
+        ensures closed { IfErr result (StopsSo S.closes sink.old self.now.content sink.new) }
     {
         words::walk(&self.globals, true, sink)?;
         words::walk(&self.locals, false, sink)
@@ -99,11 +101,11 @@ impl Globals {
     /// Makes the changes in order, all of them or none. `Limit` where one would give a name too many subscripts, and otherwise nothing
     /// but memory can be wanting. The store is copied only where a text is given at a name that goes before, or below one.
     pub fn apply(&mut self, changes: &[Change]) -> Result<(), Failure>
-        ensures ok { OnOk result (self.new ≡ after_changes self.old changes.now) }
+        ensures ok { OnOk result (self.new.content ≡ after_changes self.old.content changes.now) }
         ensures limit { (result ≡ Err (failure.Fault fault.Limit)) ↔ IsTrue (list_any goes_too_deep changes.now) }
         ensures within { OnOk result (list_any goes_too_deep changes.now ≡ false) }
         ensures error { IfErr result (λ e. e ≡ (if list_any goes_too_deep changes.now then failure.Fault fault.Limit else failure.Memory)) }
-        ensures err { OnErr result (self.new ≡ self.old) }
+        ensures err { OnErr result (self.new.content ≡ self.old.content) }
     {
         if is_any_too_deep(changes) {
             return Err(Failure::Fault(Fault::Limit));
@@ -122,7 +124,7 @@ impl Globals {
 
     /// Takes all names out but those whose word is one of these.
     pub fn keep_words(&mut self, list: &[Text])
-        ensures { self.new ≡ keeping list.now self.old }
+        ensures { self.new.content ≡ keeping list.now self.old.content }
     {
         keep(&mut self.globals, list);
         keep(&mut self.locals, list);
@@ -130,7 +132,7 @@ impl Globals {
 
     /// Gives a text in place of its own to a name that has one, or takes it. Nothing changes at a name without one.
     pub fn restore(&mut self, name: &Name, text: Option<Text>)
-        ensures { self.new ≡ restored name_cmp name.now text self.old }
+        ensures { self.new.content ≡ restored name_cmp name.now text self.old.content }
     {
         if name.is_global() {
             words::restore(&mut self.globals, name.word(), name.subscripts(), text);
@@ -141,9 +143,9 @@ impl Globals {
 
     // Makes one change.
     pub(crate) fn make(&mut self, change: &Change) -> Result<(), Failure>
-        ensures ok { OnOk result (self.new ≡ after_change self.old change.now) }
+        ensures ok { OnOk result (self.new.content ≡ after_change self.old.content change.now) }
         ensures limit { (result ≡ Err (failure.Fault fault.Limit)) ↔ IsTrue (goes_too_deep change.now) }
-        ensures err { OnErr result (self.new ≡ self.old) }
+        ensures err { OnErr result (self.new.content ≡ self.old.content) }
     {
         match change {
             Change::Set(name, text) => match self.set(name, text) {
@@ -160,8 +162,9 @@ impl Globals {
 
     // The tree of a name's word.
     fn tree(&self, name: &Name) -> Option<&Tree>
-        ensures own { (p : List (List ℕ)) → subtree_at self.now (with_subscripts name.now p) ≡ subtree subscript_cmp p (nodes_of (option_copied result)) }
-        ensures value { value_at self.now name.now ≡ find (slice_cmp subscript_cmp) name.now.subscripts (nodes_of (option_copied result)) }
+        ensures own { (p : List (List ℕ)) →
+            subtree_at self.now.content (with_subscripts name.now p) ≡ subtree subscript_cmp p (nodes_of (option_copied result)) }
+        ensures value { value_at self.now.content name.now ≡ find (slice_cmp subscript_cmp) name.now.subscripts (nodes_of (option_copied result)) }
     {
         if name.is_global() {
             words::find(&self.globals, name.word())
@@ -172,7 +175,7 @@ impl Globals {
 }
 
 impl Store for Globals {
-    ghost contents = { λ g. g };
+    ghost contents = { λ g. g.content };
 
     fn rises(&self) {
         let _globals = &self.globals; // for the proof

@@ -10,6 +10,7 @@ ghost use Rattle.mj_subs.specs.Collation.{subscript_cmp, name_cmp};
 ghost use Rattle.mj_store.specs.Changes.{after_set, after_kill, after_put};
 ghost use Rattle.mj_tree.specs.Nest.{nodes_of, is_too_long};
 ghost use Rattle.mj_tree.specs.Undo.{restored};
+ghost use Rattle.mj_tree.specs.Walks.{StopsSo};
 ghost use Rattle.mj_globs.specs.Words.{spelled, spelled_of, name, of_kind, of_word};
 ghost use Rattle.mj_text.specs.declared.fault.Failure.TheVariants as failure;
 ghost use Rattle.mj_text.specs.declared.fault.Fault.TheVariants as fault;
@@ -177,9 +178,11 @@ fn name_of(word: &[u8], alloc: Global, global: bool, subscripts: Subs) -> Result
     })
 }
 
-/// Has a sink take the names of a kind with these words, in order, each with its text.
+/// Has a sink take the names of a kind with these words, in order, each with its text. It is told that the sink closed only where that did, behind what
+/// was walked until then.
 pub fn walk<S: Sink>(words: &Words, global: bool, sink: &mut S) -> Result<(), SinkStop>
-    ensures { OnOk result (S.takes sink.old (of_kind global (spelled words.now.entries)) sink.new) }
+    ensures taken { OnOk result (S.takes sink.old (of_kind global (spelled words.now.entries)) sink.new) }
+    ensures closed { IfErr result (StopsSo S.closes sink.old (of_kind global (spelled words.now.entries)) sink.new) }
 {
     for (word, tree) in words {
         tree.walk(global, word.as_slice(), sink)?;

@@ -15,6 +15,13 @@ row_found list (suc k) at x some e found =
     let here : at ≡ k = omega (arith, e) in
     slice_get-map row_of list k ∙ ap (λ i. option_map row_of (slice_get list i)) (sym here) ∙ ap (λ o. option_map row_of o) found
 
+-- past the last row there is none
+pub row_missed : (list : List kept.Kept) (job at : ℕ) → 1 ≤ job → at ≡ job - 1 → length list ≤ at → row_at (rows_of list) job ≡ None
+row_missed list zero at some e past = refl
+row_missed list (suc k) at some e past =
+    let here : at ≡ k = omega (arith, e) in
+    slice_get-map row_of list k ∙ ap (λ i. option_map row_of (slice_get list i)) (sym here) ∙ ap (λ o. option_map row_of o) (slice_get_past list at past)
+
 -- a job whose row is this one is live where the row hasn't ended
 pub live_if : (rows : List Row) (job : ℕ) (row : Row) (ended : Bool) → row.ended ≡ ended → row_at rows job ≡ Some row → IsTrue (not ended) ↔ IsLive rows job
 live_if rows job row true is found = (λ t. absurd (let no : ⊥ = cc in no), λ l. absurd (let no : ⊥ = over l.0 l.1 l.2 in no)) where
@@ -41,10 +48,8 @@ ended_at list (suc k) at x some e found =
 pub none_ended : (list : List kept.Kept) (job at n : ℕ) → 1 ≤ job → at ≡ job - 1 → n ≡ length list → (at < n → false ≡ true) → rows_of list ≡ with_ended (rows_of list) job
 none_ended list zero at n some e counted past = absurd (let no : ⊥ = omega (arith, some) in no)
 none_ended list (suc k) at n some e counted past =
-    let here : at ≡ k = omega (arith, e) in
     let beyond : length list ≤ at = over (nat_lt at n) refl in
-    let none : slice_get (rows_of list) k ≡ None =
-    slice_get-map row_of list k ∙ ap (λ i. option_map row_of (slice_get list i)) (sym here) ∙ ap (λ o. option_map row_of o) (slice_get_past list at beyond) in
+    let none : row_at (rows_of list) (suc k) ≡ None = row_missed list (suc k) at some e beyond in
     sym (ap (change (rows_of list) k) none) where
       contra : false ≡ true → length list ≤ at
       contra q = absurd (let no : ⊥ = cc in no)

@@ -1,5 +1,6 @@
 -- The rows of jobs: how each starts, and whether it has ended.
 use Rattle.std.specs.Prelude.{◌≡◌, ℕ, zero, suc, ◌≤◌, List, length, slice_get, slice_set, Bool, true, false, Option, Some, None}
+use Rattle.std.specs.Option.{option_map}
 use Rattle.mj_ask.specs.Started.{Started}
 
 -- a job's row: where it starts and with what, and whether it has ended
@@ -20,6 +21,14 @@ rows_limit = 255
 abbrev pub row_at : List Row → ℕ → Option Row
 row_at rows zero = None
 row_at rows (suc k) = slice_get rows k
+
+-- the job has a row, and starts so
+abbrev pub HasStart : List Row → ℕ → Started → Type 0
+HasStart rows job start = (row : Row) × (row_at rows job ≡ Some row) × (row.start ≡ start)
+
+-- how a job starts, if it has a row
+abbrev pub start_at : List Row → ℕ → Option Started
+start_at rows job = option_map (λ row. row.start) (row_at rows job)
 
 -- the row of a job that begins
 abbrev pub opened : Started → Row

@@ -1,7 +1,7 @@
 // Rows of jobs.
 
-ghost use Rattle.std.specs.Prelude.{◌≡◌, ◌+◌, ◌<◌, ◌≤◌, ◌↔◌, ◌++◌, ◌∷◌, [], length, map, Some, IfOk, IfErr, OnOk, OnErr, IfSome, IfNone, IsTrue};
-ghost use Rattle.mj_jobs.specs.Rows.{Row, Rows, rows_limit, row_at, opened, with_ended, IsLive};
+ghost use Rattle.std.specs.Prelude.{◌≡◌, ◌+◌, ◌<◌, ◌≤◌, ◌↔◌, ◌++◌, ◌∷◌, [], length, map, Some, IfOk, IfErr, OnOk, OnErr, IfSome, IfNone, IsTrue, option_copied};
+ghost use Rattle.mj_jobs.specs.Rows.{Rows, rows_limit, opened, start_at, with_ended, HasStart, IsLive};
 ghost use Rattle.mj_jobs.specs.Kept.{row_of};
 
 use mj_ask::Start;
@@ -85,6 +85,19 @@ impl Jobs {
         self.claimed
     }
 
+    /// How the job starts, if it has a row.
+    pub fn start(&self, job: u32) -> Option<&Start>
+        ensures { option_copied result ≡ start_at self.now.rows job }
+    {
+        match job.checked_sub(1) {
+            None => None,
+            Some(at) => match self.rows.get(at as usize) {
+                None => None,
+                Some(row) => Some(&row.start),
+            },
+        }
+    }
+
     /// Whether the job has a row and hasn't ended.
     pub fn is_live(&self, job: u32) -> bool
         ensures { IsTrue result ↔ IsLive self.now.rows job }
@@ -117,8 +130,7 @@ impl Jobs {
     pub fn claim(&mut self) -> Result<Option<Claimed>, AllocError>
         ensures rows { self.new.rows ≡ self.old.rows }
         ensures some { IfOk result
-            (λ r. IfSome r (λ c. (c.job ≡ self.old.claimed + 1) × (self.new.claimed ≡ self.old.claimed + 1)
-            × ((row : Row) × (row_at self.old.rows c.job ≡ Some row) × (row.start ≡ c.start)))) }
+            (λ r. IfSome r (λ c. (c.job ≡ self.old.claimed + 1) × (self.new.claimed ≡ self.old.claimed + 1) × HasStart self.old.rows c.job c.start)) }
         ensures none { IfOk result (λ r. IfNone r ((self.new ≡ self.old) × (self.old.claimed ≡ length self.old.rows))) }
         ensures err { OnErr result (self.new ≡ self.old) }
     {

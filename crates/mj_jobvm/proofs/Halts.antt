@@ -19,7 +19,7 @@ use Rattle.mj_semantics.proofs.Depth.{one_answer}
 use Rattle.mj_jobvm.specs.Run.{Log, replies_of, IsTrace, begins, goes_on, HasEnded}
 use Rattle.mj_jobvm.specs.Halted.{Halted, EndsByHalt, EndsInHalt}
 use Rattle.mj_jobvm.proofs.Rows as rows
-use Rattle.mj_jobvm.proofs.Rule.{Rule}
+use Rattle.mj_jobvm.proofs.Everywhere.{Everywhere, rule_of}
 
 -- what a restart goes on with is over only so
 record Goes (h : Handler) : Type 0 where
@@ -248,8 +248,8 @@ restarts again rest l k = record { by = λ n h s replies e. k.by n (until n agai
     goes : (n : ℕ) → Goes (until n again)
     goes n = record { by = λ m s replies e. by_turns (nat_le m n) m s replies e }
 
--- so what holds of a word holds of each row
-halting : Rule Halts Apart
+-- so what holds of a word holds of each row, whatever is asked
+halting : Everywhere Halts Apart
 halting = record {
   turned = turned;
   looked = looked;
@@ -270,7 +270,7 @@ halting = record {
 
 pub ends_by_halt : EndsByHalt
 ends_by_halt image start n replies e =
-    let k : Halts (starts image start (suc n)) = rows.job_keeps Halts Apart halting image start (suc n) in
+    let k : Halts (starts image start (suc n)) = rows.job_keeps Halts Apart (rule_of Halts Apart halting) image start (suc n) in
     k.by n no_restart (opening start.job) replies (inl refl) e
 
 -- Logs.

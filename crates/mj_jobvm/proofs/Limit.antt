@@ -12,6 +12,7 @@ use Rattle.mj_semantics.specs.Outcome.{Needs, no_restart, fault, steps_limit}
 use Rattle.mj_semantics.specs.Job.{Start, opening, start as starts, next}
 use Rattle.mj_jobvm.specs.Run.{Log, replies_of, IsTrace, begins, goes_on}
 use Rattle.mj_jobvm.specs.Limit.{IsAllowed, AreAllowed, IsLimited}
+use Rattle.mj_jobvm.proofs.Everywhere.{rule_of}
 use Rattle.mj_jobvm.proofs.Rows as rows
 use Rattle.mj_jobvm.proofs.Words.{IsFair, Keeps, none_goes, limited}
 
@@ -20,7 +21,7 @@ module _ (image : List Routine) where
   pub job_keeps : (start : Start) (n : ℕ) (replies : List Reply) (a : Ask) (locals : Locals) (at : List Place)
       → next image start n replies ≡ Needs a locals at → IsAllowed (length replies) a
   job_keeps start n replies a locals at e =
-      let k : Keeps (starts image start (suc n)) = rows.job_keeps Keeps Keeps limited image start (suc n) in
+      let k : Keeps (starts image start (suc n)) = rows.job_keeps Keeps Keeps (rule_of Keeps Keeps limited) image start (suc n) in
       let fair : IsFair (opening start.job) = (omega arith, omega arith) in
       subst (λ i. IsAllowed i a) (let z : (opening start.job).replied + length replies ≡ length replies = omega arith in z) (k.by n no_restart none_goes (opening start.job) replies a locals at fair e)
 

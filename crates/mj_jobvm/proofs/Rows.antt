@@ -4,11 +4,10 @@ use Rattle.std.specs.Prelude.{ℤ, nat_lt, nat_eq, if◌then◌else◌}
 use Rattle.mj_text.specs.declared.fault.Fault.TheVariants as faults
 use Rattle.mj_subs.specs.Name.{Name, overlaps}
 use Rattle.mj_store.specs.declared.access.Access.TheVariants as accesses
-use Rattle.mj_ask.specs.declared.ask.DeviceAsk.TheVariants as device_asks
 use Rattle.mj_num.specs.Number.{reading}
-use Rattle.mj_semantics.specs.State.{State, principal, popped, moved, column_at, Only, AllBut, wrote, newed, set_test, special_value, level_of, may_go, pushed, passed, at_place, kill_except, hold}
+use Rattle.mj_semantics.specs.State.{State, popped, column_at, Only, AllBut, newed, set_test, special_value, level_of, may_go, pushed, passed, at_place, kill_except, hold}
 use Rattle.mj_ast.specs.declared.function.NameFunction.{NameFunction}
-use Rattle.mj_semantics.specs.Outcome.{Timed, turn, turns, look, change, end, fault, to_device}
+use Rattle.mj_semantics.specs.Outcome.{Timed, turn, turns, change, end, fault}
 use Rattle.mj_semantics.specs.Accesses.{access, value_told, nodes_told}
 use Rattle.mj_semantics.specs.Evaluation.{read, ev, ev_tails, ev_operand, ev_choices, ev_name, ev_named, ev_all, ev_actuals, ev_local, name_of, named_for, when}
 use Rattle.mj_semantics.specs.Points.{Once, Always, By, Leave, Ways, Point, AtLine, Called, Jumped, Pass, Started, Points}
@@ -25,7 +24,7 @@ use Rattle.mj_ast.specs.declared.expr.Scope.TheVariants.{Local}
 use Rattle.mj_semantics.specs.Functions.{call_value, needed, optional}
 use Rattle.mj_semantics.specs.Lines.{Here, place_at, next_line, line_before, line_at, levels_of, entry_of, entered}
 use Rattle.mj_semantics.specs.Job.{Start, quit_before, obey_line, call, jump, in_pass, points_of, start as starts}
-use Rattle.mj_jobvm.proofs.Rule.{Rule, device_length, popped_same, KeepsLeave, KeepsPoint, KeepsWays, turn_keeps, turns_keep, look_keeps, change_keeps, end_keeps, fault_keeps, if_keeps, IsReached, to_device_keeps, given_keeps, access_keeps, read_keeps, about_keeps, store_keeps, again_keeps, first_keeps, deeper_keeps, hang_keeps, start_job_keeps, unlock_all_keeps, lock_keeps, open_keeps, use_keeps, close_keeps, read_input_keeps, framed_keeps, quit_keeps}
+use Rattle.mj_jobvm.proofs.Rule.{Rule, popped_same, KeepsLeave, KeepsPoint, KeepsWays, turn_keeps, turns_keep, look_keeps, change_keeps, end_keeps, fault_keeps, if_keeps, IsReached, given_keeps, access_keeps, read_keeps, about_keeps, store_keeps, again_keeps, first_keeps, deeper_keeps, hang_keeps, start_job_keeps, unlock_all_keeps, lock_keeps, framed_keeps, quit_keeps}
 
 module _ (K Apart : Timed → Type 0) (rule : Rule K Apart) where
   module _ (points : Points) (all : (p : Point) → KeepsPoint K p → IsReached K Apart rule p (points p)) (here : Here) where
@@ -115,12 +114,7 @@ module _ (K Apart : Timed → Type 0) (rule : Rule K Apart) where
     write_keeps : (bytes : List ℕ) (rest : Timed) → K rest → K (write bytes rest)
     write_keeps [] rest k = k
     write_keeps (b ∷ bytes) rest k =
-        let all : List ℕ = b ∷ bytes in
-        let sent : State → Timed = λ s. to_device s.current (device_asks.Write all) (λ r. change (wrote all) rest) in
-        if_keeps K Apart rule (nat_lt TEXT_LIMIT (length all)) (fault faults.Length) (look sent)
-        (fault_keeps K Apart rule faults.Length)
-        (look_keeps K Apart rule sent (λ s. to_device_keeps K Apart rule s.current _ (λ r. change (wrote all) rest)
-        (λ r. change_keeps K Apart rule rest k (wrote all) (λ t. (refl, device_length t.current (moved all) t.devices, refl)))))
+        if_keeps K Apart rule (nat_lt TEXT_LIMIT (length (b ∷ bytes))) (fault faults.Length) _ (fault_keeps K Apart rule faults.Length) (rule.written (b ∷ bytes) rest k)
 
     tab_keeps : (marks : List FormatMark) (v : List ℕ) (rest : Timed) → K rest → K (tab marks v rest)
     tab_keeps marks v rest k = given_keeps K Apart rule (reading v) _ (λ n. look_keeps K Apart rule _ (λ s. write_keeps (tab_bytes marks n (column_at s.current s)) rest k))
@@ -146,7 +140,7 @@ module _ (K Apart : Timed → Type 0) (rule : Rule K Apart) where
     names_keep (word ∷ words) rest k = turn_keeps K Apart rule (named words rest) (names_keep words rest k)
 
     spare_keeps : (words : List (List ℕ)) (rest : Timed) → K rest → K (turn (change (kill_except words) rest))
-    spare_keeps words rest k = turn_keeps K Apart rule (change (kill_except words) rest) (change_keeps K Apart rule rest k (kill_except words) (λ q. (refl, refl, refl)))
+    spare_keeps words rest k = turn_keeps K Apart rule (change (kill_except words) rest) (change_keeps K Apart rule rest k (kill_except words) (λ q. (refl, refl, refl, refl)))
 
     kill_keeps : (x : Killed) (rest : Timed) → K rest → K (kill points here x rest)
     kill_keeps (Gone v) rest k = name_keeps v _ (λ x. turn_keeps K Apart rule (remove x rest) (access_keeps K Apart rule (accesses.Kill x) (λ a. rest) (λ a. k)))
@@ -162,7 +156,7 @@ module _ (K Apart : Timed → Type 0) (rule : Rule K Apart) where
 
     these_keep : (x : Name) (nodes : Subtree) (rest : Timed) → K rest → K (put_these x nodes rest)
     these_keep x [] rest k = k
-    these_keep x (e ∷ nodes) rest k = access_keeps K Apart rule (accesses.Put x (e ∷ nodes)) _ (λ a. change_keeps K Apart rule rest k (hold []) (λ q. (refl, refl, refl)))
+    these_keep x (e ∷ nodes) rest k = access_keeps K Apart rule (accesses.Put x (e ∷ nodes)) _ (λ a. change_keeps K Apart rule rest k (hold []) (λ q. (refl, refl, refl, refl)))
 
     nodes_keep : (x : Name) (rest : Timed) → K rest → K (put_nodes x rest)
     nodes_keep x rest k = look_keeps K Apart rule _ (λ s. these_keep x s.held rest k)
@@ -170,7 +164,7 @@ module _ (K Apart : Timed → Type 0) (rule : Rule K Apart) where
     take_keeps : (into from : Name) (rest : Timed) → K rest → K (take_nodes into from rest)
     take_keeps into from rest k =
         if_keeps K Apart rule (overlaps into from) (fault faults.Overlap) (access (accesses.Subtree from) (λ a. change (hold (nodes_told a)) rest)) (fault_keeps K Apart rule faults.Overlap)
-        (access_keeps K Apart rule (accesses.Subtree from) _ (λ a. change_keeps K Apart rule rest k (hold (nodes_told a)) (λ q. (refl, refl, refl))))
+        (access_keeps K Apart rule (accesses.Subtree from) _ (λ a. change_keeps K Apart rule rest k (hold (nodes_told a)) (λ q. (refl, refl, refl, refl))))
 
     merge_keeps : (m : Merged) (rest : Timed) → K rest → K (merge points here m rest)
     merge_keeps m rest k = name_keeps m.into _ (λ x. name_keeps m.from _ (λ y. take_keeps x y (turn (put_nodes x rest)) (turn_keeps K Apart rule (put_nodes x rest) (nodes_keep x rest k))))
@@ -227,21 +221,21 @@ module _ (K Apart : Timed → Type 0) (rule : Rule K Apart) where
     open_all_keeps : (list : List Opened) (rest : Timed) → K rest → K (open_all points here list rest)
     open_all_keeps [] rest k = k
     open_all_keeps (o ∷ list) rest k =
-        ev_keeps o.device _ (λ name. timeout_keeps o.timeout _ (λ t. turn_keeps K Apart rule _ (open_keeps K Apart rule name t (open_all points here list rest) (open_all_keeps list rest k))))
+        ev_keeps o.device _ (λ name. timeout_keeps o.timeout _ (λ t. turn_keeps K Apart rule _ (rule.opened name t (open_all points here list rest) (open_all_keeps list rest k))))
 
     use_all_keeps : (es : List Expr) (rest : Timed) → K rest → K (use_all points here es rest)
     use_all_keeps [] rest k = k
-    use_all_keeps (e ∷ es) rest k = ev_keeps e _ (λ name. turn_keeps K Apart rule _ (use_keeps K Apart rule name (use_all points here es rest) (use_all_keeps es rest k)))
+    use_all_keeps (e ∷ es) rest k = ev_keeps e _ (λ name. turn_keeps K Apart rule _ (rule.used name (use_all points here es rest) (use_all_keeps es rest k)))
 
     close_all_keeps : (es : List Expr) (rest : Timed) → K rest → K (close_all points here es rest)
     close_all_keeps [] rest k = k
-    close_all_keeps (e ∷ es) rest k = ev_keeps e _ (λ name. turn_keeps K Apart rule _ (close_keeps K Apart rule name (close_all points here es rest) (close_all_keeps es rest k)))
+    close_all_keeps (e ∷ es) rest k = ev_keeps e _ (λ name. turn_keeps K Apart rule _ (rule.closed name (close_all points here es rest) (close_all_keeps es rest k)))
 
     receive_keeps : (r : Received) (rest : Timed) → K rest → K (receive points here r rest)
     receive_keeps r rest k =
         name_keeps r.variable _
         (λ x. timeout_keeps r.timeout _ (λ t. turn_keeps K Apart rule _
-        (read_input_keeps K Apart rule r.mode t (λ v. turn (store x v rest)) (λ v. turn_keeps K Apart rule (store x v rest) (store_keeps K Apart rule x v rest k)))))
+        (rule.received r.mode t (λ v. turn (store x v rest)) (λ v. turn_keeps K Apart rule (store x v rest) (store_keeps K Apart rule x v rest k)))))
 
     input_keeps : (i : Input) (rest : Timed) → K rest → K (input points here i rest)
     input_keeps (Prompted text) rest k = output_keeps (Shown (Chain (Literal text) Done)) rest k
@@ -255,16 +249,16 @@ module _ (K Apart : Timed → Type 0) (rule : Rule K Apart) where
     -- NEW.
 
     new_keeps : (x : Renewed) (rest : Timed) → K rest → K (renewal x rest)
-    new_keeps (Fresh word) rest k = turn_keeps K Apart rule (change (newed (Only (word ∷ []))) rest) (change_keeps K Apart rule rest k (newed (Only (word ∷ []))) (λ q. (refl, refl, refl)))
+    new_keeps (Fresh word) rest k = turn_keeps K Apart rule (change (newed (Only (word ∷ []))) rest) (change_keeps K Apart rule rest k (newed (Only (word ∷ []))) (λ q. (refl, refl, refl, refl)))
     new_keeps (Kept words) rest k =
-        names_keep words _ (turn_keeps K Apart rule (change (newed (AllBut words)) rest) (change_keeps K Apart rule rest k (newed (AllBut words)) (λ q. (refl, refl, refl))))
+        names_keep words _ (turn_keeps K Apart rule (change (newed (AllBut words)) rest) (change_keeps K Apart rule rest k (newed (AllBut words)) (λ q. (refl, refl, refl, refl))))
 
     new_list_keeps : (list : List Renewed) (rest : Timed) → K rest → K (new_list list rest)
     new_list_keeps [] rest k = k
     new_list_keeps (x ∷ list) rest k = new_keeps x (new_list list rest) (new_list_keeps list rest k)
 
     new_all_keeps : (list : List Renewed) (rest : Timed) → K rest → K (new_all list rest)
-    new_all_keeps [] rest k = turn_keeps K Apart rule (change (newed (AllBut [])) rest) (change_keeps K Apart rule rest k (newed (AllBut [])) (λ q. (refl, refl, refl)))
+    new_all_keeps [] rest k = turn_keeps K Apart rule (change (newed (AllBut [])) rest) (change_keeps K Apart rule rest k (newed (AllBut [])) (λ q. (refl, refl, refl, refl)))
     new_all_keeps (x ∷ list) rest k = new_list_keeps (x ∷ list) rest k
 
     -- IF and ELSE.
@@ -274,7 +268,7 @@ module _ (K Apart : Timed → Type 0) (rule : Rule K Apart) where
     ifs_keep (e ∷ es) line_end rest l k =
         ev_keeps e _ (λ v. turn_keeps K Apart rule _ (given_keeps K Apart rule (truth_value v) _ (λ b.
         change_keeps K Apart rule (if b then ifs points here es line_end rest else line_end) (if_keeps K Apart rule b (ifs points here es line_end rest) line_end (ifs_keep es line_end rest l k) l)
-        (set_test b) (λ q. (refl, refl, refl)))))
+        (set_test b) (λ q. (refl, refl, refl, refl)))))
 
     test_keeps : (b : Bool) (line_end rest : Timed) → K line_end → K rest → K (if_test b line_end rest)
     test_keeps true line_end rest l k = look_keeps K Apart rule _ (λ s. if_keeps K Apart rule s.test rest line_end k l)
@@ -315,7 +309,7 @@ module _ (K Apart : Timed → Type 0) (rule : Rule K Apart) where
     block_keeps rest k =
         deeper_keeps K Apart rule _ (look_keeps K Apart rule _ (λ s.
         change_keeps K Apart rule _ (turn_keeps K Apart rule _ (all (AtLine (next_line here) (λ v. change popped rest)) (λ v. change_keeps K Apart rule rest k popped popped_same)))
-        (pushed (place_at here) (level_of s + 1) false (Some s.test)) (λ q. (refl, refl, refl))))
+        (pushed (place_at here) (level_of s + 1) false (Some s.test)) (λ q. (refl, refl, refl, refl))))
 
     do_keeps : (list : List CalledOf) (rest : Timed) → K rest → K (do_all points here list rest)
     do_keeps [] rest k = turn_keeps K Apart rule (block points here rest) (block_keeps rest k)
@@ -374,7 +368,7 @@ module _ (K Apart : Timed → Type 0) (rule : Rule K Apart) where
 
   module _ (image : List Routine) where
     quit_before_keeps : (here : Here) (leave : Leave) → KeepsLeave K leave → K (quit_before here leave)
-    quit_before_keeps here leave k = change_keeps K Apart rule _ (framed_keeps K Apart rule (leave []) (k [])) (at_place (place_at (line_before here))) (λ q. (refl, refl, refl))
+    quit_before_keeps here leave k = change_keeps K Apart rule _ (framed_keeps K Apart rule (leave []) (k [])) (at_place (place_at (line_before here))) (λ q. (refl, refl, refl, refl))
 
     line_keeps : (points : Points) → ((p : Point) → KeepsPoint K p → IsReached K Apart rule p (points p)) → (here : Here) (line : Option Line) (leave : Leave)
         → KeepsLeave K leave → K (obey_line points here line leave)
@@ -385,7 +379,7 @@ module _ (K Apart : Timed → Type 0) (rule : Rule K Apart) where
         let ways : Ways = record { line_end = next; for_quit = None; leave = leave } in
         let within : Timed = change (at_place (place_at here)) (obey_all points here line.steps ways) in
         let keeps : K within = change_keeps K Apart rule _
-        (obey_all_keeps points all here line.steps ways (record { line_end = goes_on; for_quit = no_quit; leave = k })) (at_place (place_at here)) (λ q. (refl, refl, refl)) in
+        (obey_all_keeps points all here line.steps ways (record { line_end = goes_on; for_quit = no_quit; leave = k })) (at_place (place_at here)) (λ q. (refl, refl, refl, refl)) in
         look_keeps K Apart rule _
         (λ s. if_keeps K Apart rule (nat_lt line.level (level_of s)) (quit_before here leave) (if nat_lt (level_of s) line.level then next else within) (quit_before_keeps here leave k)
         (if_keeps K Apart rule (nat_lt (level_of s) line.level) next within goes_on keeps))
@@ -399,7 +393,7 @@ module _ (K Apart : Timed → Type 0) (rule : Rule K Apart) where
         if_keeps K Apart rule (nat_eq to.1.level 1) (if nat_lt (length to.1.formals) (length vs) then fault faults.Params else in_frame) (fault faults.NoLine)
         (if_keeps K Apart rule (nat_lt (length to.1.formals) (length vs)) (fault faults.Params) in_frame (fault_keeps K Apart rule faults.Params)
         (deeper_keeps K Apart rule _
-        (change_keeps K Apart rule _ (turns_keep K Apart rule (length to.1.formals) _ (turn_keeps K Apart rule _ (all (AtLine to.0 leave) k))) enters (λ q. (refl, refl, refl)))))
+        (change_keeps K Apart rule _ (turns_keep K Apart rule (length to.1.formals) _ (turn_keeps K Apart rule _ (all (AtLine to.0 leave) k))) enters (λ q. (refl, refl, refl, refl)))))
         (fault_keeps K Apart rule faults.NoLine)
 
     jump_keeps : (points : Points) → ((p : Point) → KeepsPoint K p → IsReached K Apart rule p (points p)) → (to : Option (Here × Line)) (leave : Leave)
@@ -436,5 +430,5 @@ module _ (K Apart : Timed → Type 0) (rule : Rule K Apart) where
     -- a job from its start
     pub job_keeps : (start : Start) (n : ℕ) → K (starts image start n)
     job_keeps start n =
-        turn_keeps K Apart rule _ (to_device_keeps K Apart rule principal _ (λ r. points_of image n (Called false start.entry start.values (λ v. end None)))
-        (λ r. points_keep n (Called false start.entry start.values (λ v. end None)) (λ v. end_keeps K Apart rule None)))
+        turn_keeps K Apart rule _ (rule.first_asked (points_of image n (Called false start.entry start.values (λ v. end None)))
+        (points_keep n (Called false start.entry start.values (λ v. end None)) (λ v. end_keeps K Apart rule None)))

@@ -1,8 +1,6 @@
 -- What has to hold of each word that rows are made of, and what then holds of what commands share.
-use Rattle.std.proofs.Common.{◌≡◌, ℕ, zero, suc, ◌+◌, ◌≤◌, List, [], ◌∷◌, length, Option, Some, None, Bool, true, false, refl, ap, arith}
+use Rattle.std.proofs.Common.{◌≡◌, ℕ, zero, suc, List, [], ◌∷◌, length, Option, Some, None, Bool, true, false, refl}
 use Rattle.std.specs.Prelude.{Result, Ok, Err, ℤ, pos, int_lt, ◌+ℤ◌, not, nat_lt, if◌then◌else◌}
-use Rattle.std.specs.Str.{bytes_eq}
-use Rattle.std.proofs.lemmas.List.Filters.{length-filter_both}
 use Rattle.mj_text.specs.declared.fault.Fault.{Fault}
 use Rattle.mj_text.specs.declared.fault.Fault.TheVariants as faults
 use Rattle.mj_subs.specs.Name.{Name}
@@ -12,7 +10,8 @@ use Rattle.mj_store.specs.declared.access.Access.TheVariants as accesses
 use Rattle.mj_store.specs.declared.access.Answer.{Answer}
 use Rattle.mj_ask.specs.declared.ask.Ask.{Ask}
 use Rattle.mj_ask.specs.declared.ask.Ask.TheVariants as asks
-use Rattle.mj_ask.specs.declared.ask.DeviceAsk.{DeviceAsk}
+use Rattle.mj_ask.specs.declared.ask.SharedAsk.TheVariants as shared_asks
+use Rattle.mj_ask.specs.declared.ask.DeviceAsk.TheVariants as device_asks
 use Rattle.mj_ask.specs.declared.ask.Reply.{Reply}
 use Rattle.mj_ask.specs.declared.entry.Entry.{Entry}
 use Rattle.mj_ask.specs.Fits.{is_late}
@@ -20,40 +19,47 @@ use Rattle.mj_ast.specs.declared.routine.ReadMode.{ReadMode}
 use Rattle.mj_ast.specs.declared.routine.LockMode.{LockMode}
 use Rattle.mj_ast.specs.declared.routine.LockMode.TheVariants as mode
 use Rattle.mj_num.specs.Number.{reading, sum_of, canonic_text}
-use Rattle.mj_semantics.specs.State.{State, Words, Frame, OpenDevice, on_device, broke, used, dropped, is_open, may_close, accessed, popped, is_at_mark}
+use Rattle.mj_semantics.specs.State.{State, Words, Frame, principal, wrote, accessed, popped, is_at_mark}
 use Rattle.mj_ast.specs.declared.function.NameFunction.{NameFunction}
 use Rattle.mj_semantics.specs.Names.{spelled, asks as asks_some, question, function_told}
-use Rattle.mj_semantics.specs.Outcome.{More, Timed, turn, turns, look, change, restartable, end, fault, ask, is_failed, to_device, need, given}
+use Rattle.mj_semantics.specs.Outcome.{More, Timed, turn, turns, look, change, restartable, end, fault, ask, to_device, need, given}
 use Rattle.mj_semantics.specs.Accesses.{answer_told, answered, access, value_told}
 use Rattle.mj_semantics.specs.Evaluation.{read, about}
 use Rattle.mj_semantics.specs.Points.{Loop, Once, Always, By, Leave, Ways, Point, AtLine, Called, Jumped, Pass, Started}
-use Rattle.mj_semantics.specs.Devices.{request_device, begin_session, open_device, use_device, give_up, close, is_input, input_told, read_input}
+use Rattle.mj_semantics.specs.Devices.{open_device, use_device, close, read_input}
 use Rattle.mj_semantics.specs.Sharing.{is_limit, in_time as test_in_time, served, out_of_transaction, hang, start_job, unlock_all, take_names, give_names, lock}
 use Rattle.mj_semantics.specs.Transactions.{begin_transaction, commit, roll_back, roll_back_for_restart, begin_restart}
 use Rattle.mj_semantics.specs.Commands.{store, deeper, frames_limit, is_within, stepped, for_again, first, quit_frame}
 
--- as many asks were replied to in one state as in another, as many devices are open, and at as many levels a transaction is
+-- as many asks were replied to in one state as in another, at as many levels a transaction is, and the same devices are open, of which the same is
+-- the current one
 abbrev pub IsLike : State → State → Type 0
-IsLike s t = (t.replied ≡ s.replied) × (length t.devices ≡ length s.devices) × (t.level ≡ s.level)
+IsLike s t = (t.replied ≡ s.replied) × (t.level ≡ s.level) × (t.devices ≡ s.devices) × (t.current ≡ s.current)
 
--- the same, or fewer devices
-abbrev pub IsLess : State → State → Type 0
-IsLess s t = (t.replied ≡ s.replied) × (length t.devices ≤ length s.devices) × (t.level ≡ s.level)
-
-less : (s t : State) → IsLike s t → IsLess s t
-less s t same = (same.0, omega (arith, same.1), same.2)
+-- an ask that leaves the job's sessions and its names of devices
+abbrev pub LeavesDevices : Ask → Type 0
+LeavesDevices (asks.Device name ask) = ⊥
+LeavesDevices (asks.Shared (shared_asks.Open name timeout)) = ⊥
+LeavesDevices (asks.Shared (shared_asks.Close name)) = ⊥
+LeavesDevices _ = Unit {0}
 
 -- What holds of what is left to do: K of most, and Apart of what stands behind the mark of a transaction, for which it is all the same what an
 -- earlier one would have gone back to
 pub record Rule (K Apart : Timed → Type 0) : Type 0 where
   pub turned : (t : Timed) → K t → K (turn t)
   pub looked : (t : State → Timed) → ((s : State) → K (t s)) → K (look t)
-  pub changed : (f : State → State) (t : Timed) → ((s : State) → IsLess s (f s)) → K t → K (change f t)
-  pub asked : (x : Ask) (t : Reply → Timed) → ((r : Reply) → K (t r)) → K (ask x t)
+  pub changed : (f : State → State) (t : Timed) → ((s : State) → IsLike s (f s)) → K t → K (change f t)
+  pub asked : (x : Ask) (t : Reply → Timed) → LeavesDevices x → ((r : Reply) → K (t r)) → K (ask x t)
+  -- devices: the job's first ask, WRITE, READ, OPEN, USE and CLOSE
+  pub first_asked : (t : Timed) → K t → K (to_device principal device_asks.Begin (λ r. t))
+  pub written : (bytes : List ℕ) (t : Timed) → K t → K (look (λ s. to_device s.current (device_asks.Write bytes) (λ r. change (wrote bytes) t)))
+  pub received : (m : ReadMode) (timeout : Option ℤ) (t : List ℕ → Timed) → ((v : List ℕ) → K (t v)) → K (read_input m timeout t)
+  pub opened : (name : List ℕ) (timeout : Option ℤ) (t : Timed) → K t → K (open_device name timeout t)
+  pub used : (name : List ℕ) (t : Timed) → K t → K (use_device name t)
+  pub closed : (name : List ℕ) (t : Timed) → K t → K (close name t)
   pub ended : (f : Option Fault) → K (end f)
   pub faulted : (f : Fault) → K (fault f)
   pub spent : K (λ n h s replies. More)
-  pub obtained : (name : List ℕ) (timeout : Option ℤ) (late got : Timed) → K late → K got → K (request_device name timeout late got)
   pub begun : (restored : Option Words) (serial : Bool) (inner outermost : Timed) → K inner → Apart outermost → K (begin_transaction restored serial inner outermost)
   pub committed : (done : Timed) → K done → K (commit (turn begin_restart) done)
   pub rolled_back : (rest : Timed) → K rest → K (roll_back rest)
@@ -62,30 +68,18 @@ pub record Rule (K Apart : Timed → Type 0) : Type 0 where
   pub apart_turned : (t : Timed) → Apart t → Apart (turn t)
   pub apart_spent : Apart (λ n h s replies. More)
 
--- the devices of a state, of which one is changed
-pub device_length : (name : List ℕ) (f : OpenDevice → OpenDevice) (devices : List OpenDevice) → length (on_device name f devices) ≡ length devices
-device_length name f [] = refl
-device_length name f (d ∷ devices) = by (bytes_eq d.name name) (device_length name f devices)
-  where
-    by : (b : Bool) → length (on_device name f devices) ≡ length devices → length (if b then f d ∷ devices else d ∷ on_device name f devices) ≡ length (d ∷ devices)
-    by true e = refl
-    by false e = ap suc e
-
 -- `$TEST` behind an ask that may wait.
 
-tests_same : (timeout : Option ℤ) (b : Bool) (s : State) → IsLike s (test_in_time timeout b s)
-tests_same None b s = (refl, refl, refl)
-tests_same (Some n) b s = (refl, refl, refl)
-
-dropped_fewer : (name : List ℕ) (s : State) → IsLess s (dropped name s)
-dropped_fewer name s = (refl, omega (arith, length-filter_both (λ d. not (bytes_eq d.name name)) (λ d. not (not (bytes_eq d.name name))) (λ d. refl) s.devices), refl)
+pub tests_same : (timeout : Option ℤ) (b : Bool) (s : State) → IsLike s (test_in_time timeout b s)
+tests_same None b s = (refl, refl, refl, refl)
+tests_same (Some n) b s = (refl, refl, refl, refl)
 
 pub popped_same : (s : State) → IsLike s (popped s)
 popped_same s = by s.frames
   where
     by : (fs : List Frame) → IsLike s (popped (record s { frames = fs }))
-    by [] = (refl, refl, refl)
-    by (f ∷ fs) = (refl, refl, refl)
+    by [] = (refl, refl, refl, refl)
+    by (f ∷ fs) = (refl, refl, refl, refl)
 
 -- so is what each of the ways leads to
 pub record KeepsWays (K : Timed → Type 0) (ways : Ways) : Type 0 where
@@ -117,10 +111,7 @@ module _ (K Apart : Timed → Type 0) (rule : Rule K Apart) where
   look_keeps rest k = rule.looked rest k
 
   pub change_keeps : (rest : Timed) → K rest → (f : State → State) → ((s : State) → IsLike s (f s)) → K (change f rest)
-  change_keeps rest k f same = rule.changed f rest (λ s. less s (f s) (same s)) k
-
-  fewer_keeps : (rest : Timed) → K rest → (f : State → State) → ((s : State) → IsLess s (f s)) → K (change f rest)
-  fewer_keeps rest k f fewer = rule.changed f rest fewer k
+  change_keeps rest k f same = rule.changed f rest same k
 
   pub end_keeps : (f : Option Fault) → K (end f)
   end_keeps f = rule.ended f
@@ -128,15 +119,12 @@ module _ (K Apart : Timed → Type 0) (rule : Rule K Apart) where
   pub fault_keeps : (f : Fault) → K (fault f)
   fault_keeps f = rule.faulted f
 
-  ask_keeps : (x : Ask) (rest : Reply → Timed) → ((r : Reply) → K (rest r)) → K (ask x rest)
-  ask_keeps x rest k = rule.asked x rest k
+  ask_keeps : (x : Ask) (rest : Reply → Timed) → LeavesDevices x → ((r : Reply) → K (rest r)) → K (ask x rest)
+  ask_keeps x rest leaves k = rule.asked x rest leaves k
 
   pub if_keeps : (b : Bool) (t u : Timed) → K t → K u → K (if b then t else u)
   if_keeps true t u k l = k
   if_keeps false t u k l = l
-
-  obtain_keeps : (name : List ℕ) (timeout : Option ℤ) (late got : Timed) → K late → K got → K (request_device name timeout late got)
-  obtain_keeps name timeout late got l k = rule.obtained name timeout late got l k
 
   -- what a point comes to
   abbrev pub IsReached : Point → Timed → Type 0
@@ -145,11 +133,6 @@ module _ (K Apart : Timed → Type 0) (rule : Rule K Apart) where
   IsReached (Called function entry vs leave) t = K t
   IsReached (Jumped entry leave) t = K t
   IsReached (Pass here loop body after ways) t = K t
-
-  pub to_device_keeps : (name : List ℕ) (x : DeviceAsk) (rest : Reply → Timed) → ((r : Reply) → K (rest r)) → K (to_device name x rest)
-  to_device_keeps name x rest k =
-      ask_keeps (asks.Device name x) _ (λ r. if_keeps (is_failed r) (change (broke name) (fault faults.Device)) (rest r)
-      (change_keeps (fault faults.Device) (fault_keeps faults.Device) (broke name) (λ s. (refl, device_length name (λ d. record d { failed = true }) s.devices, refl))) (k r))
 
   pub given_keeps : {A : Type 0} (r : Result A Fault) (rest : A → Timed) → ((v : A) → K (rest v)) → K (given r rest)
   given_keeps (Ok v) rest k = k v
@@ -162,8 +145,8 @@ module _ (K Apart : Timed → Type 0) (rule : Rule K Apart) where
   pub access_keeps : (x : Access) (rest : Answer → Timed) → ((v : Answer) → K (rest v)) → K (access x rest)
   access_keeps x rest k =
       if_keeps (name_in x).global _ (look (λ s. change (accessed x) (given (answered (answer_of x s.locals)) rest)))
-      (ask_keeps _ _ (λ r. given_keeps (answered (answer_told r)) rest k))
-      (look_keeps _ (λ s. change_keeps (given (answered (answer_of x s.locals)) rest) (given_keeps (answered (answer_of x s.locals)) rest k) (accessed x) (λ q. (refl, refl, refl))))
+      (ask_keeps (asks.Shared (shared_asks.Access x)) _ tt (λ r. given_keeps (answered (answer_told r)) rest k))
+      (look_keeps _ (λ s. change_keeps (given (answered (answer_of x s.locals)) rest) (given_keeps (answered (answer_of x s.locals)) rest k) (accessed x) (λ q. (refl, refl, refl, refl))))
 
   -- Expressions.
 
@@ -208,59 +191,32 @@ module _ (K Apart : Timed → Type 0) (rule : Rule K Apart) where
   out_keeps : (rest : Timed) → K rest → K (out_of_transaction rest)
   out_keeps rest k = look_keeps _ (λ s. if_keeps (nat_lt 0 s.level) (fault faults.InTransaction) rest (fault_keeps faults.InTransaction) k)
 
-  asks_served : (x : Ask) (timeout : Option ℤ) (rest : Timed) → K rest → K (ask x (λ r. served timeout r rest))
-  asks_served x timeout rest k = ask_keeps x (λ r. served timeout r rest) (λ r. served_keeps timeout r rest k)
+  asks_served : (x : Ask) (timeout : Option ℤ) (rest : Timed) → LeavesDevices x → K rest → K (ask x (λ r. served timeout r rest))
+  asks_served x timeout rest leaves k = ask_keeps x (λ r. served timeout r rest) leaves (λ r. served_keeps timeout r rest k)
 
   pub hang_keeps : (v : List ℕ) (rest : Timed) → K rest → K (hang v rest)
-  hang_keeps v rest k = given_keeps (reading v) _ (λ n. if_keeps (int_lt (pos 0) n) _ rest (ask_keeps _ (λ r. rest) (λ r. k)) k)
+  hang_keeps v rest k = given_keeps (reading v) _ (λ n. if_keeps (int_lt (pos 0) n) _ rest (ask_keeps (asks.Rest n) (λ r. rest) tt (λ r. k)) k)
 
   pub start_job_keeps : (entry : Entry) (vs : List (Option (List ℕ))) (timeout : Option ℤ) (rest : Timed) → K rest → K (start_job entry vs timeout rest)
   start_job_keeps entry vs timeout rest k =
-      out_keeps _ (asks_served _ timeout rest k)
+      out_keeps _ (asks_served (asks.Shared (shared_asks.Start (record { entry = entry; values = vs }) timeout)) timeout rest tt k)
 
   pub unlock_all_keeps : (rest : Timed) → K rest → K (unlock_all rest)
-  unlock_all_keeps rest k = out_keeps _ (asks_served _ None rest k)
+  unlock_all_keeps rest k = out_keeps _ (asks_served (asks.Shared shared_asks.UnlockAll) None rest tt k)
 
   take_names_keep : (xs : List Name) (timeout : Option ℤ) (rest : Timed) → K rest → K (take_names xs timeout rest)
   take_names_keep [] timeout rest k = k
-  take_names_keep (x ∷ xs) timeout rest k = asks_served _ timeout rest k
+  take_names_keep (x ∷ xs) timeout rest k = asks_served (asks.Shared (shared_asks.Try (x ∷ xs) timeout)) timeout rest tt k
 
   give_names_keep : (xs : List Name) (timeout : Option ℤ) (rest : Timed) → K rest → K (give_names xs timeout rest)
   give_names_keep [] timeout rest k = k
-  give_names_keep (x ∷ xs) timeout rest k = asks_served _ timeout rest k
+  give_names_keep (x ∷ xs) timeout rest k = asks_served (asks.Shared (shared_asks.Unlock (x ∷ xs))) timeout rest tt k
 
   pub lock_keeps : (m : LockMode) (xs : List Name) (timeout : Option ℤ) (rest : Timed) → K rest → K (lock m xs timeout rest)
   lock_keeps mode.Whole xs timeout rest k =
       turn_keeps _ (unlock_all_keeps (turn (take_names xs timeout rest)) (turn_keeps (take_names xs timeout rest) (take_names_keep xs timeout rest k)))
   lock_keeps mode.Plus xs timeout rest k = turn_keeps (take_names xs timeout rest) (take_names_keep xs timeout rest k)
   lock_keeps mode.Minus xs timeout rest k = turn_keeps (give_names xs timeout rest) (give_names_keep xs timeout rest k)
-
-  pub open_keeps : (name : List ℕ) (timeout : Option ℤ) (rest : Timed) → K rest → K (open_device name timeout rest)
-  open_keeps name timeout rest k =
-      obtain_keeps name timeout rest (turn (begin_session name rest)) k (turn_keeps (begin_session name rest) (to_device_keeps name _ (λ r. rest) (λ r. k)))
-
-  pub use_keeps : (name : List ℕ) (rest : Timed) → K rest → K (use_device name rest)
-  use_keeps name rest k =
-      look_keeps _ (λ s. if_keeps (is_open name s) (change (used name) rest) (fault faults.NoDevice) (change_keeps rest k (used name) (λ t. (refl, refl, refl))) (fault_keeps faults.NoDevice))
-
-  give_up_keeps : (name : List ℕ) (rest : Timed) → K rest → K (give_up name rest)
-  give_up_keeps name rest k = ask_keeps _ (λ r. rest) (λ r. k)
-
-  pub close_keeps : (name : List ℕ) (rest : Timed) → K rest → K (close name rest)
-  close_keeps name rest k =
-      let badly : Timed = turn (give_up name (fault faults.Device)) in
-      let well : Timed = turn (give_up name rest) in
-      let behind : Reply → Timed = λ r. change (dropped name) (if is_failed r then badly else well) in
-      look_keeps _ (λ s. if_keeps (may_close name s) _ rest
-      (ask_keeps _ behind (λ r. fewer_keeps (if is_failed r then badly else well)
-      (if_keeps (is_failed r) badly well (turn_keeps _ (give_up_keeps name (fault faults.Device) (fault_keeps faults.Device))) (turn_keeps _ (give_up_keeps name rest k)))
-      (dropped name) (dropped_fewer name)))
-      k)
-
-  pub read_input_keeps : (m : ReadMode) (timeout : Option ℤ) (rest : List ℕ → Timed) → ((v : List ℕ) → K (rest v)) → K (read_input m timeout rest)
-  read_input_keeps m timeout rest k =
-      look_keeps _ (λ s. to_device_keeps s.current _ (λ r. change (test_in_time timeout (is_input r)) (rest (input_told m r)))
-      (λ r. change_keeps (rest (input_told m r)) (k (input_told m r)) (test_in_time timeout (is_input r)) (tests_same timeout (is_input r))))
 
   -- the QUIT of a frame
   pub framed_keeps : (rest : Timed) → K rest → K (quit_frame rest)

@@ -1,6 +1,6 @@
 -- A job asks at most 1,000,000 times before its ending: the words that rows are made of keep this.
-use Rattle.std.proofs.Common.{◌≡◌, ℕ, zero, suc, ◌+◌, ◌≤◌, ◌<◌, List, [], ◌∷◌, length, map, Option, Some, None, Bool, true, false, inl, inr, refl, subst, arith, length-append}
-use Rattle.std.specs.Prelude.{ℤ, nat_lt, nat_le, nat_eq, if◌then◌else◌}
+use Rattle.std.proofs.Common.{◌≡◌, ℕ, zero, suc, ◌+◌, ◌≤◌, ◌<◌, List, [], ◌∷◌, length, map, Option, Some, None, Bool, true, false, inl, inr, refl, ap, subst, arith, length-append}
+use Rattle.std.specs.Prelude.{ℤ, nat_lt, nat_le, if◌then◌else◌}
 use Rattle.std.proofs.lemmas.Bool.{ltb-true, ltb-false}
 use Rattle.std.proofs.lemmas.List.{length-map}
 use Rattle.mj_text.specs.declared.fault.Fault.{Fault}
@@ -10,14 +10,13 @@ use Rattle.mj_ask.specs.declared.ask.Ask.TheVariants as asks
 use Rattle.mj_ask.specs.declared.ask.SharedAsk.TheVariants as shared_asks
 use Rattle.mj_ask.specs.declared.ask.DeviceAsk.TheVariants as device_asks
 use Rattle.mj_ask.specs.declared.ask.Reply.{Reply}
-use Rattle.mj_semantics.specs.State.{State, Locals, Words, TransactionMark, Place, OpenDevice, principal, devices_limit, has_failed, ending_order, with_device, is_open, counted, marked, raised, lowered, settled, can_restart, back_at, restarted}
+use Rattle.mj_semantics.specs.State.{State, Locals, Place, OpenDevice, principal, devices_limit, has_failed, ending_order, with_device, is_open, counted}
 use Rattle.mj_semantics.specs.Outcome.{Needs, More, Handler, Timed, turn, turns, look, change, asking, no_restart, until, restartable, go_back, over, halt, ends, end, fault_bytes, fault, steps_limit, ask}
 use Rattle.mj_semantics.specs.Devices.{is_got, has_no_session, obtained, request_device}
 use Rattle.mj_semantics.specs.Sharing.{in_time as test_in_time}
-use Rattle.mj_semantics.specs.Transactions.{levels_limit, begin_transaction, in_transaction, is_clash, commit, roll_back, roll_back_for_restart, begin_restart}
-use Rattle.mj_semantics.specs.Commands.{for_again}
 use Rattle.mj_jobvm.specs.Limit.{IsAllowed}
-use Rattle.mj_jobvm.proofs.Rule.{Rule}
+use Rattle.mj_jobvm.proofs.Everywhere.{Everywhere}
+use Rattle.mj_jobvm.proofs.Transacted.{Plain, begins, commits, rolls_back, gives_back}
 
 -- no more asks were replied to than may be, and no more devices are open
 abbrev pub IsFair : State → Type 0
@@ -271,41 +270,18 @@ restartable_keeps again rest g k = record { by = λ n h back s replies a locals 
 go_back_keeps : Keeps go_back
 go_back_keeps = record { by = λ n h back s replies a locals at le e. back.by n s replies a locals at le e }
 
-pub begin_transaction_keeps : (restored : Option Words) (serial : Bool) (inner outermost : Timed) → Keeps inner → Keeps outermost → Keeps (begin_transaction restored serial inner outermost)
-begin_transaction_keeps restored serial inner outermost k l =
-    let one_more : Timed = change raised inner in
-    look_keeps _ (λ s. if_keeps (nat_eq s.level 0) _ (if nat_lt s.level levels_limit then one_more else fault faults.Limit)
-    (ask_keeps _ _ (λ r. change_keeps outermost l (marked restored serial) (λ q. (refl, refl))))
-    (if_keeps (nat_lt s.level levels_limit) one_more (fault faults.Limit) (change_keeps inner k raised (λ q. (refl, refl))) (fault_keeps faults.Limit)))
+plain : Plain Keeps
+plain = record {
+  turned = turn_keeps;
+  looked = look_keeps;
+  changed = λ f t same k. change_keeps t k f (λ s. ((same s).0, ap length (same s).1));
+  asked = λ x t leaves k. ask_keeps x t k;
+  faulted = fault_keeps;
+  went_back = go_back_keeps;
+}
 
-in_transaction_keeps : (rest : Timed) → Keeps rest → Keeps (in_transaction rest)
-in_transaction_keeps rest k = look_keeps _ (λ s. if_keeps (nat_eq s.level 0) (fault faults.NoTransaction) rest (fault_keeps faults.NoTransaction) k)
-
-pub commit_keeps : (clashed done : Timed) → Keeps clashed → Keeps done → Keeps (commit clashed done)
-commit_keeps clashed done k l =
-    in_transaction_keeps _ (look_keeps _ (λ s. if_keeps (nat_lt 1 s.level) (change lowered done) _ (change_keeps done l lowered (λ q. (refl, refl)))
-    (ask_keeps _ _ (λ r. if_keeps (is_clash r) clashed (change settled done) k (change_keeps done l settled (λ q. (refl, refl)))))))
-
-pub roll_back_keeps : (rest : Timed) → Keeps rest → Keeps (roll_back rest)
-roll_back_keeps rest k = in_transaction_keeps _ (ask_keeps _ _ (λ r. change_keeps rest k settled (λ q. (refl, refl))))
-
-pub give_back_keeps : (rest : Timed) → Keeps rest → Keeps (roll_back_for_restart rest)
-give_back_keeps rest k =
-    in_transaction_keeps _ (look_keeps _ (λ s. if_keeps (can_restart s) _ (fault faults.NoRestart)
-    (ask_keeps _ (λ r. rest) (λ r. k)) (fault_keeps faults.NoRestart)))
-
-restarted_same : (s : State) → IsLike s (restarted s)
-restarted_same s = by s.mark
-  where
-    by : (o : Option TransactionMark) → IsLike s (elim o [ None ↦ s | Some m ↦ back_at m s ])
-    by None = (refl, refl)
-    by (Some m) = (refl, refl)
-
-pub begin_again_keeps : Keeps begin_restart
-begin_again_keeps = look_keeps _ (λ s. ask_keeps _ _ (λ r. change_keeps go_back go_back_keeps restarted restarted_same))
-
--- so what holds of a word holds of each row
-pub limited : Rule Keeps Keeps
+-- so what holds of a word holds of each row, whatever is asked
+pub limited : Everywhere Keeps Keeps
 limited = record {
   turned = turn_keeps;
   looked = look_keeps;
@@ -315,10 +291,10 @@ limited = record {
   faulted = fault_keeps;
   spent = record { by = λ n h back s replies a locals at le e. cc };
   obtained = obtain_keeps;
-  begun = begin_transaction_keeps;
-  committed = λ done k. commit_keeps (turn begin_restart) done (turn_keeps begin_restart begin_again_keeps) k;
-  rolled_back = roll_back_keeps;
-  given_back = give_back_keeps (turn begin_restart) (turn_keeps begin_restart begin_again_keeps);
+  begun = begins Keeps plain;
+  committed = commits Keeps plain;
+  rolled_back = rolls_back Keeps plain;
+  given_back = gives_back Keeps plain;
   started = restartable_keeps;
   apart_turned = turn_keeps;
   apart_spent = record { by = λ n h back s replies a locals at le e. cc };

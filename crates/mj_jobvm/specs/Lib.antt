@@ -1,5 +1,6 @@
 pub mod Run
 pub mod Limit
 pub mod Halted
+pub mod Fit
 pub mod Told
 pub mod Jobs

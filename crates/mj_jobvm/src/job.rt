@@ -196,6 +196,13 @@ impl Job {
         self.log.as_slice()
     }
 
+    /// Gives up a job for its log.
+    pub fn into_log(self) -> Vec<(Ask, Reply)>
+        ensures { result.items ≡ self.run.log }
+    {
+        self.log
+    }
+
     /// Its locals, which can be asked as every store can.
     pub fn locals(&self) -> &Locals
         ensures { result.now.now ≡ self.now.run.at.state.locals }

@@ -11,4 +11,4 @@ mod job;
 mod laws;
 
 pub use job::{Job, SPENT_LIMIT, Turn};
-pub use laws::ended_by_halt;
+pub use laws::{asks_what_fits, ended_by_halt};

@@ -2,7 +2,8 @@
 
 ghost use Rattle.std.specs.Prelude.{◌∷◌, ◌≡◌, ◌<◌, ◌≤◌, ◌+◌, List, [], length, take_while, IfSome, OnOk, OnErr, MatchOption, drop};
 ghost use Rattle.mj_ast.specs.Tokens.{Lexeme as Spelled, front_of, lexemes as the_lexemes, IsTokenisation, quotation, quoted_token, class_of};
-ghost use Rattle.mj_ast.specs.Tokens.{is_digit, continues_word, bracket_front, truth_front, apostrophe_sign, longest_sign, begins_word, dollar_word, dollar_front};
+ghost use Rattle.mj_ast.specs.Tokens.{is_digit, continues_word, bracket_front, truth_front, apostrophe_sign, longest_sign, begins_word, dollar_word};
+ghost use Rattle.mj_ast.specs.Tokens.{dollar_front};
 ghost use Rattle.mj_lex.specs.Seen.{BeginsWith, placed, places_seen, class_seen, token_seen};
 
 use crate::token::{Lexeme, Token};

@@ -151,7 +151,7 @@ fn put_back(table: &mut Table, trail: &mut Trail)
     trail.end();
 }
 
-// The same words once more.
+// A copy of the words.
 fn copied(alloc: Global, words: &[Text]) -> Result<Vec<Text>, AllocError>
     ensures { IfOk result (λ list. list.items ≡ words.now) }
 {

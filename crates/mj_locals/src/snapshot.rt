@@ -55,7 +55,7 @@ impl Snapshot {
         let _rows = &self.rows;
     }
 
-    /// The same copies once more.
+    /// A copy of it.
     pub fn try_clone(&self, alloc: Global) -> Result<Snapshot, AllocError>
         ensures { IfOk result (λ s. s ≡ self.now) }
     {

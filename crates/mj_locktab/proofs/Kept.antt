@@ -23,7 +23,8 @@ use Rattle.mj_locktab.proofs.Apart.{in_the_way, all_free, apart-after_take, apar
 pub kept-none : IsLockTable []
 kept-none = record { in_order = tt; counted = refl; within = λ job. refl; apart = λ j k m n other one two over. omega (arith, one) }
 
-pub kept-after_take : (locks : Locks) (job : ℕ) (names : List Name) → IsLockTable locks → AreFree locks job names → is_past_limit (after_take locks job names) job ≡ false → IsLockTable (after_take locks job names)
+pub kept-after_take : (locks : Locks) (job : ℕ) (names : List Name) → IsLockTable locks → AreFree locks job names → is_past_limit (after_take locks job names) job ≡ false
+    → IsLockTable (after_take locks job names)
 kept-after_take locks job names kept are_free within = record {
   in_order = order-after_take locks job names kept.in_order;
   counted = counted-after_take locks job names kept.counted;
@@ -60,7 +61,8 @@ after_take-append locks job (n ∷ names) more = after_take-append (one_more loc
 
 module _ (locks : Locks) (job : ℕ) (n : Name) (order : IsInOrder locks) (within : is_past_limit locks job ≡ false) where
   -- of a name that is held, the count tells whether a limit is passed
-  pub held_over : (at : ℕ) (e : Hold × ℕ) → HoldStandsAt locks (hold_of job n) at → e ≡ get_or locks at e → e.1 ≡ COUNT_LIMIT → (set locks at e ≡ locks) × (is_past_limit (one_more locks job n) job ≡ true)
+  pub held_over : (at : ℕ) (e : Hold × ℕ) → HoldStandsAt locks (hold_of job n) at → e ≡ get_or locks at e → e.1 ≡ COUNT_LIMIT
+      → (set locks at e ≡ locks) × (is_past_limit (one_more locks job n) job ≡ true)
   held_over at e is here full = (
     ap (λ (x : Hold × ℕ). set locks at x) here ∙ set-get_or locks at e,
     over-held locks job e.1 n order within (is.found e ∙ ap (λ (x : Hold × ℕ). Some x.1) (sym here)) ∙ lt_true COUNT_LIMIT (e.1 + 1) (omega (arith, full)),

@@ -19,11 +19,12 @@ pub struct LockTable {
 }
 
 impl Model for LockTable {
-    ghost use Rattle.mj_locktab.specs.Locks.{Locks, IsLockTable};
+    ghost use Rattle.mj_locktab.specs.Locks.{IsLockTable};
+    ghost use Rattle.mj_locktab.specs.Visits.{Visited};
 
-    ghost Value = { Locks };
+    ghost Value = { Visited };
 
-    ghost view = { λ t. t.held.items };
+    ghost view = { λ t. record { holds = t.held.items; visits = 0 } };
 
     ghost invariant = { λ t. IsLockTable t.held.items };
 }
@@ -31,7 +32,7 @@ impl Model for LockTable {
 impl LockTable {
     /// A table in which nothing is held.
     pub fn new(alloc: Global) -> LockTable
-        ensures { result ≡ [] }
+        ensures { result.holds ≡ [] }
     {
         LockTable {
             held: Vec::new(alloc),
@@ -42,10 +43,10 @@ impl LockTable {
     /// that the first such name of the list meets: the lowest job's, and of its names the least. The time goes with the names that are held,
     /// once for each name of the list.
     pub fn try_take(&mut self, job: u32, names: &[Name]) -> Result<Taken, AllocError>
-        ensures answer { IfOk result (λ taken. taken ≡ outcome_of self.old job names.now) }
-        ensures after { OnOk result (self.new ≡ after_try self.old job names.now) }
-        ensures meaning { IfOk result (λ taken. TryGives self.old job names.now taken self.new) }
-        ensures err { OnErr result (self.new ≡ self.old) }
+        ensures answer { IfOk result (λ taken. taken ≡ outcome_of self.old.holds job names.now) }
+        ensures after { OnOk result (self.new.holds ≡ after_try self.old.holds job names.now) }
+        ensures meaning { IfOk result (λ taken. TryGives self.old.holds job names.now taken self.new.holds) }
+        ensures err { OnErr result (self.new.holds ≡ self.old.holds) }
     {
         match held::conflict_of(&self.held, job, names) {
             Some(entry) => {
@@ -66,38 +67,38 @@ impl LockTable {
 
     /// Gives each name up once for each of its places in the list. Of a name that the job doesn't hold nothing changes.
     pub fn give(&mut self, job: u32, names: &[Name])
-        ensures after { self.new ≡ after_give self.old job names.now }
-        ensures counts { FallsBy self.old job names.now self.new }
+        ensures after { self.new.holds ≡ after_give self.old.holds job names.now }
+        ensures counts { FallsBy self.old.holds job names.now self.new.holds }
     {
         held::give_each(&mut self.held, job, names);
     }
 
     /// Gives all names of the job up, whatever their counts.
     pub fn give_all(&mut self, job: u32)
-        ensures after { self.new ≡ after_give_all self.old job }
-        ensures counts { IsWithout self.old job self.new }
+        ensures after { self.new.holds ≡ after_give_all self.old.holds job }
+        ensures counts { IsWithout self.old.holds job self.new.holds }
     {
         held::give_all(&mut self.held, job);
     }
 
     /// How often the job holds the name.
     pub fn count(&self, job: u32, name: &Name) -> u32
-        ensures { result ≡ count_of self.now job name.now }
+        ensures { result ≡ count_of self.now.holds job name.now }
     {
         held::count(&self.held, job, name)
     }
 
     /// Each job with each name that it holds and its count: by job, then globals before locals, then by word and subscripts.
     pub fn held(&self, alloc: Global) -> Result<Vec<(u32, Name, u32)>, AllocError>
-        ensures each { IfOk result (λ list. list.items ≡ map (λ e. (job_of e.0, name_of e.0, e.1)) self.now) }
-        ensures kept { IsLockTable self.now }
+        ensures each { IfOk result (λ list. list.items ≡ map (λ e. (job_of e.0, name_of e.0, e.1)) self.now.holds) }
+        ensures kept { IsLockTable self.now.holds }
     {
         held::list(alloc, &self.held)
     }
 
     /// A copy.
     pub fn try_clone(&self) -> Result<LockTable, AllocError>
-        ensures { IfOk result (λ copy. copy ≡ self.now) }
+        ensures { IfOk result (λ copy. copy.holds ≡ self.now.holds) }
     {
         let held = held::copy(*self.held.allocator(), &self.held)?;
         Ok(LockTable { held })
@@ -105,7 +106,7 @@ impl LockTable {
 
     /// That this table keeps what each does. Nothing is done.
     pub fn keeps(&self)
-        ensures { IsLockTable self.now }
+        ensures { IsLockTable self.now.holds }
     {
         let _held = &self.held; // for the proof
     }

@@ -2,3 +2,9 @@ mod Joined
 mod Counting
 mod Lines
 mod Untaken
+mod Worded
+mod Content
+mod ReadBack
+mod Starting
+mod Devices
+mod Heads

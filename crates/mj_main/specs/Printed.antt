@@ -1,5 +1,8 @@
--- What is printed of many jobs (this profile). Byte 10 ends a line, and `:` is byte 58.
-use Rattle.std.specs.Prelude.{ℕ, zero, suc, ◌==◌, Bool, false, not, List, [], ◌∷◌, ◌++◌, Option, None, Some, reverse, decimal, codes, if◌then◌else◌}
+-- What is printed of many jobs, and of a replay (this profile). Byte 10 ends a line, and `:` is byte 58.
+use Rattle.std.specs.Prelude.{ℕ, zero, suc, ◌+◌, ◌-◌, ◌^◌, min, ◌==◌, Bool, false, not, List, [], ◌∷◌, ◌++◌, length, Option, None, Some, reverse, decimal, codes, if◌then◌else◌}
+use Rattle.mj_debug.specs.declared.replaying.Verdict.{Verdict}
+use Rattle.mj_debug.specs.declared.replaying.Verdict.TheVariants as verdicts
+use Rattle.mj_trace.specs.Trace.{Traced}
 
 -- there are bytes, and they don't end a line
 abbrev pub lacks_end : List ℕ → Bool
@@ -34,3 +37,13 @@ wait_line job what holder place = codes "job " ++ decimal job ++ codes " waits f
 -- the line on a job that waits for something to read
 abbrev pub idle_line : ℕ → List ℕ
 idle_line job = codes "job " ++ decimal job ++ codes " waits for input" ++ 10 ∷ []
+
+-- the line of a trace on which an event stands, which counts from 0. Lines count from 1: before the events stand the header, and a line for each device and
+-- each start. No number is greater than the greatest of 64 bits
+abbrev pub event_line : Traced → ℕ → ℕ
+event_line trace at = min (length trace.pool + length trace.starts + at + 2) (2 ^ 64 - 1)
+
+-- what is printed of what a replay says
+abbrev pub verdict_text : Traced → Verdict → List ℕ
+verdict_text trace verdicts.Same = codes "same" ++ 10 ∷ []
+verdict_text trace (verdicts.Differs at) = codes "differs at line " ++ decimal (event_line trace at) ++ 10 ∷ []

@@ -15,10 +15,11 @@ use Rattle.mj_main.specs.declared.stop.ProgramError.{ProgramError}
 use Rattle.mj_main.specs.declared.stop.ProgramError.TheVariants as stops
 
 -- the status where it stops before its end: 2 where a routine, a listing, a trace, a file of steps or a step is refused, 3 where the command line is
--- wrong, 4 where memory or a file fails, where all jobs wait, or where they go on for too long
+-- wrong, 4 where memory or a file fails, where another run has a file, where all jobs wait, or where they go on for too long
 abbrev pub status_of : ProgramError → ℕ
 status_of (stops.Value value) = 3
 status_of (stops.File file) = 4
+status_of (stops.Busy file) = 4
 status_of (stops.Name file) = 2
 status_of (stops.Routine refusal) = 2
 status_of (stops.Twice name) = 2

@@ -1,15 +1,23 @@
--- The trace of a run: what it begins with, and the lines of its events.
-use Rattle.std.specs.Prelude.{ℕ, List, map}
-use Rattle.mj_ask.specs.declared.entry.Entry.{Entry}
-use Rattle.mj_ask.specs.declared.ask.Ask.{Ask}
-use Rattle.mj_ask.specs.declared.ask.Reply.{Reply}
+-- The trace of a run: what stands before its events.
+use Rattle.std.specs.Prelude.{◌≡◌, ℕ, true, List, map}
+use Rattle.std.specs.List.{list_all}
 use Rattle.mj_ask.specs.Started.{Started}
-use Rattle.mj_sys.specs.declared.event.Event.{Event}
+use Rattle.mj_rou.specs.Words.{Each, IsRoutineWorded}
+use Rattle.mj_load.specs.Image.{Loaded, routines_of}
+use Rattle.mj_dev.specs.Shelves.{Shelf, count_of}
+use Rattle.mj_sys.specs.Opening.{opening_of}
+use Rattle.mj_sys.specs.Shared.{Shared}
+use Rattle.mj_trace.specs.Trace.{opening_text}
+use Rattle.mj_trace.specs.Sized.{device_count_fits}
+use Rattle.mj_recorded.specs.Traces.{entries_of, IsBeginning}
 
--- the entries at which jobs start
-abbrev pub entries_of : List Started → List Entry
-entries_of starts = map (λ s. s.entry) starts
-
--- of each event its job, what that asked, and what it was told
-abbrev pub told_of : List Event → List (ℕ × Ask × Reply)
-told_of events = map (λ e. (e.job, e.ask, e.reply)) events
+-- These bytes are the head of the trace of a run of these routines that has this opening: that of devices and starts with which a run can begin, and
+-- which are within the sizes of their values. The names of the routines are words.
+pub record IsHead (image : Loaded) (opening : Shared) (head : List ℕ) : Type 0 where
+  pub pool : List Shelf
+  pub starts : List Started
+  pub worded : Each IsRoutineWorded (routines_of image)
+  pub begins : IsBeginning opening.globals pool starts
+  pub opens : opening ≡ opening_of opening.globals pool starts
+  pub text : head ≡ opening_text (map count_of pool) (entries_of starts)
+  pub sized : list_all device_count_fits (map count_of pool) ≡ true

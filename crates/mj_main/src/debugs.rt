@@ -1,19 +1,20 @@
 // The debugger, over the commands that a reader gives.
 
-ghost use Rattle.std.specs.Prelude.{◌≡◌, ◌≤◌, length, true};
+ghost use Rattle.std.specs.Prelude.{◌≡◌, ◌≤◌, length, true, IfSome};
 ghost use Rattle.mj_dev.specs.Shelves.{principal, left_of};
 ghost use Rattle.mj_jobs.specs.Rows.{rows_limit};
-ghost use Rattle.mj_sys.specs.Opening.{opening_of};
+ghost use Rattle.mj_sys.specs.Opening.{opening_of, are_bare};
 ghost use Rattle.mj_sys.specs.Shared.{are_global};
 ghost use Rattle.mj_debug.specs.Walks.{AreWhole};
 
 use crate::begin::{Beginning, begin, trace_from};
 use crate::jobs::has_faulted;
 use crate::listings::save;
+use crate::locks::{Lockable, LockedFile};
 use crate::printing::{print, stopped, tell_trouble};
 use crate::prompts::{Prompt, prompt_of};
 use crate::stop::{FAILED, FAULTED, ProgramError};
-use crate::traces::{Trace, write_trace};
+use crate::traces::{Trace, write_record};
 use mj_ask::Start;
 use mj_command_line::{Debug, Run};
 use mj_debug::Debugger;
@@ -35,6 +36,7 @@ use std::rt::Files;
 pub fn debug<R, I, O, E>(rt: R, order: &Debug<'_>, input: &mut I, out: &mut O, err: &mut E) -> u8
 where
     R: Files + AllocGlobal + Copy + Drop,
+    R::File: Lockable,
     I: Read,
     O: Write,
     E: Write,
@@ -57,6 +59,7 @@ fn debug_from<R, I, O, E>(
 ) -> u8
 where
     R: Files + AllocGlobal + Copy + Drop,
+    R::File: Lockable,
     I: Read,
     O: Write,
     E: Write,
@@ -86,13 +89,15 @@ where
         globals,
         pool,
         starts,
+        lock,
     } = beginning;
     drop(steps);
     let status = with_files::<R, I, O, E, Port<R>, Brand>(
-        &rt, &order.run, &prompt, &trace, image, globals, pool, starts, input, out, err,
+        &rt, &order.run, &prompt, &trace, &lock, image, globals, pool, starts, input, out, err,
     );
     drop(trace);
     drop(prompt);
+    drop(lock);
     status
 }
 
@@ -102,6 +107,7 @@ fn with_files<R, I, O, E, D, G>(
     order: &Run<'_>,
     prompt: &Option<Prompt>,
     trace: &Option<Trace<'_>>,
+    lock: &Option<LockedFile<R::File>>,
     image: Image,
     globals: Globals,
     pool: Pool<D>,
@@ -112,23 +118,27 @@ fn with_files<R, I, O, E, D, G>(
 ) -> u8
 where
     R: Files + AllocGlobal,
+    R::File: Lockable,
     I: Read,
     O: Write,
     E: Write,
     D: Device,
     G: Opening,
-    requires opening { opening_of globals pool starts.items ≡ G.opening }
-    requires global { are_global globals ≡ true }
+    requires opening { opening_of globals.content pool starts.items ≡ G.opening }
+    requires global { are_global globals.content ≡ true }
     requires some { 1 ≤ length starts.items }
     requires few { length starts.items ≤ rows_limit }
     requires fits { length starts.items ≤ left_of principal pool }
+    requires bare { are_bare starts.items ≡ true }
     requires whole { AreWhole pool }
     ensures { result ≤ 4 }
 {
     match Debugger::<D, Sessions<D>, G>::new(rt.alloc(), image, globals, pool, starts) {
         Ok(mut debugger) => {
-            let told = converse(rt.alloc(), &mut debugger, prompt, input, out, err);
-            let status = finish(rt, &debugger, order, trace, told, err);
+            let status = match converse(rt.alloc(), &mut debugger, prompt, input, out, err) {
+                Some(told) => finish(rt, &debugger, order, trace, lock, told, err),
+                None => stopped(&ProgramError::Memory, err),
+            };
             // its core alone is dropped here, since the prover doesn't cover the drop of a whole debugger
             drop(debugger.into_core());
             status
@@ -140,7 +150,8 @@ where
     }
 }
 
-// Answers commands up to the one that ends, or up to the end of the input, or as far as they can be answered, and gives the exit status of that.
+// Answers commands up to the one that ends, or up to the end of the input, or as far as they can be answered, and gives the exit status of that. Where memory
+// was refused there is none.
 fn converse<I, O, E, D, G>(
     alloc: Global,
     debugger: &mut Debugger<D, Sessions<D>, G>,
@@ -148,17 +159,17 @@ fn converse<I, O, E, D, G>(
     input: &mut I,
     out: &mut O,
     err: &mut E,
-) -> u8
+) -> Option<u8>
 where
     I: Read,
     O: Write,
     E: Write,
     D: Device,
     G: Opening,
-    ensures { result ≤ 4 }
+    ensures { IfSome result (λ status. status ≤ 4) }
 {
     let Ok(mut reader) = BufReader::new(alloc, input) else {
-        return stopped(&ProgramError::Memory, err);
+        return None;
     };
     let mut full = false;
     for _ in 0..u64::MAX {
@@ -168,10 +179,11 @@ where
         match exchange(alloc, debugger, prompt, &mut reader, out, err) {
             Ok(Exchanged::Answered { full: told }) => full = full || told,
             Ok(Exchanged::Over) => break,
-            Err(stop) => return stopped(&stop, err),
+            Err(ProgramError::Memory) => return None,
+            Err(stop) => return Some(stopped(&stop, err)),
         }
     }
-    if full { FAILED } else { 0 }
+    Some(if full { FAILED } else { 0 })
 }
 
 // What comes of a line.
@@ -216,17 +228,22 @@ where
     Ok(Exchanged::Answered { full })
 }
 
-// The next line, without its end, which the last may lack.
+// The most bytes of a line, with its end.
+const LINE_BYTES: usize = 65_536;
+
+// The next line, without its end, which the last may lack. One that is too long can't be read.
 fn next_line<'a, B: BufRead>(
     alloc: Global,
     reader: &mut B,
 ) -> Result<Option<Vec<u8>>, ProgramError<'a>> {
     let mut line = Vec::new(alloc);
-    match reader.read_until(b'\n', &mut line) {
+    match reader.take(LINE_BYTES as u64).read_until(b'\n', &mut line) {
         Ok(0) => Ok(None),
-        Ok(_) => {
+        Ok(count) => {
             if line.last() == Some(&b'\n') {
                 let _ = line.pop();
+            } else if count == LINE_BYTES {
+                return Err(ProgramError::File("-"));
             }
             Ok(Some(line))
         }
@@ -235,17 +252,20 @@ fn next_line<'a, B: BufRead>(
     }
 }
 
-// Writes the globals and the trace, and gives the exit status: the greatest where several apply.
+// Writes the globals, then the trace, and gives the exit status: the greatest where several apply. Where the globals can't be written the trace still is, unless
+// memory was refused.
 fn finish<R, E, D, G>(
     rt: &R,
     debugger: &Debugger<D, Sessions<D>, G>,
     order: &Run<'_>,
     trace: &Option<Trace<'_>>,
+    lock: &Option<LockedFile<R::File>>,
     told: u8,
     err: &mut E,
 ) -> u8
 where
     R: Files + AllocGlobal,
+    R::File: Lockable,
     E: Write,
     D: Device,
     G: Opening,
@@ -254,7 +274,10 @@ where
 {
     let core = debugger.core();
     let faulted = if has_faulted(core) { FAULTED } else { 0 };
-    let saved = tell_trouble(save(rt, core.globals(), order.save), err);
-    let traced = tell_trouble(write_trace(rt, trace, core), err);
+    let saved = match save(rt, core.globals(), order.save, lock) {
+        Err(ProgramError::Memory) => return stopped(&ProgramError::Memory, err),
+        done => tell_trouble(done, err),
+    };
+    let traced = tell_trouble(write_record(rt, trace, core), err);
     told.max(faulted).max(saved).max(traced)
 }

@@ -1,37 +1,34 @@
-// Files, and the names of the routines in them.
+// Files that are read, and the names of the routines in them.
 
-ghost use Rattle.std.specs.Prelude.{◌≡◌, IfOk, IfSome};
+ghost use Rattle.std.specs.Prelude.{◌≡◌, IfOk, IfSome, Ok};
 
 use crate::stop::ProgramError;
-use mj_files::Trouble;
+use mj_ast::{LINE_LIMIT, ROUTINE_LIMIT};
+use mj_files::{BYTES_LIMIT, Trouble};
 use std::alloc::{AllocError, Global};
-use std::fs::{self, File};
-use std::io::{ErrorKind, Read};
+use std::io::Read;
 use std::rt::Files;
+
+/// The most bytes of a routine that are looked at: one that has more has a line over its limit among these, or a line too many.
+const ROUTINE_BYTES: usize = ROUTINE_LIMIT * (LINE_LIMIT + 2) + 1;
 
 /// Reads the bytes of a file.
 pub fn file_bytes<'a, R: Files + AllocGlobal>(
     rt: &R,
     file: &'a str,
 ) -> Result<Vec<u8>, ProgramError<'a>> {
-    match File::open(rt, file) {
-        Ok(mut reader) => whole(rt.alloc(), &mut reader, file),
-        Err(error) if error.kind() == ErrorKind::OutOfMemory => Err(ProgramError::Memory),
-        Err(_) => Err(ProgramError::File(file)),
-    }
+    named(mj_files::file_bytes(rt.alloc(), rt, file), file)
 }
 
-/// Writes these bytes to a file, in the place of what stands there.
-pub fn write_file<'a, R: Files + AllocGlobal>(
+/// Reads the bytes of a routine, as many as are looked at.
+pub fn routine_bytes<'a, R: Files + AllocGlobal>(
     rt: &R,
     file: &'a str,
-    bytes: &[u8],
-) -> Result<(), ProgramError<'a>> {
-    match fs::write(rt, file, bytes) {
-        Ok(()) => Ok(()),
-        Err(error) if error.kind() == ErrorKind::OutOfMemory => Err(ProgramError::Memory),
-        Err(_) => Err(ProgramError::File(file)),
-    }
+) -> Result<Vec<u8>, ProgramError<'a>> {
+    named(
+        mj_files::file_front(rt.alloc(), rt, file, ROUTINE_BYTES),
+        file,
+    )
 }
 
 /// Reads all bytes of a reader, which messages call by this name.
@@ -42,7 +39,14 @@ pub fn whole<'a, R: Read>(
 ) -> Result<Vec<u8>, ProgramError<'a>>
     ensures { IfOk result (λ bytes. IfSome (R.remaining reader.old) (λ known. bytes.items ≡ known)) }
 {
-    match mj_files::whole(alloc, reader) {
+    named(mj_files::whole(alloc, reader, BYTES_LIMIT), name)
+}
+
+// What was read of a file, which messages call by this name.
+fn named<'a>(read: Result<Vec<u8>, Trouble>, name: &'a str) -> Result<Vec<u8>, ProgramError<'a>>
+    ensures { IfOk result (λ bytes. read ≡ Ok bytes) }
+{
+    match read {
         Ok(bytes) => Ok(bytes),
         Err(Trouble::Memory) => Err(ProgramError::Memory),
         Err(Trouble::Failed) => Err(ProgramError::File(name)),

@@ -7,12 +7,16 @@
 // trace of the run (`traces.rt`) are written last.
 #![tactic(auto)]
 
+mod apart;
 mod begin;
 mod debugs;
+mod drafts;
 mod files;
 mod jobs;
 mod listings;
+mod locks;
 mod part;
+mod places;
 mod printing;
 mod program;
 mod prompts;
@@ -22,4 +26,5 @@ mod stop;
 mod traces;
 mod wait;
 
+pub use locks::Lockable;
 pub use program::run;

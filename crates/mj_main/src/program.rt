@@ -1,16 +1,27 @@
 // The program.
 
-ghost use Rattle.std.specs.Prelude.{◌≡◌, ◌≤◌, length, true, IfOk, if◌then◌else◌};
-ghost use Rattle.mj_dev.specs.Shelves.{principal, left_of};
+ghost use Rattle.std.specs.Prelude.{◌≡◌, ◌≤◌, length, map, option_map, true, All, IfOk, IfSome, if◌then◌else◌};
+ghost use Rattle.std.specs.List.{list_all};
+ghost use Rattle.mj_ask.specs.Fitting.{is_content};
+ghost use Rattle.mj_dev.specs.Shelves.{AreRising, count_of, principal, left_of};
 ghost use Rattle.mj_jobs.specs.Rows.{rows_limit};
-ghost use Rattle.mj_sys.specs.Opening.{opening_of};
+ghost use Rattle.mj_sys.specs.Opening.{opening_of, are_bare};
 ghost use Rattle.mj_sys.specs.Shared.{are_global};
+ghost use Rattle.mj_rou.specs.Words.{Each, IsRoutineWorded};
+ghost use Rattle.mj_load.specs.Image.{routines_of};
+ghost use Rattle.mj_debug.specs.Walks.{AreWhole};
+ghost use Rattle.mj_trace.specs.Trace.{opening_text};
+ghost use Rattle.mj_trace.specs.Sized.{device_count_fits};
+ghost use Rattle.mj_recorded.specs.Traces.{entries_of};
+ghost use Rattle.mj_main.specs.Traced.{IsHead};
 ghost use Rattle.mj_main.specs.Statuses.{has_faulted, ending_status, stop_of};
+ghost use Rattle.mj_main.specs.Words.{WasRead, WereListed, WereStarts, WereSteps, AreOrdered, IsPoolOf};
 
 use crate::begin::{Beginning, begin, trace_from};
 use crate::debugs::debug;
 use crate::jobs::{has_faulted, printed, waits};
 use crate::listings::save;
+use crate::locks::{Lockable, LockedFile};
 use crate::printing::{print, stopped, tell_trouble};
 use crate::replays::replayed;
 use crate::routines::loaded;
@@ -26,7 +37,7 @@ use mj_jobs::ROWS_LIMIT;
 use mj_load::Image;
 use mj_run::run_jobs;
 use mj_sessions::Sessions;
-use mj_steps::{Ending, Step};
+use mj_steps::{Ending, Refusal, Step};
 use mj_sys::Opening;
 use std::alloc::{AllocError, Global};
 use std::convert::AsStr;
@@ -44,6 +55,7 @@ use std::rt::Files;
 pub fn run<R, S, I, O, E>(rt: &R, words: &[S], input: &mut I, out: &mut O, err: &mut E) -> u8
 where
     R: Files + AllocGlobal,
+    R::File: Lockable,
     S: AsStr,
     I: Read,
     O: Write,
@@ -72,6 +84,7 @@ where
 fn run_order<R, I, O, E>(rt: R, order: &Run<'_>, input: &mut I, out: &mut O, err: &mut E) -> u8
 where
     R: Files + AllocGlobal + Copy + Drop,
+    R::File: Lockable,
     I: Read,
     O: Write,
     E: Write,
@@ -93,8 +106,16 @@ fn run_from<R, O, E>(
 ) -> u8
 where
     R: Files + AllocGlobal + Copy + Drop,
+    R::File: Lockable,
     O: Write,
     E: Write,
+    requires starts { WereStarts order.now.starts.items beginning.starts.items }
+    requires devices { IsPoolOf order.now.devices.items beginning.pool }
+    requires routines { All WasRead beginning.image.routines }
+    requires listed { WereListed order.now.globals beginning.globals.content }
+    requires steps { WereSteps order.now.steps beginning.steps }
+    requires worded { Each IsRoutineWorded (routines_of beginning.image) }
+    requires whole { AreWhole beginning.pool }
     ensures { result ≤ 4 }
 {
     let starts = &beginning.starts;
@@ -112,16 +133,18 @@ where
         globals,
         pool,
         starts,
+        lock,
     } = beginning;
     let list = match &steps {
         None => None,
         Some(steps) => Some(steps.as_slice()),
     };
     let status = with_files::<R, O, E, Port<R>, Brand>(
-        &rt, order, list, &trace, image, globals, pool, starts, out, err,
+        &rt, order, list, &trace, &lock, image, globals, pool, starts, out, err,
     );
     drop(steps);
     drop(trace);
+    drop(lock);
     status
 }
 
@@ -131,6 +154,7 @@ fn with_files<R, O, E, D, G>(
     order: &Run<'_>,
     steps: Option<&[Step]>,
     trace: &Option<Trace<'_>>,
+    lock: &Option<LockedFile<R::File>>,
     image: Image,
     globals: Globals,
     pool: Pool<D>,
@@ -140,20 +164,33 @@ fn with_files<R, O, E, D, G>(
 ) -> u8
 where
     R: Files + AllocGlobal,
+    R::File: Lockable,
     O: Write,
     E: Write,
     D: Device,
     G: Opening,
-    requires opening { opening_of globals pool starts.items ≡ G.opening }
-    requires global { are_global globals ≡ true }
+    requires opening { opening_of globals.content pool starts.items ≡ G.opening }
+    requires global { are_global globals.content ≡ true }
     requires some { 1 ≤ length starts.items }
     requires few { length starts.items ≤ rows_limit }
     requires fits { length starts.items ≤ left_of principal pool }
+    requires bare { are_bare starts.items ≡ true }
+    requires starts { WereStarts order.now.starts.items starts.items }
+    requires devices { IsPoolOf order.now.devices.items pool }
+    requires routines { All WasRead image.routines }
+    requires listed { WereListed order.now.globals globals.content }
+    requires steps { AreOrdered order.now.steps (option_map (λ steps. steps.now) steps) }
+    requires content { is_content globals.content ≡ true }
+    requires worded { Each IsRoutineWorded (routines_of image) }
+    requires whole { AreWhole pool }
+    requires text { IfSome trace.now (λ t. t.opening.items ≡ opening_text (map count_of pool) (entries_of starts.items)) }
+    requires sized { IfSome trace.now (λ t. list_all device_count_fits (map count_of pool) ≡ true) }
+    requires rising { IfSome trace.now (λ t. AreRising pool) }
     ensures { result ≤ 4 }
 {
     match run_jobs::<D, G>(rt.alloc(), image, globals, pool, starts, steps) {
         Ok((mut core, ending)) => {
-            let status = finish(rt, &mut core, ending, order, trace, out, err);
+            let status = finish(rt, &mut core, ending, order, trace, lock, out, err);
             drop(core);
             status
         }
@@ -165,36 +202,82 @@ where
 }
 
 // Writes what the jobs wrote, then why they were stopped, then the globals that they left and the trace, then what each waits for, if that was asked
-// for, and gives the exit status: the greatest where several apply.
+// for, and gives the exit status: the greatest where several apply. Where memory was refused the files stay as they are.
 fn finish<R, O, E, D, G>(
     rt: &R,
     core: &mut Core<D, Sessions<D>, G>,
     ending: Ending,
     order: &Run<'_>,
     trace: &Option<Trace<'_>>,
+    lock: &Option<LockedFile<R::File>>,
     out: &mut O,
     err: &mut E,
 ) -> u8
 where
     R: Files + AllocGlobal,
+    R::File: Lockable,
     O: Write,
     E: Write,
     D: Device,
     G: Opening,
+    requires { IfSome trace.now (λ t. IsHead core.old.image G.opening t.opening.items) }
     ensures { result ≤ 4 }
 {
     let shown = match show(rt, core, out) {
         Ok(status) => status,
+        Err(ProgramError::Memory) => return stopped(&ProgramError::Memory, err),
         Err(stop) => stopped(&stop, err),
     };
     let ended = tell_ending(ending, err);
-    let saved = tell_trouble(save(rt, core.globals(), order.save), err);
-    let traced = tell_trouble(write_trace(rt, trace, core), err);
+    if is_for_memory(ending) {
+        return shown.max(ended);
+    }
+    let Some(left) = write_left(rt, core, order, trace, lock, err) else {
+        return stopped(&ProgramError::Memory, err);
+    };
     // To ask what each job waits for is to step it once more, so it comes last.
     if ending == Ending::Stuck && order.why {
         tell_waits(rt, core, err);
     }
-    shown.max(ended).max(saved).max(traced)
+    shown.max(ended).max(left)
+}
+
+// Whether stepping ended as memory was refused.
+fn is_for_memory(ending: Ending) -> bool {
+    matches!(
+        ending,
+        Ending::Refused {
+            why: Refusal::Memory,
+            ..
+        }
+    )
+}
+
+// Writes the globals that the jobs left, then the trace, and gives the exit status. Where the globals can't be written the trace still is, unless memory was
+// refused: then there is no status.
+fn write_left<R, E, D, G>(
+    rt: &R,
+    core: &Core<D, Sessions<D>, G>,
+    order: &Run<'_>,
+    trace: &Option<Trace<'_>>,
+    lock: &Option<LockedFile<R::File>>,
+    err: &mut E,
+) -> Option<u8>
+where
+    R: Files + AllocGlobal,
+    R::File: Lockable,
+    E: Write,
+    D: Device,
+    G: Opening,
+    requires { IfSome trace.now (λ t. IsHead core.now.image G.opening t.opening.items) }
+    ensures { IfSome result (λ status. status ≤ 4) }
+{
+    let saved = match save(rt, core.globals(), order.save, lock) {
+        Err(ProgramError::Memory) => return None,
+        done => tell_trouble(done, err),
+    };
+    let traced = tell_trouble(write_trace(rt, trace, core), err);
+    Some(saved.max(traced))
 }
 
 // Writes what the jobs wrote, and says whether one faulted.

@@ -1,6 +1,6 @@
 // The prompt of the debugger.
 
-use crate::files::{file_bytes, routine_name};
+use crate::files::{routine_bytes, routine_name};
 use crate::stop::ProgramError;
 use mj_command_line::Debug;
 use mj_debug::Debugger;
@@ -46,7 +46,7 @@ pub fn prompt_of<'a, R: Files + AllocGlobal>(
     }
     let mut sources = Vec::new(rt.alloc());
     for file in &order.run.files {
-        let bytes = file_bytes(rt, *file)?;
+        let bytes = routine_bytes(rt, *file)?;
         let name = routine_name(rt.alloc(), *file)?;
         if sources.push(Source { name, bytes }).is_err() {
             return Err(ProgramError::Memory);

@@ -1,8 +1,10 @@
 // Traces that are replayed.
 
 ghost use Rattle.std.specs.Prelude.{◌≡◌, ◌≤◌, IfOk, true};
+ghost use Rattle.std.specs.String.{string_bytes};
 ghost use Rattle.mj_sys.specs.Shared.{are_global};
 ghost use Rattle.mj_trace.specs.Lines.{IsTrace};
+ghost use Rattle.mj_main.specs.Printed.{verdict_text};
 ghost use Rattle.mj_main.specs.Statuses.{verdict_status};
 
 use crate::files::file_bytes;
@@ -75,7 +77,7 @@ fn replay_verdict<'a>(
     globals: Globals,
     trace: &Trace,
 ) -> Result<Verdict, ProgramError<'a>>
-    requires global { are_global globals ≡ true }
+    requires global { are_global globals.content ≡ true }
     requires written { IsTrace trace.now }
 {
     Ok(replay_trace(alloc, image, globals, trace)?)
@@ -83,6 +85,7 @@ fn replay_verdict<'a>(
 
 // What is printed of a verdict, and the exit status. Lines count from 1: before the events stand the header, and a line for each device and each start.
 fn verdict_text(alloc: Global, trace: &Trace, verdict: Verdict) -> Result<(String, u8), AllocError>
+    ensures text { IfOk result (λ told. string_bytes told.0 ≡ verdict_text trace.now verdict) }
     ensures which { IfOk result (λ told. told.1 ≡ verdict_status verdict) }
     ensures bound { IfOk result (λ told. told.1 ≤ 1) }
 {

@@ -1,20 +1,27 @@
 // The routines of the command line.
 
-ghost use Rattle.std.specs.Prelude.{◌≡◌, IfOk, All};
-ghost use Rattle.mj_load.specs.Image.{IsWithinLimits};
+ghost use Rattle.std.specs.Prelude.{◌≡◌, length, IfOk, All};
+ghost use Rattle.mj_rou.specs.Words.{Each, IsRoutineWorded};
+ghost use Rattle.mj_load.specs.Image.{IsWithinLimits, routines_of};
 ghost use Rattle.mj_main.specs.Words.{WasRead};
 
-use crate::files::{file_bytes, routine_name};
+use crate::files::{routine_bytes, routine_name};
 use crate::stop::{ProgramError, Word};
 use mj_ast::Routine;
 use mj_load::{Image, load};
+use mj_rou::has_words;
 use std::rt::Files;
 
 /// Reads the routines of these files in order, and loads them. The first that is refused ends it.
 pub fn loaded<'a, R: Files + AllocGlobal>(
     rt: &R,
     files: &[&'a str],
-) -> Result<Image, ProgramError<'a>> {
+) -> Result<Image, ProgramError<'a>>
+    ensures read { IfOk result (λ image. All WasRead image.routines) }
+    ensures all { IfOk result (λ image. length image.routines ≡ length files.now) }
+    ensures worded { IfOk result (λ image. Each IsRoutineWorded (routines_of image)) }
+{
+    has_words();
     let mut routines = Vec::new(rt.alloc());
     for file in files {
         let routine = routine_of(rt, *file)?;
@@ -37,7 +44,7 @@ fn routine_of<'a, R: Files + AllocGlobal>(
     ensures within { IfOk result IsWithinLimits }
     ensures read { IfOk result WasRead }
 {
-    let bytes = file_bytes(rt, file)?;
+    let bytes = routine_bytes(rt, file)?;
     let name = routine_name(rt.alloc(), file)?;
     match mj_rou::read(rt.alloc(), &name, &bytes) {
         Ok(routine) => Ok(routine),

@@ -22,6 +22,9 @@ pub enum ProgramError<'a> {
     /// a file can't be read or written
     #[error("file {0}")]
     File(&'a str),
+    /// someone else has a file locked
+    #[error("busy {0}")]
+    Busy(&'a str),
     /// the name of a routine's file gives no word
     #[error("L1 {0}")]
     Name(&'a str),
@@ -120,6 +123,7 @@ impl ProgramError<'_> {
             ProgramError::Trace(_) | ProgramError::Steps(_) | ProgramError::Step { .. } => REFUSED,
             ProgramError::Value(_) => WORDS,
             ProgramError::File(_)
+            | ProgramError::Busy(_)
             | ProgramError::Stuck
             | ProgramError::Full
             | ProgramError::Long

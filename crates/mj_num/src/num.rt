@@ -1,7 +1,8 @@
 // A number, and the arithmetic.
 
 ghost use Rattle.std.specs.Prelude.{◌≡◌, neg_ℤ, int_lt, IfOk, IfSome, Ok};
-ghost use Rattle.mj_num.specs.Number.{ranged, reading, canonic_text, is_zero, number_of_truth, IsInRange, IsUpTo, sum_of, difference_of, product_of, quotient_of, remainder_of, exact_quotient_of};
+ghost use Rattle.mj_num.specs.Number.{ranged, reading, canonic_text, is_zero, number_of_truth, IsInRange, IsUpTo, sum_of, difference_of, product_of};
+ghost use Rattle.mj_num.specs.Number.{quotient_of, remainder_of, exact_quotient_of};
 
 use crate::digits::magnitude;
 use mj_text::{Digits, Fault, Text};

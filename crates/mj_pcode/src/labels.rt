@@ -79,7 +79,7 @@ impl Labels {
         self.search(label)
     }
 
-    // The same of a label for which no hint serves.
+    // Finds the line of a label for which no hint serves.
     #[inline(never)]
     fn search(&self, label: &Text) -> Option<u32>
         ensures { result ≡ line_with label.now self.now }

@@ -1,15 +1,16 @@
 -- Event by event, a run can be written.
 use Rattle.std.proofs.Common.{◌≡◌, ℕ, zero, suc, Bool, true, false, List, [], ◌∷◌, ◌++◌, Option, Some, refl, sym, ap, ◌∙◌, subst}
-use Rattle.std.specs.Prelude.{◌==◌, if◌then◌else◌}
+use Rattle.std.specs.Prelude.{◌==◌, ◌||◌, not, is_some, if◌then◌else◌}
 use Rattle.std.specs.List.{list_all}
 use Rattle.std.proofs.lemmas.List.{append_assoc, append-nil}
 use Rattle.std.proofs.lemmas.Bool.{eq-eqb}
+use Rattle.mj_ask.specs.declared.ask.Ask.{Ask}
 use Rattle.mj_ask.specs.declared.ask.Reply.{Reply}
 use Rattle.mj_ask.specs.Started.{Started}
-use Rattle.mj_ask.specs.Fits.{fits, is_shared}
+use Rattle.mj_ask.specs.Fits.{fits, is_reply_to, is_late, timeout_of, is_shared}
 use Rattle.mj_ask.specs.Written.{is_entry}
 use Rattle.mj_ask.specs.Formed.{is_ask, is_reply}
-use Rattle.mj_ask.proofs.Lists.{and_true}
+use Rattle.mj_ask.proofs.Lists.{and_true, both_true}
 use Rattle.mj_ast.specs.Syntax.{Routine}
 use Rattle.mj_rou.specs.Words.{Each, IsRoutineWorded}
 use Rattle.mj_written.proofs.Runs.{are_written}
@@ -35,6 +36,10 @@ replies_written job (e ∷ history) h = by (e.job == job) (replies_written job h
         → list_all is_reply (replies_of (if b then (e.ask, e.reply) ∷ log_of job history else log_of job history)) ≡ true
     by true rest = and_true (is_reply e.reply) (list_all is_reply (replies_of (log_of job history))) h.0.1 rest
     by false rest = rest
+
+-- what fits an ask stands in the table behind it
+stands : (a : Ask) (r : Reply) → fits a r ≡ true → is_reply_to a r ≡ true
+stands a r fit = (both_true (is_reply_to a r) (not (is_late r) || is_some (timeout_of a)) fit).0
 
 same_job : (job : ℕ) → (job == job) ≡ true
 same_job job = eq-eqb job job refl
@@ -91,13 +96,14 @@ module _ (image : List Routine) (opening : Shared) (history : History) (worded :
       let s : Shared = state_of opening done in
       let a = asked done rest e whole written formed happen.0.0 in
       let r = told s e formed happen.0 a.0 a.1 in
+      let written_so : CanBeWritten e = (a.0, r, stands e.ask e.reply a.1) in
       let next : state_of opening (done ++ e ∷ []) ≡ after s e = state_with opening done e in
       let P : Shared → Type 0 = λ t. IsFormed t in
       let Q : Shared → Type 0 = λ t. AllHappen t rest in
       let formed_on : IsFormed (after s e) = leaves s (served s e.job e.ask true) formed (serves s e.job e.ask true a.0 formed) in
-      let others = recorded (done ++ e ∷ []) rest (whole ∙ sym (append_assoc done (e ∷ []) rest)) (joined CanBeWritten done (e ∷ []) written ((a.0, r), tt))
+      let others = recorded (done ++ e ∷ []) rest (whole ∙ sym (append_assoc done (e ∷ []) rest)) (joined CanBeWritten done (e ∷ []) written (written_so, tt))
       (subst P (sym next) formed_on) (subst Q (sym next) happen.1) in
-      (((a.0, r), others.0), others.1)
+      ((written_so, others.0), others.1)
 
 pub are_recorded : (image : List Routine) (opening : Shared) (history : History) → Each IsRoutineWorded image → IsFormed opening → IsRun image opening history
     → Each CanBeWritten history × IsFormed (state_of opening history)

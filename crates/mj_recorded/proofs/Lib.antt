@@ -2,3 +2,5 @@ pub mod Traces
 pub mod Agreeing
 pub mod Serving
 pub mod Histories
+pub mod Pools
+pub mod ReadBack

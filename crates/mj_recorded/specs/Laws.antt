@@ -3,6 +3,7 @@ use Rattle.std.specs.Prelude.{◌≡◌, true, List, Option, Some, None, ⊤}
 use Rattle.mj_ask.specs.Written.{is_entry}
 use Rattle.mj_ask.specs.Formed.{is_access, is_answer, is_ask, is_reply}
 use Rattle.mj_ask.specs.Fitting.{is_content}
+use Rattle.mj_ask.specs.Fits.{is_reply_to}
 use Rattle.mj_ast.specs.Syntax.{Routine}
 use Rattle.mj_rou.specs.Words.{Each, IsRoutineWorded}
 use Rattle.mj_jobs.specs.Rows.{Row}
@@ -14,9 +15,9 @@ use Rattle.mj_sys.specs.Shared.{Shared}
 use Rattle.mj_sys.specs.History.{History, state_of}
 use Rattle.mj_core.specs.Runs.{IsRun}
 
--- an event can be written: its ask can, and its reply
+-- an event can be written: its ask can, and its reply, which stands in the table behind the ask
 abbrev pub CanBeWritten : Event → Type 0
-CanBeWritten e = (is_ask e.ask ≡ true) × (is_reply e.reply ≡ true)
+CanBeWritten e = (is_ask e.ask ≡ true) × (is_reply e.reply ≡ true) × (is_reply_to e.ask e.reply ≡ true)
 
 -- a job starts at an entry that can be written
 abbrev pub IsStarted : Row → Type 0

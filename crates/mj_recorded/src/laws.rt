@@ -2,6 +2,7 @@
 
 ghost use Rattle.mj_recorded.specs.Agreeing.{AnswersAgree, AsksAreTold, LogsFollow};
 ghost use Rattle.mj_recorded.specs.Laws.{AreRecorded};
+ghost use Rattle.mj_recorded.specs.Traces.{AreReadBack};
 
 /// What calls of a job's `advance` tell with one log agrees: it is one ask, and none where the job has ended. A job shows no other ask, and its log
 /// goes on with no other.
@@ -14,4 +15,10 @@ pub fn answers_agree()
 /// Each event of a run can be written.
 pub fn events_are_written()
     ensures { AreRecorded }
+{}
+
+/// The trace of a run can be written, within the sizes of its values, and what is written is read back as this trace. A replay of it over the run's routines
+/// and globals says that it is a run, unless a job goes on for so long that it may be taken for one that asks nothing more.
+pub fn traces_are_read_back()
+    ensures { AreReadBack }
 {}

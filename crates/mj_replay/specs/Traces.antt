@@ -9,9 +9,9 @@ use Rattle.mj_trace.specs.Trace.{Traced}
 use Rattle.mj_dev.specs.Pools.{shelves_of}
 
 -- a first job starts without values
-abbrev pub start_at : Entry → Started
-start_at e = record { entry = e; values = [] }
+abbrev pub bare_start : Entry → Started
+bare_start e = record { entry = e; values = [] }
 
 -- the opening of the run that a trace tells of, over these globals: as many sessions of each device as it says, and its starts
 abbrev pub opening_in : Content → Traced → Shared
-opening_in globals trace = opening_of globals (shelves_of trace.pool) (map start_at trace.starts)
+opening_in globals trace = opening_of globals (shelves_of trace.pool) (map bare_start trace.starts)

@@ -4,13 +4,13 @@ ghost use Rattle.std.specs.Prelude.{◌≡◌, ◌≤◌, length, map, true, IfO
 ghost use Rattle.mj_dev.specs.Shelves.{principal, left_of};
 ghost use Rattle.mj_jobs.specs.Rows.{rows_limit};
 ghost use Rattle.mj_load.specs.Image.{routines_of};
-ghost use Rattle.mj_sys.specs.Opening.{opening_of};
+ghost use Rattle.mj_sys.specs.Opening.{opening_of, are_bare};
 ghost use Rattle.mj_sys.specs.Shared.{are_global};
 ghost use Rattle.mj_sys.specs.System.{history_limit};
 ghost use Rattle.mj_debug.specs.Replays.{history_of, Says};
 ghost use Rattle.mj_dev.specs.Pools.{shelves_of};
 ghost use Rattle.mj_trace.specs.Lines.{IsTrace};
-ghost use Rattle.mj_replay.specs.Traces.{opening_in, start_at};
+ghost use Rattle.mj_replay.specs.Traces.{opening_in, bare_start};
 
 use mj_ask::{Ask, Entry, Reply, Start};
 use mj_debug::{Verdict, replay};
@@ -28,9 +28,9 @@ pub fn replay_trace(
     globals: Globals,
     trace: &Trace,
 ) -> Result<Verdict, AllocError>
-    requires global { are_global globals ≡ true }
+    requires global { are_global globals.content ≡ true }
     requires written { IsTrace trace.now }
-    ensures { IfOk result (λ verdict. Says (routines_of image.now) (opening_in globals trace.now) (history_of trace.now.events) verdict) }
+    ensures { IfOk result (λ verdict. Says (routines_of image.now) (opening_in globals.content trace.now) (history_of trace.now.events) verdict) }
 {
     match opened(alloc, trace) {
         Ok((pool, starts)) => replay_over(alloc, image, globals, pool, starts, trace.events()),
@@ -44,7 +44,7 @@ pub fn replay_trace(
 // The devices and the starts of a trace.
 fn opened(alloc: Global, trace: &Trace) -> Result<(Pool<Blank>, Vec<Start>), AllocError>
     ensures pool { IfOk result (λ x. x.0 ≡ shelves_of trace.now.pool) }
-    ensures starts { IfOk result (λ x. x.1.items ≡ map start_at trace.now.starts) }
+    ensures starts { IfOk result (λ x. x.1.items ≡ map bare_start trace.now.starts) }
 {
     let starts = starts_of(alloc, trace.starts())?;
     match pool_of(alloc, trace.pool()) {
@@ -58,7 +58,7 @@ fn opened(alloc: Global, trace: &Trace) -> Result<(Pool<Blank>, Vec<Start>), All
 
 // Starts at these entries, without values.
 fn starts_of(alloc: Global, entries: &[Entry]) -> Result<Vec<Start>, AllocError>
-    ensures { IfOk result (λ starts. starts.items ≡ map start_at entries.now) }
+    ensures { IfOk result (λ starts. starts.items ≡ map bare_start entries.now) }
 {
     let mut starts = Vec::with_capacity(alloc, entries.len())?;
     for entry in entries {
@@ -76,12 +76,13 @@ fn replay_over(
     starts: Vec<Start>,
     events: &[(u32, Ask, Reply)],
 ) -> Result<Verdict, AllocError>
-    requires global { are_global globals ≡ true }
+    requires global { are_global globals.content ≡ true }
     requires some { 1 ≤ length starts.items }
     requires few { length starts.items ≤ rows_limit }
     requires fits { length starts.items ≤ left_of principal pool }
+    requires bare { are_bare starts.items ≡ true }
     requires short { length events.now ≤ history_limit }
-    ensures { IfOk result (λ verdict. Says (routines_of image.now) (opening_of globals pool starts.items) (history_of events.now) verdict) }
+    ensures { IfOk result (λ verdict. Says (routines_of image.now) (opening_of globals.content pool starts.items) (history_of events.now) verdict) }
 {
     replay::<Blank, Brand>(alloc, image, globals, pool, starts, events)
 }

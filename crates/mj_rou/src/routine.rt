@@ -10,7 +10,8 @@ ghost use Rattle.mj_ast.specs.Routines.{IsName, routine_limit};
 ghost use Rattle.mj_ast.specs.Trees.{line_of, routine_of};
 ghost use Rattle.mj_lex.specs.Seen.{placed, places_seen, tokens_seen};
 ghost use Rattle.mj_cmd.specs.Said.{IsStuckWith};
-ghost use Rattle.mj_rou.specs.Read.{IsLineRead, IsRefusedAlone, IsLineRefused, HoldsLabels, IsTwice, IsRoutineRead, IsRoutineRefused, label_seen, and_label, is_word as the_word, is_name as the_name, IsRanked};
+ghost use Rattle.mj_rou.specs.Read.{IsLineRead, IsRefusedAlone, IsLineRefused, HoldsLabels, IsTwice, IsRoutineRead, IsRoutineRefused, label_seen, and_label};
+ghost use Rattle.mj_rou.specs.Read.{is_word as the_word, is_name as the_name, IsRanked};
 ghost use Rattle.mj_rou.specs.declared.error.LoadError.TheVariants.{Name};
 
 use crate::error::{LineError, LoadError, RoutineName, at_line};

@@ -2,6 +2,7 @@
 use Rattle.std.proofs.Common.{◌≡◌, ℕ, zero, suc, ◌+◌, List, [], ◌∷◌, take, Bool, Result, Ok, Err, ◌⊎◌, Option, Some, None, inl, inr, ap, refl, ◌∙◌}
 use Rattle.std.specs.Prelude.{IfNone}
 use Rattle.mj_sys.specs.Shared.{Shared}
+use Rattle.mj_sys.specs.History.{History}
 use Rattle.mj_core.specs.Shown.{Shown}
 use Rattle.mj_jobs.specs.Rows.{Row}
 use Rattle.mj_load.specs.Image.{Loaded}
@@ -17,20 +18,26 @@ use Rattle.mj_steps.specs.declared.step.Refusal.{Refusal}
 use Rattle.mj_steps.specs.declared.drive.Ending.{Ending}
 use Rattle.mj_steps.specs.Rounds.{next_step, after_step}
 use Rattle.mj_steps.specs.Driven.{ByList, InTurn, NextIsDone, StopsAt, stand}
-use Rattle.mj_run.specs.Stepping.{StepsAs, AreSteps, jobs_of}
+use Rattle.mj_run.specs.Stepping.{StepsAs, StandsSo, IsServed, AreSteps, jobs_of}
+
+-- a step behind which its job stands somewhere isn't unfit
+is_served : (history : History) (what : Seen) (standing : Standing) → StandsSo history what standing → IsServed (Ok what)
+is_served history seen.Unfit standing stands = absurd stands
+is_served history _ standing stands = tt
 
 -- one step more, in front
 more : (opening : Shared) (old mid new : Shown) (step : Step) (standing : Standing)
     → StepsAs opening old step (Ok standing) mid → AreSteps opening mid new → AreSteps opening old new
-more opening old mid new step standing (what, gives, stands) (steps, answers, run) = (step ∷ steps, Ok what ∷ answers, (mid, gives, run))
+more opening old mid new step standing (what, gives, stands) (steps, answers, run, served) =
+    (step ∷ steps, Ok what ∷ answers, (mid, gives, run), (is_served mid.history what standing stands, served))
 
 -- the last one, which is refused
 last : (opening : Shared) (old new : Shown) (step : Step) (why : Refusal) → StepsAs opening old step (Err why) new → AreSteps opening old new
-last opening old new step why gives = (step ∷ [], Err why ∷ [], (new, gives, refl))
+last opening old new step why gives = (step ∷ [], Err why ∷ [], (new, gives, refl), (tt, tt))
 
 -- none
 none : (opening : Shared) (old new : Shown) → new ≡ old → AreSteps opening old new
-none opening old new same = ([], [], same)
+none opening old new same = ([], [], same, tt)
 
 pub by_list : (opening : Shared) (steps : List Step) (made : ℕ) (old : Shown) (ending : Ending) (new : Shown)
     → ByList (StepsAs opening) made steps old ending new → AreSteps opening old new
@@ -90,7 +97,12 @@ run_image opening old [] (answer ∷ answers) new run = absurd run
 run_image opening old (step ∷ steps) [] new run = absurd run
 
 pub steps_image : (opening : Shared) (old new : Shown) → AreSteps opening old new → new.image ≡ old.image
-steps_image opening old new (steps, answers, run) = run_image opening old steps answers new run
+steps_image opening old new (steps, answers, run, served) = run_image opening old steps answers new run
+
+-- what was seen that can't be unfit
+pub seen_served : (what : Seen) → ((what ≡ seen.Unfit) → ⊥) → IsServed (Ok what)
+seen_served seen.Unfit none = absurd (none refl)
+seen_served _ none = tt
 
 -- what holds is so where there is none
 pub if_none : {A P : Type 0} (r : Option A) → P → IfNone r P

@@ -1,5 +1,5 @@
 -- What a step of the program comes to, by what the core gives for it.
-use Rattle.std.specs.Prelude.{◌≡◌, ℕ, List, length, slice_get, Bool, true, false, Option, Some, None, Result, Ok, Err, ◌⊎◌, if◌then◌else◌}
+use Rattle.std.specs.Prelude.{◌≡◌, ℕ, List, [], ◌∷◌, length, slice_get, Bool, true, false, Option, Some, None, Result, Ok, Err, ◌⊎◌, if◌then◌else◌}
 use Rattle.mj_ask.specs.declared.ask.Ask.{Ask}
 use Rattle.mj_ask.specs.declared.ask.Ask.TheVariants as asks
 use Rattle.mj_ask.specs.declared.ask.SharedAsk.TheVariants as shared_asks
@@ -31,12 +31,12 @@ abbrev pub ends_its_job : Option Event → Bool
 ends_its_job None = false
 ends_its_job (Some event) = is_halt event.ask
 
--- where a job stands behind a step of which this was seen, and which left this history
+-- where a job stands behind a step of which this was seen, and which left this history. No step is unfit
 abbrev pub StandsSo : History → Seen → Standing → Type 0
 StandsSo history (seen.Event at) standing = standing ≡ (if ends_its_job (slice_get history at) then standings.Ended else standings.Goes)
 StandsSo history (seen.Busy holder held) standing = Waits standing
 StandsSo history seen.NotYet standing = Waits standing
-StandsSo history seen.Unfit standing = standing ≡ standings.Goes
+StandsSo history seen.Unfit standing = ⊥
 StandsSo history seen.Ran standing = standing ≡ standings.Goes
 StandsSo history seen.Ended standing = standing ≡ standings.Ended
 
@@ -53,6 +53,17 @@ jobs_of opening core = length (state_of opening core.history).rows
 pub record IsInTurn (opening : Shared) (most : ℕ) (old : Shown) (ending : Ending) (new : Shown) : Type 0 where
   pub turns : InTurn (jobs_of opening) (StepsAs opening) most 0 new_round fresh old ending new
 
--- a list of steps of the core leads from the one to the other
+-- what a step gave is another thing than that nobody can serve what the job asks
+abbrev pub IsServed : Result Seen Refusal → Type 0
+IsServed (Ok seen.Unfit) = ⊥
+IsServed _ = Unit {0}
+
+-- and so of each step
+abbrev pub AreServed : List (Result Seen Refusal) → Type 0
+AreServed [] = Unit {0}
+AreServed (answer ∷ answers) = IsServed answer × AreServed answers
+
+-- a list of steps of the core leads from the one to the other, of which none is unfit
 abbrev pub AreSteps : Shared → Shown → Shown → Type 0
-AreSteps opening old new = (steps : List Step) × (answers : List (Result Seen Refusal)) × RunGives opening old steps answers new
+AreSteps opening old new =
+    (steps : List Step) × (answers : List (Result Seen Refusal)) × RunGives opening old steps answers new × AreServed answers

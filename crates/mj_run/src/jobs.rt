@@ -1,13 +1,14 @@
 // The jobs of a core, as they are stepped by a list or in turn.
 
-ghost use Rattle.std.specs.Prelude.{◌≡◌, slice_get, IfSome, IfNone};
+ghost use Rattle.std.specs.Prelude.{◌≡◌, slice_get, Ok, IfSome, IfNone};
 ghost use Rattle.mj_sys.specs.History.{state_of};
 ghost use Rattle.mj_steps.specs.Driven.{ByList};
-ghost use Rattle.mj_run.specs.Stepping.{StepsAs, StandsSo, IsInTurn, AreSteps, jobs_of, ends_its_job};
+ghost use Rattle.mj_run.specs.Stepping.{StepsAs, StandsSo, IsServed, IsInTurn, AreSteps, jobs_of, ends_its_job};
 
 use mj_ask::{Ask, SharedAsk};
 use mj_core::{Answerer, Core, Fresh, Seen};
 use mj_dev::Device;
+use mj_fit::no_step_is_unfit;
 use mj_sessions::Sessions;
 use mj_steps::{Ending, Refusal, Standing, Step, Stepped, step_by, step_in_turn};
 use mj_sys::Opening;
@@ -27,12 +28,16 @@ impl<D: Device, A: Answerer<Fresh<D>>, O: Opening> Model for Jobs<D, A, O> {
     ghost use Rattle.mj_ast.specs.contracts.routine.Routine as routine;
     ghost use Rattle.mj_pcode.specs.contracts.instr.Unit as unit;
     ghost use Rattle.mj_core.specs.Shown.{Shown};
+    ghost use Rattle.mj_fit.specs.Laws.{NoneIsHeld};
 
     ghost Value = { Shown };
 
     ghost coded = { Prim.hlevel (codes, routine.the_row.coded, unit.the_row.coded) };
 
     ghost view = { λ jobs. jobs.core };
+
+    // no job held a device when the system began
+    ghost invariant = { λ jobs. NoneIsHeld O.opening };
 }
 
 impl<D: Device, O: Opening> Stepped for Jobs<D, Sessions<D>, O> {
@@ -45,6 +50,9 @@ impl<D: Device, O: Opening> Stepped for Jobs<D, Sessions<D>, O> {
     }
 
     fn step(&mut self, step: Step) -> Result<Standing, Refusal> {
+        // the history is a run, as the core keeps it, and in a run no step is unfit
+        let _run = self.core.len();
+        no_step_is_unfit();
         match self.core.step(step) {
             Ok(seen) => Ok(self.standing(step.job, &seen)),
             Err(why) => Err(why),
@@ -83,6 +91,7 @@ impl<D: Device, O: Opening> Jobs<D, Sessions<D>, O> {
 
     // Where a job stands of whose step this was seen.
     fn standing(&self, job: u32, seen: &Seen) -> Standing
+        requires { IsServed (Ok seen.now) }
         ensures { StandsSo self.now.history seen.now result }
     {
         match seen {
@@ -93,7 +102,8 @@ impl<D: Device, O: Opening> Jobs<D, Sessions<D>, O> {
                     Standing::Goes
                 }
             }
-            Seen::Ran | Seen::Unfit => Standing::Goes,
+            Seen::Ran => Standing::Goes,
+            Seen::Unfit => unreachable!(),
             Seen::Ended => Standing::Ended,
             Seen::Busy { .. } | Seen::NotYet => {
                 if self.is_timed(job) {

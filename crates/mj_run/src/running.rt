@@ -7,7 +7,7 @@ ghost use Rattle.mj_load.specs.Image.{routines_of};
 ghost use Rattle.mj_locktab.specs.Locks.{LocksApart};
 ghost use Rattle.mj_steps.specs.Driven.{ByList};
 ghost use Rattle.mj_sys.specs.History.{state_of};
-ghost use Rattle.mj_sys.specs.Opening.{opening_of};
+ghost use Rattle.mj_sys.specs.Opening.{opening_of, are_bare};
 ghost use Rattle.mj_sys.specs.Shared.{are_global};
 ghost use Rattle.mj_core.specs.Runs.{IsRun};
 ghost use Rattle.mj_core.specs.Shown.{begun};
@@ -18,9 +18,10 @@ use crate::jobs::{Jobs, STEPS_LIMIT};
 use mj_ask::Start;
 use mj_core::Core;
 use mj_dev::{Device, Pool};
+use mj_fit::none_is_held;
 use mj_globs::Globals;
 use mj_load::Image;
-use mj_serial::{holds, none_is_open};
+use mj_serial::holds;
 use mj_sessions::Sessions;
 use mj_steps::{Ending, Step};
 use mj_sys::{Opening, Unmade};
@@ -31,7 +32,7 @@ use std::alloc::Global;
 /// `Core::new`. At want of memory for the system nothing was stepped, and all comes back that the system was to be made of.
 ///
 /// Whatever the steps were: the history is a run of these routines from the opening; no two jobs hold overlapping names; what the jobs did is as their
-/// committed transactions run alone, one after the other; and each commit that clashed had to.
+/// committed transactions run alone, one after the other; and each commit that clashed had to. No job asked what nobody could serve.
 pub fn run_jobs<D: Device, O: Opening>(
     alloc: Global,
     image: Image,
@@ -40,11 +41,12 @@ pub fn run_jobs<D: Device, O: Opening>(
     starts: Vec<Start>,
     steps: Option<&[Step]>,
 ) -> Result<(Core<D, Sessions<D>, O>, Ending), Unmade<D>>
-    requires opening { opening_of globals pool starts.items ≡ O.opening }
-    requires global { are_global globals ≡ true }
+    requires opening { opening_of globals.content pool starts.items ≡ O.opening }
+    requires global { are_global globals.content ≡ true }
     requires some { 1 ≤ length starts.items }
     requires few { length starts.items ≤ rows_limit }
     requires fits { length starts.items ≤ left_of principal pool }
+    requires bare { are_bare starts.items ≡ true }
     ensures image { IfOk result (λ ran. ran.0.image ≡ image) }
     ensures listed { IfOk result (λ ran. IfSome steps.entry (λ list. ByList (StepsAs O.opening) 0 list.now (begun image) ran.1 ran.0)) }
     ensures in_turn { IfOk result (λ ran. IfNone steps.entry (IsInTurn O.opening STEPS_LIMIT (begun image) ran.1 ran.0)) }
@@ -57,6 +59,7 @@ pub fn run_jobs<D: Device, O: Opening>(
     ensures pool { IfErr result (λ back. back.pool ≡ pool) }
     ensures starts { IfErr result (λ back. back.starts.items ≡ starts.items) }
 {
+    none_is_held();
     let core = Core::<D, Sessions<D>, O>::new(alloc, image, globals, pool, starts)?;
     let mut jobs = Jobs { core };
     let ending = jobs.go(steps);
@@ -64,8 +67,7 @@ pub fn run_jobs<D: Device, O: Opening>(
     // what is kept behind each step is kept behind the last
     let _run = core.len();
     let _locks = core.locks();
-    // and what holds of every run holds of this one
-    none_is_open();
+    // and what holds of every core holds of this one
     holds(&core);
     Ok((core, ending))
 }

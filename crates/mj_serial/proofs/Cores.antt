@@ -23,7 +23,8 @@ use Rattle.mj_core.specs.Runs.{IsRun, start_in}
 use Rattle.mj_serial.specs.Programs.{Log, replies_of, Program, IsSteady, AreAsked}
 use Rattle.mj_serial.specs.Rules.{Sight, Exactly, IsToldByRule, sight_of, sight_after, sight_behind, AreTold, committed_by, clashes_at, IsRunBy}
 use Rattle.mj_serial.specs.Laws as laws
-use Rattle.mj_serial.specs.Laws.{program_in, NoneIsOpen, OpensSo, AllMustClash}
+use Rattle.mj_sys.specs.Opening.{NoneIsOpen}
+use Rattle.mj_serial.specs.Laws.{program_in, OpensSo, AllMustClash}
 use Rattle.mj_serial.specs.Serial.{AsAlone, MustClash}
 use Rattle.mj_serial.proofs.Logs.{asked_more}
 use Rattle.mj_serial.proofs.Sights.{HasPlaces, Obeys, AllObeys, obeys, unshared}

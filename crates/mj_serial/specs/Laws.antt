@@ -1,5 +1,5 @@
 -- What holds of every run of many jobs.
-use Rattle.std.specs.Prelude.{◌≡◌, ℕ, List, ◌∷◌, ◌++◌, Some, None, length, replicate}
+use Rattle.std.specs.Prelude.{◌≡◌, ℕ, List, ◌∷◌, ◌++◌, Some, None}
 use Rattle.mj_ask.specs.Started.{Started}
 use Rattle.mj_ask.specs.declared.clash.Clash.{Clash}
 use Rattle.mj_ast.specs.Syntax.{Routine}
@@ -9,7 +9,7 @@ use Rattle.mj_store.specs.Questions.{Content}
 use Rattle.mj_dev.specs.Shelves.{Shelf}
 use Rattle.mj_jobs.specs.Rows.{Row, row_at}
 use Rattle.mj_sys.specs.Shared.{Shared}
-use Rattle.mj_sys.specs.Opening.{opening_of}
+use Rattle.mj_sys.specs.Opening.{opening_of, NoneIsOpen}
 use Rattle.mj_sys.specs.History.{History, state_of}
 use Rattle.mj_core.specs.Runs.{IsRun, start_in}
 use Rattle.mj_serial.specs.Programs.{Program}
@@ -20,11 +20,7 @@ use Rattle.mj_serial.specs.Rules.{clashes_at}
 abbrev pub program_in : List Routine → List Row → ℕ → Program
 program_in image rows job n replies = elim (row_at rows job) [ None ↦ Ended | Some row ↦ next image (start_in job row.start) n replies ]
 
--- no job has a transaction open, and each has a place for one
-abbrev pub NoneIsOpen : Shared → Type 0
-NoneIsOpen s = s.transactions ≡ replicate (length s.rows) None
-
--- so it is at the opening of a system
+-- no transaction is open at the opening of a system
 abbrev pub OpensSo : Type 0
 OpensSo = (globals : Content) (shelves : List Shelf) (starts : List Started) → NoneIsOpen (opening_of globals shelves starts)
 

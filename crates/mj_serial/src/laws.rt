@@ -1,19 +1,19 @@
 // Laws of every run: each function has nothing to do, and its contract is the law.
 
 ghost use Rattle.mj_load.specs.Image.{routines_of};
-ghost use Rattle.mj_serial.specs.Laws.{OpensSo, IsSerial, ClashesMust, NoneIsOpen, IsAsAlone, AllMustClash};
+ghost use Rattle.mj_serial.specs.Laws.{OpensSo, IsSerial, ClashesMust, IsAsAlone, AllMustClash};
 ghost use Rattle.mj_serial.specs.Rules.{Exactly, ByNames, AfterAll, IsSerialBy, ClashesMustBy};
 
 use mj_core::{Answerer, Core, Fresh};
 use mj_dev::Device;
 use mj_sys::Opening;
 
-/// What the jobs of a core did is as their blocks run alone, and each commit of theirs that clashed had to, where no transaction is open at the opening.
+/// What the jobs of a core did is as their blocks run alone, and each commit of theirs that clashed had to.
 pub fn holds<D: Device, A: Answerer<Fresh<D>>, O: Opening>(core: &Core<D, A, O>)
-    ensures serial { NoneIsOpen O.opening → IsAsAlone (routines_of core.now.image) O.opening core.now.history }
-    ensures clashes { NoneIsOpen O.opening → AllMustClash (routines_of core.now.image) O.opening core.now.history }
+    ensures serial { IsAsAlone (routines_of core.now.image) O.opening core.now.history }
+    ensures clashes { AllMustClash (routines_of core.now.image) O.opening core.now.history }
 {
-    // that its history is a run comes with its length
+    // that its history is a run, and that no transaction was open at its opening, comes with its length
     let _run = core.len();
 }
 

@@ -13,12 +13,12 @@ use Rattle.mj_ask.specs.Fits.{is_shared}
 use Rattle.mj_dev.specs.declared.talk.State.{State}
 use Rattle.mj_dev.specs.declared.talk.State.TheVariants as states
 use Rattle.mj_dev.specs.Heard.{Heard, IsNew}
-use Rattle.mj_dev.specs.Talk.{Exchange, Begun, Written, LineRead, ByteRead, Ended, written_by, Exchanges, TalkStand, stand_of, Allows, beginning}
-use Rattle.mj_dev.proofs.Talks.{Exchanges-taken, Exchanges-allowed}
+use Rattle.mj_dev.specs.Talk.{Exchange, Talks, Begun, Written, LineRead, ByteRead, Ended, written_by, Exchanges, TalkStand, stand_of, Allows, beginning}
+use Rattle.mj_dev.proofs.Talks.{Exchanges-taken, Exchanges-allowed, Talks-append}
 use Rattle.mj_sessions.specs.declared.answer.Answer.{Answer}
 use Rattle.mj_sessions.specs.declared.answer.Answer.TheVariants as answers
 use Rattle.mj_sessions.specs.Events.{Log, exchange_of, exchange_on, talk_on, did_of}
-use Rattle.mj_sessions.specs.Follow.{is_end, stand_behind, Follow, taken_behind, taken_by}
+use Rattle.mj_sessions.specs.Follow.{is_end, stand_behind, Follow, taken_behind, taken_by, talk_behind, open_talk}
 use Rattle.mj_sessions.specs.Named.{Named, is_named, session_of, with_session, without, AreApart, TalkLeaves, AreTold}
 use Rattle.mj_sessions.specs.Answers.{Answers, AnswersOf, Asked, SessionEnds, Hears}
 use Rattle.mj_sessions.proofs.Places.{session_more, session_with, session_other, session_gone, session_stays}
@@ -32,6 +32,10 @@ follow_on old mid between (y ∷ talk) x at allowed = (at.0, at.1, follow_on (st
 pub taken_on : (taken : List ℕ) (talk : List Exchange) (x : Exchange) → taken_behind taken (talk ++ x ∷ []) ≡ (if is_end x then [] else taken_behind taken talk ++ written_by x)
 taken_on taken [] x = refl
 taken_on taken (y ∷ talk) x = taken_on (if is_end y then [] else taken ++ written_by y) talk x
+
+pub behind_on : (said talk : List Exchange) (x : Exchange) → talk_behind said (talk ++ x ∷ []) ≡ (if is_end x then [] else talk_behind said talk ++ x ∷ [])
+behind_on said [] x = refl
+behind_on said (y ∷ talk) x = behind_on (if is_end y then [] else said ++ y ∷ []) talk x
 
 pub talk_more : (name : List ℕ) (log later : Log) → talk_on name (log ++ later) ≡ talk_on name log ++ talk_on name later
 talk_more name [] later = refl
@@ -72,7 +76,8 @@ tells_new talk s new at =
     let with_state : State → TalkStand = λ state. record { rest = None; state = state } in
     let from : stand_of s.session ≡ beginning = ap with_rest new.rest ∙ ap with_state new.state in
     let P : TalkStand → Type 0 = λ stand. Follow beginning talk stand in
-    (subst P (sym from) at.0, new.taken ∙ sym at.1)
+    let T : List Exchange → Type 0 = λ t. Talks s.session t s.session in
+    (subst P (sym from) at.0, new.taken ∙ sym at.1, (s.session, new, subst T (sym at.2) refl))
 
 pub told_open : (log : Log) (xs : List Named) (s : Named) → session_of s.name xs ≡ None → IsNew s.session → AreTold log xs → AreTold log (xs ++ s ∷ [])
 told_open log xs s absent new all name =
@@ -98,9 +103,13 @@ tells_call : (talk : List Exchange) (s : Named) (h : Heard) (x : Exchange) → s
     → TalkLeaves (talk ++ x ∷ []) (Some (record s { session = h }))
 tells_call talk s h x usable e at =
     let ends : is_end x ≡ false = not_end s.session h x e in
-    let P : Bool → Type 0 = λ b. Follow beginning (talk ++ x ∷ []) (if b then beginning else stand_of h) in (
+    let P : Bool → Type 0 = λ b. Follow beginning (talk ++ x ∷ []) (if b then beginning else stand_of h) in
+    let came = at.2 in
+    let T : List Exchange → Type 0 = λ t. Talks came.0 t h in
+    let said : open_talk (talk ++ x ∷ []) ≡ open_talk talk ++ x ∷ [] = behind_on [] talk x ∙ ap (λ b. if b then [] else open_talk talk ++ x ∷ []) ends in (
       subst P ends (follow_on beginning (stand_of s.session) (stand_of h) talk x at.0 (Exchanges-allowed s.session h x usable e)),
       Exchanges-taken s.session h x e ∙ ap (λ t. t ++ written_by x) at.1 ∙ sym (taken_on [] talk x ∙ ap (λ b. if b then [] else taken_by talk ++ written_by x) ends),
+      (came.0, came.1, subst T (sym said) (Talks-append came.0 s.session h (open_talk talk) (x ∷ []) came.2 (h, usable, e, refl))),
     )
 
 module _ (log : Log) (xs : List Named) (all : AreTold log xs) (device : List ℕ) (ask : DeviceAsk) (reply : Reply) where
@@ -171,6 +180,7 @@ module _ (log : Log) (xs : List Named) (apart : AreApart xs) (all : AreTold log 
           follow_on beginning (stand_of s.session) (record (stand_of s.session) { state = states.Ended }) (talk_on name log) x told_before.0
               (end_allowed (stand_of s.session) s.session.state reply usable told),
           taken_on [] (talk_on name log) x,
+          behind_on [] (talk_on name log) x,
         ))
     at false other =
         let P : List Exchange → Type 0 = λ t. TalkLeaves t (session_of name (without device xs)) in

@@ -36,6 +36,15 @@ taken_behind taken (exchange ∷ talk) = taken_behind (if is_end exchange then [
 abbrev pub taken_by : List Exchange → List ℕ
 taken_by talk = taken_behind [] talk
 
+-- what was talked with the session that isn't ended, where this was talked with it before
+abbrev pub talk_behind : List Exchange → List Exchange → List Exchange
+talk_behind said [] = said
+talk_behind said (exchange ∷ talk) = talk_behind (if is_end exchange then [] else said ++ exchange ∷ []) talk
+
+-- what was talked with the session that isn't ended: the calls behind the last end
+abbrev pub open_talk : List Exchange → List Exchange
+open_talk talk = talk_behind [] talk
+
 -- device output: the bytes of the writes that were done on a session; the first is 1, and one more is counted behind each end
 abbrev pub output_on : ℕ → List Exchange → List ℕ
 output_on k [] = []

@@ -2,11 +2,11 @@
 use Rattle.std.specs.Prelude.{◌≡◌, ℕ, Bool, cond, List, [], ◌∷◌, Option, Some, None, ◌⊎◌}
 use Rattle.std.specs.List.{find}
 use Rattle.std.specs.Str.{bytes_eq}
-use Rattle.mj_dev.specs.Heard.{Heard, called}
+use Rattle.mj_dev.specs.Heard.{Heard, IsNew, called}
 use Rattle.mj_dev.specs.Shelves.{with_first}
-use Rattle.mj_dev.specs.Talk.{Exchange, beginning, stand_of}
+use Rattle.mj_dev.specs.Talk.{Exchange, Talks, beginning, stand_of}
 use Rattle.mj_sessions.specs.Events.{Log, talk_on}
-use Rattle.mj_sessions.specs.Follow.{Follow, taken_by}
+use Rattle.mj_sessions.specs.Follow.{Follow, taken_by, open_talk}
 
 -- a session with the device of a name
 pub record Named : Type 0 where
@@ -44,11 +44,16 @@ abbrev pub AreApart : List Named → Type 0
 AreApart [] = Unit {0}
 AreApart (s ∷ sessions) = (session_of s.name sessions ≡ None) × AreApart sessions
 
--- by a talk, one session after the other, the session that isn't ended stands so and took just these bytes; where there is none, the talk
--- stands where each begins
+-- The session came of this talk: it was new, and each call was made then, and answered so. What its device took, and which lines it gave, is what the
+-- talk tells: each line as it was told, or as it was told by its bytes; and it failed as often as the talk tells.
+abbrev pub ComesOf : List Exchange → Heard → Type 0
+ComesOf talk session = (new : Heard) × IsNew new × Talks new talk session
+
+-- by a talk, one session after the other, the session that isn't ended stands so, took just these bytes, and came of the calls behind the last end; where
+-- there is none, there are no such calls, and the talk stands where each begins
 abbrev pub TalkLeaves : List Exchange → Option Named → Type 0
-TalkLeaves talk None = Follow beginning talk beginning × (taken_by talk ≡ [])
-TalkLeaves talk (Some s) = Follow beginning talk (stand_of s.session) × (s.session.taken ≡ taken_by talk)
+TalkLeaves talk None = Follow beginning talk beginning × (taken_by talk ≡ []) × (open_talk talk ≡ [])
+TalkLeaves talk (Some s) = Follow beginning talk (stand_of s.session) × (s.session.taken ≡ taken_by talk) × ComesOf (open_talk talk) s.session
 
 -- the sessions are those of which this log tells
 abbrev pub AreTold : Log → List Named → Type 0

@@ -1,6 +1,7 @@
 // The sessions that a job has.
 
-ghost use Rattle.std.specs.Prelude.{◌≡◌, ◌<◌, ◌+◌, ◌≤◌, ◌++◌, ◌∷◌, [], ℕ, List, Some, None, false, true, position, is_some, if◌then◌else◌, IfOk, IfSome, IfNone, OnErr};
+ghost use Rattle.std.specs.Prelude.{◌≡◌, ◌<◌, ◌+◌, ◌≤◌, ◌++◌, ◌∷◌, [], ℕ, List, Some, None, false, true, position, is_some, if◌then◌else◌, IfOk, IfSome};
+ghost use Rattle.std.specs.Prelude.{IfNone, OnErr};
 ghost use Rattle.mj_ask.specs.Fits.{is_shared};
 ghost use Rattle.mj_dev.specs.Heard.{IsNew};
 ghost use Rattle.mj_dev.specs.Told.{IsToldBy};

@@ -5,7 +5,8 @@ ghost use Rattle.std.specs.Option.{option_copied};
 ghost use Rattle.std.specs.List.{repeat};
 ghost use Rattle.mj_strfn.specs.Pieces.{pieces, joined};
 ghost use Rattle.mj_text.specs.Failing.{failing, Answers};
-ghost use Rattle.mj_strfn.specs.Functions.{length_value, piece_value, some_pieces, assigned_pieces as pieces_assigned, set_piece_value, with_pieces, within_limit};
+ghost use Rattle.mj_strfn.specs.Functions.{length_value, piece_value, some_pieces, assigned_pieces as pieces_assigned, set_piece_value, with_pieces};
+ghost use Rattle.mj_strfn.specs.Functions.{within_limit};
 ghost use Rattle.mj_strfn.specs.Parts.{pieces_between};
 
 use crate::arguments::{count_text, first_and_last, place};

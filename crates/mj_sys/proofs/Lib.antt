@@ -1,3 +1,4 @@
+pub mod Bare
 pub mod Examples
 pub mod Fitting
 mod First

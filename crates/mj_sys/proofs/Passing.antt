@@ -17,12 +17,13 @@ use Rattle.mj_txlog.specs.Accesses.{Accesses, Transaction, is_write, is_full}
 use Rattle.mj_txlog.specs.Skips.{AreSkips, gone_more, gone_by}
 use Rattle.mj_txlog.specs.declared.entry.Entry.TheVariants as entries
 use Rattle.mj_txlog.specs.declared.entry.Unlock.{Unlock}
-use Rattle.mj_sys.specs.Transactions.{Transactions, transaction_of, with_transaction, with_waiting, begun_as}
+use Rattle.mj_txlog.specs.Logged.{Logged}
+use Rattle.mj_sys.specs.Transactions.{Transactions, transaction_of, with_transaction, all_logged, with_waiting, begun_as}
 use Rattle.mj_sys.specs.Shared.{changed}
 use Rattle.mj_sys.specs.Kept.{transaction_after_try}
 use Rattle.mj_sys.specs.Passed.{changes_limit, counted, IsCounted, killed_by, IsPassed, ArePassed}
 use Rattle.mj_sys.specs.declared.passed.Passed.{Passed}
-use Rattle.mj_sys.proofs.Places.{with_twice}
+use Rattle.mj_sys.proofs.Places.{with_twice, seen_more}
 
 -- ---- nothing, and what a transaction killed
 
@@ -222,6 +223,14 @@ all_more globals n ts ps was = record {
   placed = length_more ps (record { at = 0; skips = [] }) ∙ ap suc was.placed ∙ sym (length_more ts None);
   each = each_more globals n ts ps None (record { at = 0; skips = [] }) was.placed was.each (passed_none globals n None 0 (omega arith));
 }
+
+-- so with a log more, of no transaction
+pub rows_more : (globals : Content) (n : ℕ) (logs logs' : List (Option Logged)) (ps ps' : List Passed) (p : Passed) → logs' ≡ logs ++ None ∷ []
+    → p ≡ record { at = 0; skips = [] } → ps' ≡ ps ++ p ∷ [] → ArePassed globals n (all_logged logs) ps → ArePassed globals n (all_logged logs') ps'
+rows_more globals n logs logs' ps ps' p more none kept was =
+    subst (λ l. ArePassed globals n (all_logged l) ps') (sym more)
+    (subst (λ l. ArePassed globals n l ps') (sym (seen_more logs))
+    (subst (λ l. ArePassed globals n (all_logged logs ++ None ∷ []) l) (sym (kept ∙ ap (λ q. ps ++ q ∷ []) none)) (all_more globals n (all_logged logs) ps was)))
 
 -- fewer rows
 pub all_fewer : (globals : Content) (n : ℕ) (ts : Transactions) (ps : List Passed) (k : ℕ) → ArePassed globals n ts ps → ArePassed globals n (take k ts) (take k ps)

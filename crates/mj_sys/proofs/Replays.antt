@@ -170,6 +170,8 @@ module _ (opening state : Shared) (old : Recorded) (job : ℕ) (ask : Ask) (late
         unclaimed = λ other above. log_with other old.history event
             ∙ nothing (log_of other old.history) (log_of other (event ∷ [])) (kept.unclaimed other above) (not_of other event (λ same. omega (arith, mine, above, same)));
         within = omega (arith, room, length-append old.history (event ∷ []));
+        none_open = kept.none_open;
+        none_ended = kept.none_ended;
       }
 
 -- no event is of a job 0
@@ -229,6 +231,8 @@ module _ (opening state : Shared) (counts : List ℕ) (seen : Recorded) (kept : 
     apart = subst (λ (s : Shared). LocksApart s.locks) (sym same) kept.apart;
     unclaimed = λ job above. kept.unclaimed job (omega (arith, above, next));
     within = kept.within;
+    none_open = kept.none_open;
+    none_ended = kept.none_ended;
   }
 
   each_wider : (b : Bool) (k : ℕ) → nat_lt k (length counts) ≡ b → k < length counts + 1 → get_or (counts ++ 0 ∷ []) k 0 ≡ events_of (suc k) seen.history

@@ -105,7 +105,8 @@ module _ (opening : Shared) (old : Service) (history : History) (counts : List �
       let of : History → ℕ → Recorded = λ h n. record { history = h; claimed = n } in
       ap (λ h. of h new.claimed) written.0 ∙ ap (λ (v : Service). of history v.claimed) comes.2 in
       record {
-        kept = subst (λ r. MatchesHistory opening new.state r) (sym same) (subst (λ (v : Service). MatchesHistory opening v.state (before opening old history counts claim ask late)) (sym comes.2) ready.kept);
+        kept = subst (λ r. MatchesHistory opening new.state r) (sym same)
+            (subst (λ (v : Service). MatchesHistory opening v.state (before opening old history counts claim ask late)) (sym comes.2) ready.kept);
         are = subst (λ l. AreCounts l (record { history = history'; claimed = new.claimed })) (sym written.1) (subst (λ r. AreCounts counts r) (sym same) ready.are);
         serves = record {
           turn = ready.turn;

@@ -15,10 +15,13 @@ use Rattle.mj_store.specs.declared.access.Answer.{Answer}
 use Rattle.mj_store.specs.declared.access.Answer.TheVariants as answers
 use Rattle.mj_subs.specs.Name.{Name}
 use Rattle.mj_txlog.specs.Accesses.{Transaction}
-use Rattle.mj_sys.specs.Transactions.{with_names}
+use Rattle.mj_store.specs.declared.access.Access.{Access}
+use Rattle.mj_locktab.specs.Locks.{Locks}
+use Rattle.mj_txn.specs.Closing.{Closed}
+use Rattle.mj_sys.specs.Transactions.{Transacted, own_of, with_names, with_access, with_transaction, closed_as}
 use Rattle.mj_sys.specs.Devices.{Devices, sessions_of}
 use Rattle.mj_sys.specs.Opening.{device_of}
-use Rattle.mj_sys.specs.Shared.{Shared, answered, moves_session}
+use Rattle.mj_sys.specs.Shared.{Shared, answered, globals_after, moves_session}
 use Rattle.mj_sys.specs.History.{History}
 use Rattle.mj_sys.specs.System.{Blocks, Claimed}
 use Rattle.mj_sys.specs.declared.served.Served.{Served}
@@ -60,6 +63,20 @@ ComesOfAsk old job ask late (outcomes.Opened session) new =
     × (new.claimed ≡ old.claimed)
 ComesOfAsk old job ask late (outcomes.Busy holder held) new =
     (answered old.state job ask late ≡ None) × Blocks old.state job ask holder held × (new ≡ old)
+
+-- the globals and the transactions after an access of the job
+abbrev pub with_accessed : Transacted → ℕ → Access → Transacted
+with_accessed s job a = record {
+  globals = globals_after (own_of s job) a s.globals;
+  transactions = with_transaction s.transactions job (with_access (own_of s job) s.globals a);
+}
+
+-- what comes of the job's commit, and the globals and the transactions after it
+abbrev pub closed_of : Transacted → ℕ → Locks → Closed
+closed_of s job locks = closed_as (own_of s job) job s.globals locks
+
+abbrev pub with_closed : Transacted → ℕ → Locks → Transacted
+with_closed s job locks = record { globals = (closed_of s job locks).globals; transactions = with_transaction s.transactions job None }
 
 -- the transaction after a try: what is got is gained by it
 abbrev pub transaction_after_try : Option Transaction → List Name → Taken → Option Transaction

@@ -1,10 +1,11 @@
 -- What is shared when a system begins.
-use Rattle.std.specs.Prelude.{ℕ, ◌+◌, List, [], map, replicate, length, Option, None, if◌then◌else◌}
+use Rattle.std.specs.Prelude.{◌≡◌, ℕ, ◌+◌, nat_eq, Bool, false, List, [], map, replicate, length, Option, None, Some, if◌then◌else◌}
+use Rattle.std.specs.List.{list_all}
 use Rattle.std.specs.Str.{bytes_eq}
 use Rattle.mj_store.specs.Questions.{Content}
 use Rattle.mj_ask.specs.Started.{Started}
 use Rattle.mj_dev.specs.Shelves.{Shelf, principal, left_of}
-use Rattle.mj_jobs.specs.Rows.{opened}
+use Rattle.mj_jobs.specs.Rows.{Row, row_at, opened}
 use Rattle.mj_sys.specs.Devices.{Device, Devices}
 use Rattle.mj_sys.specs.Shared.{Shared}
 
@@ -31,3 +32,15 @@ opening_of globals shelves starts = record {
   rows = map opened starts;
   transactions = replicate (length starts) None;
 }
+
+-- no job has a transaction open, and each has a place for one
+abbrev pub NoneIsOpen : Shared → Type 0
+NoneIsOpen s = s.transactions ≡ replicate (length s.rows) None
+
+-- no job of these rows has ended
+abbrev pub NoneHasEnded : List Row → Type 0
+NoneHasEnded rows = (job : ℕ) (row : Row) → row_at rows job ≡ Some row → row.ended ≡ false
+
+-- whether no start gives values: the first jobs have none, and a trace names only where they start
+abbrev pub are_bare : List Started → Bool
+are_bare starts = list_all (λ start. nat_eq (length start.values) 0) starts

@@ -92,6 +92,10 @@ closed s job c = (c.reply, record s { globals = c.globals; locks = c.locks; tran
 abbrev pub undone : Shared → ℕ → Shared
 undone s job = record s { locks = locks_back (open_of s job) job s.locks; transactions = with_transaction s.transactions job None }
 
+-- CLOSE (8.2.2): the job doesn't hold the device of the name any more
+abbrev pub device_closed : Shared → ℕ → List ℕ → Shared
+device_closed s job name = record s { devices = with_device s.devices name (released_by job) }
+
 -- the device of a name is free, and has a session left or none
 abbrev pub open_free : Shared → ℕ → List ℕ → Device → Reply × Shared
 open_free s job name d =
@@ -136,7 +140,7 @@ answered s job (shared_asks.Try names timeout) late =
 answered s job (shared_asks.Unlock names) late = Some (given_up s job (unlocks.Names names) (open_of s job))
 answered s job shared_asks.UnlockAll late = Some (given_up s job unlocks.All (open_of s job))
 answered s job (shared_asks.Open name timeout) late = open_named s job name timeout late
-answered s job (shared_asks.Close name) late = Some (replies.Done, record s { devices = with_device s.devices name (released_by job) })
+answered s job (shared_asks.Close name) late = Some (replies.Done, device_closed s job name)
 answered s job (shared_asks.Start start timeout) late = Some (started s start)
 answered s job (shared_asks.Halt fault) late = Some (replies.Done, halted (undone s job) job)
 answered s job (shared_asks.Begin kind) late = Some (replies.Done, transaction_begun s job kind)

@@ -13,6 +13,7 @@ use Rattle.mj_sys.specs.declared.served.Held.{Held}
 use Rattle.mj_sys.specs.declared.served.Held.TheVariants as helds
 use Rattle.mj_sys.specs.Devices.{holder_of}
 use Rattle.mj_sys.specs.Shared.{Shared, are_global}
+use Rattle.mj_sys.specs.Opening.{NoneIsOpen, NoneHasEnded}
 use Rattle.mj_sys.specs.Transactions.{Transactions}
 use Rattle.mj_txlog.specs.Accesses.{Transaction, writes_of}
 use Rattle.mj_store.specs.Runs.{name_of}
@@ -43,7 +44,7 @@ pub record Claimed : Type 0 where
   pub events : ℕ
 
 -- What is shared is what the history leaves, each event of which was served; only names of globals have texts in it; no name of one job
--- overlaps a name of another; and a row that isn't claimed has no events.
+-- overlaps a name of another; a row that isn't claimed has no events; and at the opening no transaction is open and no job has ended.
 pub record MatchesHistory (opening state : Shared) (seen : Recorded) : Type 0 where
   pub replay : state ≡ state_of opening seen.history
   pub served : AreServed opening seen.history
@@ -52,6 +53,8 @@ pub record MatchesHistory (opening state : Shared) (seen : Recorded) : Type 0 wh
   pub apart : LocksApart state.locks
   pub unclaimed : (job : ℕ) → seen.claimed < job → log_of job seen.history ≡ []
   pub within : length seen.history ≤ history_limit
+  pub none_open : NoneIsOpen opening
+  pub none_ended : NoneHasEnded opening.rows
 
 -- for each row that was claimed, how many events its job has
 pub record AreCounts (counts : List ℕ) (seen : Recorded) : Type 0 where

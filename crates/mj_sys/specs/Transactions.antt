@@ -1,5 +1,5 @@
 -- The transactions that jobs have open, and what each kind of ask makes of one.
-use Rattle.std.specs.Prelude.{ℕ, zero, suc, Bool, true, false, List, [], slice_set, Option, Some, None, if◌then◌else◌}
+use Rattle.std.specs.Prelude.{ℕ, zero, suc, Bool, true, false, List, [], map, slice_set, Option, Some, None, if◌then◌else◌}
 use Rattle.std.specs.List.{slice_index_or}
 use Rattle.mj_subs.specs.Name.{Name}
 use Rattle.mj_store.specs.Questions.{Content}
@@ -12,6 +12,7 @@ use Rattle.mj_ask.specs.declared.ask.Reply.{Reply}
 use Rattle.mj_ask.specs.declared.ask.Reply.TheVariants as replies
 use Rattle.mj_locktab.specs.Locks.{Locks}
 use Rattle.mj_txlog.specs.Accesses.{Transaction, is_full, with_unlock, with_gained}
+use Rattle.mj_txlog.specs.Logged.{Logged}
 use Rattle.mj_txlog.specs.declared.entry.Unlock.{Unlock}
 use Rattle.mj_txn.specs.Closing.{told_in, after_told, unlocked_by, rolled_back, Closed, committed}
 
@@ -33,6 +34,25 @@ transaction_of transactions (suc k) = slice_index_or transactions k None
 abbrev pub with_transaction : Transactions → ℕ → Option Transaction → Transactions
 with_transaction transactions zero t = transactions
 with_transaction transactions (suc k) t = slice_set transactions k t
+
+-- the transaction of a log, if there is one, and those of all rows
+abbrev pub logged : Option Logged → Option Transaction
+logged None = None
+logged (Some log) = Some log.transaction
+
+abbrev pub all_logged : List (Option Logged) → Transactions
+all_logged logs = map logged logs
+
+-- of the globals and the transactions that of a job, and where it is this one, or none
+abbrev pub own_of : Transacted → ℕ → Option Transaction
+own_of s job = transaction_of s.transactions job
+
+abbrev pub with_own : Transacted → ℕ → Option Transaction → Transacted
+with_own s job t = record s { transactions = with_transaction s.transactions job t }
+
+-- what is told is there twice, for the job and for the history
+abbrev pub twice : {A : Type 0} → A → A × A
+twice told = (told, told)
 
 -- what an access is told on these globals: in a transaction, as that sees them
 abbrev pub told_to : Option Transaction → Content → Access → Answer

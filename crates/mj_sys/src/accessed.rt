@@ -6,6 +6,7 @@ ghost use Rattle.mj_store.specs.Changes.{is_too_deep};
 ghost use Rattle.mj_store.specs.declared.access.Access.TheVariants as accesses;
 ghost use Rattle.mj_ask.specs.declared.ask.Reply.TheVariants as replies;
 ghost use Rattle.mj_sys.specs.Shared.{changed};
+ghost use Rattle.mj_sys.specs.Transactions.{twice};
 
 use mj_ask::Reply;
 use mj_globs::Globals;
@@ -17,9 +18,9 @@ use std::alloc::AllocError;
 // What an access is told, once for the job and once for the history. A local name has no place in what is shared, and to change it is done
 // without a change.
 pub fn answer(globals: &mut Globals, access: &Access) -> Result<(Reply, Reply), AllocError>
-    ensures told { IfOk result (λ told. told ≡ (replies.Answer (answer_of access.now globals.old), replies.Answer (answer_of access.now globals.old))) }
-    ensures after { OnOk result (globals.new ≡ changed access.now globals.old) }
-    ensures err { OnErr result (globals.new ≡ globals.old) }
+    ensures told { IfOk result (λ told. told ≡ twice (replies.Answer (answer_of access.now globals.old.content))) }
+    ensures after { OnOk result (globals.new.content ≡ changed access.now globals.old.content) }
+    ensures err { OnErr result (globals.new.content ≡ globals.old.content) }
 {
     match access {
         Access::Set(name, text) => {
@@ -56,8 +57,8 @@ pub fn answer(globals: &mut Globals, access: &Access) -> Result<(Reply, Reply), 
 // Puts nodes below a name, unless that gives one too many subscripts, and says which.
 fn put(globals: &mut Globals, name: &Name, nodes: &Nodes) -> Result<bool, AllocError>
     ensures told { IfOk result (λ done. done ≡ not (is_too_deep name.now nodes.now)) }
-    ensures after { OnOk result (globals.new ≡ changed (accesses.Put name.now nodes.now) globals.old) }
-    ensures err { OnErr result (globals.new ≡ globals.old) }
+    ensures after { OnOk result (globals.new.content ≡ changed (accesses.Put name.now nodes.now) globals.old.content) }
+    ensures err { OnErr result (globals.new.content ≡ globals.old.content) }
 {
     if !name.is_global() {
         return Ok(!is_too_deep(name, nodes.as_slice()));

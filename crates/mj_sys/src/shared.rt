@@ -1,16 +1,16 @@
 // What all jobs share.
 
-ghost use Rattle.std.specs.Prelude.{◌≡◌, ◌+◌, ◌≤◌, ◌↔◌, ℤ, length, map, replicate, false, true, None, Some, if◌then◌else◌, IfOk, IfErr, OnErr, IfSome, IfNone, IsTrue};
+ghost use Rattle.std.specs.Prelude.{◌≡◌, ◌+◌, ◌≤◌, ◌↔◌, ℤ, length, map, replicate, false, true, None, Some, if◌then◌else◌, IfOk, IfErr, OnErr, IfSome, IfNone};
+ghost use Rattle.std.specs.Prelude.{IsTrue, option_copied};
 ghost use Rattle.std.specs.Str.{bytes_eq};
 ghost use Rattle.mj_ask.specs.Late.{is_timed_out};
 ghost use Rattle.mj_ask.specs.declared.ask.SharedAsk.TheVariants as shared_asks;
 ghost use Rattle.mj_dev.specs.Heard.{IsNew};
 ghost use Rattle.mj_dev.specs.Shelves.{principal, left_of};
-ghost use Rattle.mj_jobs.specs.Rows.{Row, row_at, IsLive};
+ghost use Rattle.mj_jobs.specs.Rows.{start_at, HasStart, IsLive};
 ghost use Rattle.mj_locktab.specs.Locks.{LocksApart};
 ghost use Rattle.mj_ask.specs.declared.ask.Reply.TheVariants as replies;
-ghost use Rattle.mj_sys.specs.Devices.{with_device, released_by};
-ghost use Rattle.mj_sys.specs.Shared.{transaction_begun as begun_in, undone, halted, moves_session};
+ghost use Rattle.mj_sys.specs.Shared.{transaction_begun as begun_in, undone, halted, device_closed, moves_session};
 ghost use Rattle.mj_txlog.specs.declared.entry.Unlock.TheVariants as unlocks;
 ghost use Rattle.mj_sys.specs.declared.shared.Outcome.TheVariants as outcomes;
 ghost use Rattle.mj_sys.specs.Opening.{opening_of};
@@ -64,7 +64,7 @@ impl<D: Device> Model for Shared<D> {
     ghost view = { λ s. record {
       state = record {
         globals = s.transacted.globals;
-        locks = s.locks;
+        locks = s.locks.holds;
         devices = devices_of s.principals s.pool s.holders.items;
         rows = s.jobs.rows;
         transactions = s.transacted.transactions;
@@ -85,7 +85,7 @@ impl<D: Device> Shared<D> {
     ) -> Result<Shared<D>, Unmade<D>>
         requires few { length starts.items ≤ 255 }
         requires fits { length starts.items ≤ left_of principal pool }
-        ensures ok { IfOk result (λ s. s ≡ record { state = opening_of globals pool starts.items; claimed = 0 }) }
+        ensures ok { IfOk result (λ s. s ≡ record { state = opening_of globals.content pool starts.items; claimed = 0 }) }
         ensures globals { IfErr result (λ back. back.globals ≡ globals) }
         ensures pool { IfErr result (λ back. back.pool ≡ pool) }
         ensures starts { IfErr result (λ back. back.starts.items ≡ starts.items) }
@@ -135,14 +135,14 @@ impl<D: Device> Shared<D> {
 
     // The globals.
     pub fn globals(&self) -> &Globals
-        ensures { result.now ≡ self.now.state.globals }
+        ensures { result.now.content ≡ self.now.state.globals }
     {
         self.transacted.globals()
     }
 
     // Who holds which names.
     pub fn locks(&self) -> &LockTable
-        ensures value { result.now ≡ self.now.state.locks }
+        ensures value { result.now.holds ≡ self.now.state.locks }
         ensures apart { LocksApart self.now.state.locks }
     {
         self.locks.keeps();
@@ -163,6 +163,13 @@ impl<D: Device> Shared<D> {
         ensures bound { result ≤ length self.now.state.rows }
     {
         self.jobs.claimed()
+    }
+
+    // How the job starts, if it has a row.
+    pub fn start_of(&self, job: u32) -> Option<&Start>
+        ensures { option_copied result ≡ start_at self.now.state.rows job }
+    {
+        self.jobs.start(job)
     }
 
     // Whether the job has a row and hasn't ended.
@@ -195,7 +202,7 @@ impl<D: Device> Shared<D> {
     pub fn claim(&mut self) -> Result<Option<(Claimed, Session<D>)>, AllocError>
         ensures state { self.new.state ≡ self.old.state }
         ensures some { IfOk result (λ r. IfSome r (λ c. (c.0.job ≡ self.old.claimed + 1) × (self.new.claimed ≡ self.old.claimed + 1))) }
-        ensures start { IfOk result (λ r. IfSome r (λ c. (row : Row) × (row_at self.old.state.rows c.0.job ≡ Some row) × (row.start ≡ c.0.start))) }
+        ensures start { IfOk result (λ r. IfSome r (λ c. HasStart self.old.state.rows c.0.job c.0.start)) }
         ensures session { IfOk result (λ r. IfSome r (λ c. IsNew c.1)) }
         ensures none { IfOk result (λ r. IfNone r ((self.new ≡ self.old) × (self.old.claimed ≡ length self.old.state.rows))) }
         ensures err { OnErr result (self.new ≡ self.old) }
@@ -369,7 +376,7 @@ impl<D: Device> Shared<D> {
 
     // CLOSE of a name.
     fn close(&mut self, job: u32, name: &Text)
-        ensures { self.new ≡ record { state = record self.old.state { devices = with_device self.old.state.devices name.now (released_by job) }; claimed = self.old.claimed } }
+        ensures { self.new ≡ record { state = device_closed self.old.state job name.now; claimed = self.old.claimed } }
     {
         if let Some(place) = self.pool.place(name) {
             release(&mut self.holders[place], job);

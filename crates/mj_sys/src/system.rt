@@ -1,13 +1,14 @@
 // The system: what is shared, beside the history that left it so.
 
-ghost use Rattle.std.specs.Prelude.{◌≡◌, ℕ, true, ◌+◌, ◌<◌, ◌≤◌, ◌↔◌, ◌-◌, ◌^◌, ◌∷◌, ◌++◌, [], length, slice_set, slice_index_or, vec_len, vec_capacity, Some, IfOk, IfErr, OnOk, OnErr, IfSome, IfNone, IsTrue};
+ghost use Rattle.std.specs.Prelude.{◌≡◌, ℕ, true, ◌+◌, ◌<◌, ◌≤◌, ◌↔◌, ◌-◌, ◌^◌, ◌∷◌, ◌++◌, [], length, slice_set, slice_index_or, vec_len, vec_capacity, Some};
+ghost use Rattle.std.specs.Prelude.{IfOk, IfErr, OnOk, OnErr, IfSome, IfNone, IsTrue, option_copied};
 ghost use Rattle.mj_ask.specs.Fits.{is_shared};
 ghost use Rattle.mj_ask.specs.declared.ask.Ask.TheVariants as asks;
 ghost use Rattle.mj_dev.specs.Heard.{IsNew};
 ghost use Rattle.mj_dev.specs.Shelves.{principal, left_of};
-ghost use Rattle.mj_jobs.specs.Rows.{Row, row_at, IsLive, rows_limit};
+ghost use Rattle.mj_jobs.specs.Rows.{start_at, HasStart, IsLive, rows_limit};
 ghost use Rattle.mj_locktab.specs.Locks.{LocksApart};
-ghost use Rattle.mj_sys.specs.Opening.{opening_of};
+ghost use Rattle.mj_sys.specs.Opening.{opening_of, are_bare, NoneIsOpen, NoneHasEnded};
 ghost use Rattle.mj_sys.specs.Shared.{are_global, takes_session};
 ghost use Rattle.mj_sys.specs.History.{state_of, AreServed, events_of, log_of};
 ghost use Rattle.mj_sys.specs.System.{history_limit, KeepsRows};
@@ -53,19 +54,20 @@ impl<D: Device, O: Opening> Model for System<D, O> {
 }
 
 impl<D: Device, O: Opening> System<D, O> {
-    /// A system with no events yet, and a row for each of the starts. Only names of globals may have texts in its globals, as in those that
-    /// a listing of globals gives. At want of memory all comes back that it was to be made of.
+    /// A system with no events yet, and a row for each of the starts, which give no values: a trace couldn't tell them. Only names of globals may have
+    /// texts in its globals, as in those that a listing of globals gives. At want of memory all comes back that it was to be made of.
     pub fn new(
         alloc: Global,
         globals: Globals,
         pool: Pool<D>,
         starts: Vec<Start>,
     ) -> Result<System<D, O>, Unmade<D>>
-        requires opening { opening_of globals pool starts.items ≡ O.opening }
-        requires global { are_global globals ≡ true }
+        requires opening { opening_of globals.content pool starts.items ≡ O.opening }
+        requires global { are_global globals.content ≡ true }
         requires some { 1 ≤ length starts.items }
         requires few { length starts.items ≤ rows_limit }
         requires fits { length starts.items ≤ left_of principal pool }
+        requires bare { are_bare starts.items ≡ true }
         ensures ok { IfOk result (λ s. s ≡ record { history = []; claimed = 0 }) }
         ensures globals { IfErr result (λ back. back.globals ≡ globals) }
         ensures pool { IfErr result (λ back. back.pool ≡ pool) }
@@ -83,7 +85,7 @@ impl<D: Device, O: Opening> System<D, O> {
     pub fn claim(&mut self) -> Result<Option<(Claim, Session<D>)>, AllocError>
         ensures history { self.new.history ≡ self.old.history }
         ensures some { IfOk result (λ r. IfSome r (λ c. (c.0.job ≡ self.old.claimed + 1) × (self.new.claimed ≡ self.old.claimed + 1))) }
-        ensures start { IfOk result (λ r. IfSome r (λ c. (row : Row) × (row_at (state_of O.opening self.old.history).rows c.0.job ≡ Some row) × (row.start ≡ c.0.start))) }
+        ensures start { IfOk result (λ r. IfSome r (λ c. HasStart (state_of O.opening self.old.history).rows c.0.job c.0.start)) }
         ensures fresh { IfOk result (λ r. IfSome r (λ c. (c.0.events ≡ 0) × (log_of c.0.job self.old.history ≡ []))) }
         ensures session { IfOk result (λ r. IfSome r (λ c. IsNew c.1)) }
         ensures none { IfOk result (λ r. IfNone r ((self.new ≡ self.old) × (self.old.claimed ≡ length (state_of O.opening self.old.history).rows))) }
@@ -179,25 +181,28 @@ impl<D: Device, O: Opening> System<D, O> {
     /// The globals: those that the history leaves. Only names of globals have texts there, so that a question on a local name is answered as
     /// on one without a text.
     pub fn globals(&self) -> &Globals
-        ensures which { result.now ≡ (state_of O.opening self.now.history).globals }
-        ensures global { are_global result.now ≡ true }
+        ensures which { result.now.content ≡ (state_of O.opening self.now.history).globals }
+        ensures global { are_global result.now.content ≡ true }
     {
         self.shared.globals()
     }
 
     /// Who holds which names: as the history leaves it. No name of one job overlaps a name of another.
     pub fn locks(&self) -> &LockTable
-        ensures replay { result.now ≡ (state_of O.opening self.now.history).locks }
-        ensures apart { LocksApart result.now }
+        ensures replay { result.now.holds ≡ (state_of O.opening self.now.history).locks }
+        ensures apart { LocksApart result.now.holds }
     {
         self.shared.locks()
     }
 
-    /// How many rows there are, ended ones among them. The rows of the opening are there still, each with its start.
+    /// How many rows there are, ended ones among them. The rows of the opening are there still, each with its start; none had a transaction open
+    /// then, and none had ended.
     pub fn rows(&self) -> usize
         ensures value { result ≡ length (state_of O.opening self.now.history).rows }
         ensures bound { result ≤ rows_limit }
         ensures kept { KeepsRows O.opening.rows (state_of O.opening self.now.history).rows }
+        ensures none_open { NoneIsOpen O.opening }
+        ensures none_ended { NoneHasEnded O.opening.rows }
     {
         self.shared.rows()
     }
@@ -209,6 +214,13 @@ impl<D: Device, O: Opening> System<D, O> {
         ensures unclaimed { (job : ℕ) → result < job → log_of job self.now.history ≡ [] }
     {
         self.shared.claimed()
+    }
+
+    /// How the job starts, if it has a row.
+    pub fn start(&self, job: u32) -> Option<&Start>
+        ensures { option_copied result ≡ start_at (state_of O.opening self.now.history).rows job }
+    {
+        self.shared.start_of(job)
     }
 
     /// Whether the job has a row and hasn't ended.
@@ -244,10 +256,12 @@ fn serve_next<D: Device>(
     requires place { claim.old.job ≤ length counts.old.items }
     requires few { slice_index_or counts.old.items (claim.old.job - 1) 0 < 2 ^ 64 - 1 }
     requires few_claimed { claim.old.events < 2 ^ 64 - 1 }
-    ensures ok { IfOk result (λ told. ServesAndRecords shared.old history.old.items counts.old.items claim.old ask.now late told shared.new history.new.items counts.new.items claim.new) }
+    ensures ok { IfOk result (λ told.
+        ServesAndRecords shared.old history.old.items counts.old.items claim.old ask.now late told shared.new history.new.items counts.new.items claim.new) }
     ensures apart { LocksApart shared.new.state.locks }
     ensures err { IfErr result (λ why. why ≡ refusals.Memory) }
-    ensures kept { OnErr result ((shared.new ≡ shared.old) × (history.new.items ≡ history.old.items) × (counts.new.items ≡ counts.old.items) × (claim.new ≡ claim.old)) }
+    ensures kept { OnErr result
+        ((shared.new ≡ shared.old) × (history.new.items ≡ history.old.items) × (counts.new.items ≡ counts.old.items) × (claim.new ≡ claim.old)) }
 {
     let copy = match room_and_copy(history, ask) {
         Ok(copy) => copy,

@@ -4,9 +4,8 @@ ghost use Rattle.std.specs.Prelude.{◌≡◌, ◌++◌, ◌-◌, ◌∷◌, [],
 ghost use Rattle.mj_ask.specs.declared.ask.Reply.TheVariants as replies;
 ghost use Rattle.mj_locktab.specs.Tries.{outcome_of as try_of, after_try, TryGives};
 ghost use Rattle.mj_txlog.specs.declared.entry.Unlock.TheVariants as unlocks;
-ghost use Rattle.mj_sys.specs.Transactions.{transaction_of, with_transaction, told_to, with_access, unlock_told, after_unlock, with_waiting, begun_as, closed_as, locks_back};
-ghost use Rattle.mj_sys.specs.Shared.{globals_after};
-ghost use Rattle.mj_sys.specs.Kept.{transaction_after_try};
+ghost use Rattle.mj_sys.specs.Transactions.{all_logged, own_of, with_own, twice, told_to, unlock_told, after_unlock, with_waiting, begun_as, locks_back};
+ghost use Rattle.mj_sys.specs.Kept.{transaction_after_try, with_accessed, closed_of, with_closed};
 ghost use Rattle.mj_sys.specs.Passed.{ArePassed};
 
 use crate::passed::{Passed, forget};
@@ -36,14 +35,14 @@ pub struct Transacted {
 }
 
 impl Model for Transacted {
-    ghost use Rattle.mj_sys.specs.Transactions.{Transacted};
+    ghost use Rattle.mj_sys.specs.Transactions.{Transacted, all_logged};
     ghost use Rattle.mj_sys.specs.Passed.{ArePassed};
 
     ghost Value = { Transacted };
 
-    ghost view = { λ s. record { globals = s.globals; transactions = s.logs.items } };
+    ghost view = { λ s. record { globals = s.globals.content; transactions = all_logged s.logs.items } };
 
-    ghost invariant = { λ s. ArePassed s.globals s.changes s.logs.items s.passed.items };
+    ghost invariant = { λ s. ArePassed s.globals.content s.changes (all_logged s.logs.items) s.passed.items };
 }
 
 impl Transacted {
@@ -54,8 +53,8 @@ impl Transacted {
         logs: Vec<Option<TxLog>>,
         passed: Vec<Passed>,
     ) -> Transacted
-        requires { ArePassed globals 0 logs.items passed.items }
-        ensures { result ≡ record { globals = globals; transactions = logs.items } }
+        requires { ArePassed globals.content 0 (all_logged logs.items) passed.items }
+        ensures { result ≡ record { globals = globals.content; transactions = all_logged logs.items } }
     {
         Transacted {
             alloc,
@@ -68,12 +67,13 @@ impl Transacted {
 
     // The globals.
     pub fn globals(&self) -> &Globals
-        ensures { result.now ≡ self.now.globals }
+        ensures { result.now.content ≡ self.now.globals }
     {
         &self.globals
     }
 
     // One row more, without a transaction.
+    #[tactic(auto, using(crate::proofs::Places::seen_more, crate::proofs::Passing::rows_more))]
     pub fn add_row(&mut self) -> Result<(), AllocError>
         ensures added { OnOk result (self.new ≡ record { globals = self.old.globals; transactions = self.old.transactions ++ None ∷ [] }) }
         ensures err { OnErr result (self.new ≡ self.old) }
@@ -93,9 +93,10 @@ impl Transacted {
     }
 
     // An access, in the job's transaction if it has one open: what it is told, once for the job and once for the history.
+    #[tactic(auto, using(crate::proofs::Places::seen_length, crate::proofs::Places::seen_of, crate::proofs::Places::seen_set))]
     pub fn access(&mut self, job: u32, access: &Access) -> Result<(Reply, Reply), AllocError>
-        ensures told { IfOk result (λ told. told ≡ (replies.Answer (told_to (transaction_of self.old.transactions job) self.old.globals access.now), replies.Answer (told_to (transaction_of self.old.transactions job) self.old.globals access.now))) }
-        ensures after { OnOk result (self.new ≡ record { globals = globals_after (transaction_of self.old.transactions job) access.now self.old.globals; transactions = with_transaction self.old.transactions job (with_access (transaction_of self.old.transactions job) self.old.globals access.now) }) }
+        ensures told { IfOk result (λ told. told ≡ twice (replies.Answer (told_to (own_of self.old job) self.old.globals access.now))) }
+        ensures after { OnOk result (self.new ≡ with_accessed self.old job access.now) }
         ensures err { OnErr result (self.new ≡ self.old) }
     {
         match place(self.logs.len(), job) {
@@ -118,11 +119,11 @@ impl Transacted {
         job: u32,
         names: &[Name],
     ) -> Result<Taken, AllocError>
-        ensures taken { IfOk result (λ taken. taken ≡ try_of locks.old job names.now) }
-        ensures locks { OnOk result (locks.new ≡ after_try locks.old job names.now) }
-        ensures meaning { IfOk result (λ taken. TryGives locks.old job names.now taken locks.new) }
-        ensures after { IfOk result (λ taken. self.new ≡ record { globals = self.old.globals; transactions = with_transaction self.old.transactions job (transaction_after_try (transaction_of self.old.transactions job) names.now taken) }) }
-        ensures err { OnErr result ((locks.new ≡ locks.old) × (self.new ≡ self.old)) }
+        ensures taken { IfOk result (λ taken. taken ≡ try_of locks.old.holds job names.now) }
+        ensures locks { OnOk result (locks.new.holds ≡ after_try locks.old.holds job names.now) }
+        ensures meaning { IfOk result (λ taken. TryGives locks.old.holds job names.now taken locks.new.holds) }
+        ensures after { IfOk result (λ taken. self.new ≡ with_own self.old job (transaction_after_try (own_of self.old job) names.now taken)) }
+        ensures err { OnErr result ((locks.new.holds ≡ locks.old.holds) × (self.new ≡ self.old)) }
     {
         let mut own = take_out(&mut self.logs, job);
         let taken = try_take(&mut own, locks, job, names);
@@ -138,10 +139,10 @@ impl Transacted {
         job: u32,
         names: &[Name],
     ) -> Result<(Reply, Reply), AllocError>
-        ensures told { IfOk result (λ told. told ≡ (unlock_told (transaction_of self.old.transactions job), unlock_told (transaction_of self.old.transactions job))) }
-        ensures locks { OnOk result (locks.new ≡ after_unlock (transaction_of self.old.transactions job) job locks.old (unlocks.Names names.now)) }
-        ensures after { OnOk result (self.new ≡ record { globals = self.old.globals; transactions = with_transaction self.old.transactions job (with_waiting (transaction_of self.old.transactions job) (unlocks.Names names.now)) }) }
-        ensures err { OnErr result ((locks.new ≡ locks.old) × (self.new ≡ self.old)) }
+        ensures told { IfOk result (λ told. told ≡ twice (unlock_told (own_of self.old job))) }
+        ensures locks { OnOk result (locks.new.holds ≡ after_unlock (own_of self.old job) job locks.old.holds (unlocks.Names names.now)) }
+        ensures after { OnOk result (self.new ≡ with_own self.old job (with_waiting (own_of self.old job) (unlocks.Names names.now))) }
+        ensures err { OnErr result ((locks.new.holds ≡ locks.old.holds) × (self.new ≡ self.old)) }
     {
         let mut own = take_out(&mut self.logs, job);
         let told = unlock(&mut own, locks, job, names);
@@ -156,10 +157,10 @@ impl Transacted {
         locks: &mut LockTable,
         job: u32,
     ) -> Result<(Reply, Reply), AllocError>
-        ensures told { IfOk result (λ told. told ≡ (unlock_told (transaction_of self.old.transactions job), unlock_told (transaction_of self.old.transactions job))) }
-        ensures locks { OnOk result (locks.new ≡ after_unlock (transaction_of self.old.transactions job) job locks.old unlocks.All) }
-        ensures after { OnOk result (self.new ≡ record { globals = self.old.globals; transactions = with_transaction self.old.transactions job (with_waiting (transaction_of self.old.transactions job) unlocks.All) }) }
-        ensures err { OnErr result ((locks.new ≡ locks.old) × (self.new ≡ self.old)) }
+        ensures told { IfOk result (λ told. told ≡ twice (unlock_told (own_of self.old job))) }
+        ensures locks { OnOk result (locks.new.holds ≡ after_unlock (own_of self.old job) job locks.old.holds unlocks.All) }
+        ensures after { OnOk result (self.new ≡ with_own self.old job (with_waiting (own_of self.old job) unlocks.All)) }
+        ensures err { OnErr result ((locks.new.holds ≡ locks.old.holds) × (self.new ≡ self.old)) }
     {
         let mut own = take_out(&mut self.logs, job);
         let told = unlock_all(&mut own, locks, job);
@@ -170,7 +171,7 @@ impl Transacted {
     // A transaction begins, unless one is open.
     #[tactic(auto, using(crate::proofs::Places::with_twice, crate::proofs::Places::with_same))]
     pub fn begin(&mut self, job: u32, kind: Kind)
-        ensures { self.new ≡ record { globals = self.old.globals; transactions = with_transaction self.old.transactions job (begun_as (transaction_of self.old.transactions job) kind) } }
+        ensures { self.new ≡ with_own self.old job (begun_as (own_of self.old job) kind) }
     {
         let own = take_out(&mut self.logs, job);
         put_back(&mut self.logs, job, begun(self.alloc, own, kind));
@@ -179,11 +180,11 @@ impl Transacted {
     // A commit of the transaction, if one is open. What it is told is there twice.
     #[tactic(auto, using(crate::proofs::Places::with_twice, crate::proofs::Places::with_same))]
     pub fn commit(&mut self, locks: &mut LockTable, job: u32) -> Result<(Reply, Reply), AllocError>
-        ensures told { IfOk result (λ told. told.0 ≡ (closed_as (transaction_of self.old.transactions job) job self.old.globals locks.old).reply) }
+        ensures told { IfOk result (λ told. told.0 ≡ (closed_of self.old job locks.old.holds).reply) }
         ensures again { IfOk result (λ told. told.1 ≡ told.0) }
-        ensures after { OnOk result (self.new ≡ record { globals = (closed_as (transaction_of self.old.transactions job) job self.old.globals locks.old).globals; transactions = with_transaction self.old.transactions job None }) }
-        ensures locks { OnOk result (locks.new ≡ (closed_as (transaction_of self.old.transactions job) job self.old.globals locks.old).locks) }
-        ensures err { OnErr result ((locks.new ≡ locks.old) × (self.new ≡ self.old)) }
+        ensures after { OnOk result (self.new ≡ with_closed self.old job locks.old.holds) }
+        ensures locks { OnOk result (locks.new.holds ≡ (closed_of self.old job locks.old.holds).locks) }
+        ensures err { OnErr result ((locks.new.holds ≡ locks.old.holds) × (self.new ≡ self.old)) }
     {
         let own = take_out(&mut self.logs, job);
         match commit(&own, &mut self.globals, &mut self.changes, locks, job) {
@@ -202,8 +203,8 @@ impl Transacted {
     // A rollback of the transaction, if one is open.
     #[tactic(auto, using(crate::proofs::Places::with_twice, crate::proofs::Places::with_same))]
     pub fn roll_back(&mut self, locks: &mut LockTable, job: u32)
-        ensures after { self.new ≡ record { globals = self.old.globals; transactions = with_transaction self.old.transactions job None } }
-        ensures locks { locks.new ≡ locks_back (transaction_of self.old.transactions job) job locks.old }
+        ensures after { self.new ≡ with_own self.old job None }
+        ensures locks { locks.new.holds ≡ locks_back (own_of self.old job) job locks.old.holds }
     {
         let own = take_out(&mut self.logs, job);
         roll_back(&own, locks, job);

@@ -4,7 +4,8 @@ ghost use Rattle.std.specs.Prelude.{◌≡◌, ◌≤◌, ◌<◌, ℕ, suc, len
 ghost use Rattle.mj_ask.specs.declared.ask.Reply.TheVariants as replies;
 ghost use Rattle.mj_locktab.specs.Tries.{outcome_of as try_of, after_try, TryGives};
 ghost use Rattle.mj_txlog.specs.declared.entry.Unlock.TheVariants as unlocks;
-ghost use Rattle.mj_sys.specs.Transactions.{transaction_of, with_transaction, told_to, with_access, unlock_told, after_unlock, with_waiting, begun_as, closed_as, locks_back};
+ghost use Rattle.mj_sys.specs.Transactions.{transaction_of, with_transaction, logged, all_logged, twice, told_to, with_access, unlock_told, after_unlock};
+ghost use Rattle.mj_sys.specs.Transactions.{with_waiting, begun_as, closed_as, locks_back};
 ghost use Rattle.mj_sys.specs.Shared.{changed, globals_after};
 ghost use Rattle.mj_sys.specs.Passed.{IsCounted, IsPassed};
 ghost use Rattle.mj_store.specs.Runs.{answer_of};
@@ -23,9 +24,9 @@ use std::alloc::{AllocError, Global};
 use std::mem::replace;
 
 // No transaction, for each of so many rows.
-#[tactic(auto, using(crate::proofs::Places::one_more))]
+#[tactic(auto, using(crate::proofs::Places::one_more, crate::proofs::Places::seen_more))]
 pub fn none_open(alloc: Global, rows: usize) -> Result<Vec<Option<TxLog>>, AllocError>
-    ensures { IfOk result (λ logs. logs.items ≡ replicate rows None) }
+    ensures { IfOk result (λ logs. all_logged logs.items ≡ replicate rows None) }
 {
     let mut logs = Vec::new(alloc);
     for _ in 0..rows {
@@ -44,9 +45,10 @@ pub fn place(rows: usize, job: u32) -> Option<usize>
 }
 
 // The transaction that the job has open is taken out of its place.
+#[tactic(auto, using(crate::proofs::Places::seen_of, crate::proofs::Places::seen_without))]
 pub fn take_out(logs: &mut Vec<Option<TxLog>>, job: u32) -> Option<TxLog>
-    ensures taken { result ≡ transaction_of logs.old.items job }
-    ensures left { logs.new.items ≡ with_transaction logs.old.items job None }
+    ensures taken { logged result ≡ transaction_of (all_logged logs.old.items) job }
+    ensures left { all_logged logs.new.items ≡ with_transaction (all_logged logs.old.items) job None }
 {
     match place(logs.len(), job) {
         None => None,
@@ -55,8 +57,9 @@ pub fn take_out(logs: &mut Vec<Option<TxLog>>, job: u32) -> Option<TxLog>
 }
 
 // The job has this transaction open, or none.
+#[tactic(auto, using(crate::proofs::Places::seen_with))]
 pub fn put_back(logs: &mut Vec<Option<TxLog>>, job: u32, log: Option<TxLog>)
-    ensures { logs.new.items ≡ with_transaction logs.old.items job log }
+    ensures { all_logged logs.new.items ≡ with_transaction (all_logged logs.old.items) job (logged log) }
 {
     match place(logs.len(), job) {
         None => drop(log),
@@ -66,7 +69,7 @@ pub fn put_back(logs: &mut Vec<Option<TxLog>>, job: u32, log: Option<TxLog>)
 
 // A transaction begins, unless one is open.
 pub fn begun(alloc: Global, own: Option<TxLog>, kind: Kind) -> Option<TxLog>
-    ensures { result ≡ begun_as own kind }
+    ensures { logged result ≡ begun_as (logged own) kind }
 {
     match own {
         None => Some(TxLog::new(alloc, kind == Kind::Serial)),
@@ -81,10 +84,10 @@ pub fn outside(
     changes: &mut u64,
     access: &Access,
 ) -> Result<(Reply, Reply), AllocError>
-    ensures told { IfOk result (λ told. told ≡ (replies.Answer (answer_of access.now globals.old), replies.Answer (answer_of access.now globals.old))) }
-    ensures globals { OnOk result (globals.new ≡ changed access.now globals.old) }
-    ensures counted { IsCounted globals.old changes.old globals.new changes.new }
-    ensures err { OnErr result (globals.new ≡ globals.old) }
+    ensures told { IfOk result (λ told. told ≡ twice (replies.Answer (answer_of access.now globals.old.content))) }
+    ensures globals { OnOk result (globals.new.content ≡ changed access.now globals.old.content) }
+    ensures counted { IsCounted globals.old.content changes.old globals.new.content changes.new }
+    ensures err { OnErr result (globals.new.content ≡ globals.old.content) }
 {
     count_write(changes, access);
     answer(globals, access)
@@ -99,13 +102,13 @@ pub fn access_at(
     changes: &mut u64,
     access: &Access,
 ) -> Result<(Reply, Reply), AllocError>
-    requires { IsPassed globals.old changes.old own.old passed.old }
-    ensures told { IfOk result (λ told. told ≡ (replies.Answer (told_to own.old globals.old access.now), replies.Answer (told_to own.old globals.old access.now))) }
-    ensures globals { OnOk result (globals.new ≡ globals_after own.old access.now globals.old) }
-    ensures own { OnOk result (own.new ≡ with_access own.old globals.old access.now) }
-    ensures counted { IsCounted globals.old changes.old globals.new changes.new }
-    ensures passed { IsPassed globals.new changes.new own.new passed.new }
-    ensures err { OnErr result ((globals.new ≡ globals.old) × (own.new ≡ own.old)) }
+    requires { IsPassed globals.old.content changes.old (logged own.old) passed.old }
+    ensures told { IfOk result (λ told. told ≡ twice (replies.Answer (told_to (logged own.old) globals.old.content access.now))) }
+    ensures globals { OnOk result (globals.new.content ≡ globals_after (logged own.old) access.now globals.old.content) }
+    ensures own { OnOk result (logged own.new ≡ with_access (logged own.old) globals.old.content access.now) }
+    ensures counted { IsCounted globals.old.content changes.old globals.new.content changes.new }
+    ensures passed { IsPassed globals.new.content changes.new (logged own.new) passed.new }
+    ensures err { OnErr result ((globals.new.content ≡ globals.old.content) × (logged own.new ≡ logged own.old)) }
 {
     match own {
         None => outside(globals, changes, access),
@@ -121,11 +124,11 @@ fn inside(
     changes: u64,
     access: &Access,
 ) -> Result<(Reply, Reply), AllocError>
-    requires { IsPassed globals.now changes (Some log.old) passed.old }
-    ensures told { IfOk result (λ told. told ≡ (replies.Answer (told_to (Some log.old) globals.now access.now), replies.Answer (told_to (Some log.old) globals.now access.now))) }
-    ensures log { OnOk result (Some log.new ≡ with_access (Some log.old) globals.now access.now) }
-    ensures passed { IsPassed globals.now changes (Some log.new) passed.new }
-    ensures err { OnErr result (log.new ≡ log.old) }
+    requires { IsPassed globals.now.content changes (Some log.old.transaction) passed.old }
+    ensures told { IfOk result (λ told. told ≡ twice (replies.Answer (told_to (Some log.old.transaction) globals.now.content access.now))) }
+    ensures log { OnOk result (Some log.new.transaction ≡ with_access (Some log.old.transaction) globals.now.content access.now) }
+    ensures passed { IsPassed globals.now.content changes (Some log.new.transaction) passed.new }
+    ensures err { OnErr result (log.new.transaction ≡ log.old.transaction) }
 {
     passed.renew(changes);
     let (reply, again) = txn::access(log, globals, &mut passed.skips, access)?;
@@ -140,11 +143,11 @@ pub fn try_take(
     job: u32,
     names: &[Name],
 ) -> Result<Taken, AllocError>
-    ensures taken { IfOk result (λ taken. taken ≡ try_of locks.old job names.now) }
-    ensures locks { OnOk result (locks.new ≡ after_try locks.old job names.now) }
-    ensures meaning { IfOk result (λ taken. TryGives locks.old job names.now taken locks.new) }
-    ensures own { IfOk result (λ taken. own.new ≡ transaction_after_try own.old names.now taken) }
-    ensures err { OnErr result ((locks.new ≡ locks.old) × (own.new ≡ own.old)) }
+    ensures taken { IfOk result (λ taken. taken ≡ try_of locks.old.holds job names.now) }
+    ensures locks { OnOk result (locks.new.holds ≡ after_try locks.old.holds job names.now) }
+    ensures meaning { IfOk result (λ taken. TryGives locks.old.holds job names.now taken locks.new.holds) }
+    ensures own { IfOk result (λ taken. logged own.new ≡ transaction_after_try (logged own.old) names.now taken) }
+    ensures err { OnErr result ((locks.new.holds ≡ locks.old.holds) × (logged own.new ≡ logged own.old)) }
 {
     match own {
         None => locks.try_take(job, names),
@@ -160,17 +163,17 @@ pub fn unlock(
     job: u32,
     names: &[Name],
 ) -> Result<(Reply, Reply), AllocError>
-    ensures told { IfOk result (λ told. told ≡ (unlock_told own.old, unlock_told own.old)) }
-    ensures locks { OnOk result (locks.new ≡ after_unlock own.old job locks.old (unlocks.Names names.now)) }
-    ensures own { OnOk result (own.new ≡ with_waiting own.old (unlocks.Names names.now)) }
-    ensures err { OnErr result ((locks.new ≡ locks.old) × (own.new ≡ own.old)) }
+    ensures told { IfOk result (λ told. told ≡ twice (unlock_told (logged own.old))) }
+    ensures locks { OnOk result (locks.new.holds ≡ after_unlock (logged own.old) job locks.old.holds (unlocks.Names names.now)) }
+    ensures own { OnOk result (logged own.new ≡ with_waiting (logged own.old) (unlocks.Names names.now)) }
+    ensures err { OnErr result ((locks.new.holds ≡ locks.old.holds) × (logged own.new ≡ logged own.old)) }
 {
     match own {
         None => {
             locks.give(job, names);
             Ok((Reply::Done, Reply::Done))
         }
-        Some(log) => Ok(twice(txn::unlock(log, names)?)),
+        Some(log) => Ok(told_twice(txn::unlock(log, names)?)),
     }
 }
 
@@ -181,22 +184,22 @@ pub fn unlock_all(
     locks: &mut LockTable,
     job: u32,
 ) -> Result<(Reply, Reply), AllocError>
-    ensures told { IfOk result (λ told. told ≡ (unlock_told own.old, unlock_told own.old)) }
-    ensures locks { OnOk result (locks.new ≡ after_unlock own.old job locks.old unlocks.All) }
-    ensures own { OnOk result (own.new ≡ with_waiting own.old unlocks.All) }
-    ensures err { OnErr result ((locks.new ≡ locks.old) × (own.new ≡ own.old)) }
+    ensures told { IfOk result (λ told. told ≡ twice (unlock_told (logged own.old))) }
+    ensures locks { OnOk result (locks.new.holds ≡ after_unlock (logged own.old) job locks.old.holds unlocks.All) }
+    ensures own { OnOk result (logged own.new ≡ with_waiting (logged own.old) unlocks.All) }
+    ensures err { OnErr result ((locks.new.holds ≡ locks.old.holds) × (logged own.new ≡ logged own.old)) }
 {
     match own {
         None => {
             locks.give_all(job);
             Ok((Reply::Done, Reply::Done))
         }
-        Some(log) => Ok(twice(log.unlock(Unlock::All)?)),
+        Some(log) => Ok(told_twice(log.unlock(Unlock::All)?)),
     }
 }
 
 // What an unlock is told, which waits or passes a limit.
-fn twice(answer: Answer) -> (Reply, Reply)
+fn told_twice(answer: Answer) -> (Reply, Reply)
     ensures { result ≡ (as_reply answer, as_reply answer) }
 {
     match answer {
@@ -213,12 +216,12 @@ pub fn commit(
     locks: &mut LockTable,
     job: u32,
 ) -> Result<(Reply, Reply), AllocError>
-    ensures told { IfOk result (λ told. told.0 ≡ (closed_as own.now job globals.old locks.old).reply) }
+    ensures told { IfOk result (λ told. told.0 ≡ (closed_as (logged own.now) job globals.old.content locks.old.holds).reply) }
     ensures again { IfOk result (λ told. told.1 ≡ told.0) }
-    ensures globals { OnOk result (globals.new ≡ (closed_as own.now job globals.old locks.old).globals) }
-    ensures locks { OnOk result (locks.new ≡ (closed_as own.now job globals.old locks.old).locks) }
-    ensures counted { IsCounted globals.old changes.old globals.new changes.new }
-    ensures err { OnErr result ((globals.new ≡ globals.old) × (locks.new ≡ locks.old)) }
+    ensures globals { OnOk result (globals.new.content ≡ (closed_as (logged own.now) job globals.old.content locks.old.holds).globals) }
+    ensures locks { OnOk result (locks.new.holds ≡ (closed_as (logged own.now) job globals.old.content locks.old.holds).locks) }
+    ensures counted { IsCounted globals.old.content changes.old globals.new.content changes.new }
+    ensures err { OnErr result ((globals.new.content ≡ globals.old.content) × (locks.new.holds ≡ locks.old.holds)) }
 {
     match own {
         None => Ok((Reply::Done, Reply::Done)),
@@ -231,7 +234,7 @@ pub fn commit(
 
 // A rollback of the transaction, if one is open.
 pub fn roll_back(own: &Option<TxLog>, locks: &mut LockTable, job: u32)
-    ensures { locks.new ≡ locks_back own.now job locks.old }
+    ensures { locks.new.holds ≡ locks_back (logged own.now) job locks.old.holds }
 {
     match own {
         None => {}

@@ -1,10 +1,10 @@
 // A routine, stepped without devices.
 
-ghost use Rattle.std.specs.Prelude.{◌≡◌, ◌≤◌, [], length};
+ghost use Rattle.std.specs.Prelude.{◌≡◌, ◌≤◌, [], length, true, IfOk};
 ghost use Rattle.mj_dev.specs.Pools.{shelves_of};
 ghost use Rattle.mj_dev.specs.Shelves.{principal, left_of};
 ghost use Rattle.mj_jobs.specs.Rows.{rows_limit};
-ghost use Rattle.mj_sys.specs.Opening.{opening_of};
+ghost use Rattle.mj_sys.specs.Opening.{opening_of, are_bare};
 
 use crate::begins::{image, starts};
 use mj_ask::{Reply, Start};
@@ -35,7 +35,9 @@ pub fn stepped(alloc: Global, bytes: &str, steps: &str) -> Result<Vec<u8>, Failu
 }
 
 // The devices, and a start at the first line of R.
-fn opened(alloc: Global) -> Result<(Vec<(Text, u32)>, Vec<Start>), Failure> {
+fn opened(alloc: Global) -> Result<(Vec<(Text, u32)>, Vec<Start>), Failure>
+    ensures { IfOk result (λ x. are_bare x.1.items ≡ true) }
+{
     let mut sessions = Vec::new(alloc);
     sessions.push((Text::from_number(alloc, 0), 2))?;
     sessions.push((Text::from(alloc, b"F")?, 1))?;
@@ -49,7 +51,9 @@ fn begun(
     sessions: Vec<(Text, u32)>,
     starts: Vec<Start>,
     steps: &[u8],
-) -> Result<Vec<u8>, Failure> {
+) -> Result<Vec<u8>, Failure>
+    requires { are_bare starts.items ≡ true }
+{
     let fits = match pool_of(alloc, &sessions) {
         Ok(pool) => {
             let fits = pool.fits(1);
@@ -79,6 +83,7 @@ fn run<O: Opening>(
     requires some { 1 ≤ length starts.items }
     requires few { length starts.items ≤ rows_limit }
     requires fits { length starts.items ≤ left_of principal (shelves_of sessions.items) }
+    requires bare { are_bare starts.items ≡ true }
 {
     let mut core = Core::<Blank, Heeds, O>::blank(
         alloc,

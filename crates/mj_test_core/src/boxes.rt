@@ -49,6 +49,45 @@ pub fn pool(
     }
 }
 
+/// As many devices `D1`, `D2` and so on, which count their drops as `F` does, and two principal ones. None fails.
+pub fn many(alloc: Global, devices: u32, drops: &Drops) -> Result<Pool<Counting>, Failure> {
+    let mut pool = Pool::new(alloc);
+    match fill_many(alloc, &mut pool, devices, drops) {
+        Ok(()) => Ok(pool),
+        Err(failure) => {
+            drop(pool);
+            Err(failure)
+        }
+    }
+}
+
+fn fill_many(
+    alloc: Global,
+    pool: &mut Pool<Counting>,
+    devices: u32,
+    drops: &Drops,
+) -> Result<(), Failure> {
+    for number in 1..=devices {
+        put_numbered(alloc, pool, number, drops)?;
+    }
+    put_principals(alloc, pool, 0, drops)
+}
+
+fn put_numbered(
+    alloc: Global,
+    pool: &mut Pool<Counting>,
+    number: u32,
+    drops: &Drops,
+) -> Result<(), Failure> {
+    let digits = format!(in alloc; "D{number}")?;
+    let name = Text::from(alloc, digits.as_bytes());
+    drop(digits);
+    let name = name?;
+    let put = put(alloc, pool, &name, 0, &drops.named);
+    drop(name);
+    put
+}
+
 fn fill(
     alloc: Global,
     pool: &mut Pool<Counting>,
@@ -57,13 +96,23 @@ fn fill(
     drops: &Drops,
 ) -> Result<(), Failure> {
     put_named(alloc, pool, named, drops)?;
+    put_principals(alloc, pool, principal, drops)
+}
+
+fn put_principals(
+    alloc: Global,
+    pool: &mut Pool<Counting>,
+    at: u64,
+    drops: &Drops,
+) -> Result<(), Failure> {
     let zero = Text::from_number(alloc, 0);
-    let put = put_principal(alloc, pool, &zero, principal, drops);
+    let put = put_principal(alloc, pool, &zero, at, drops);
     drop(zero);
     put
 }
 
-fn put_named(
+/// Adds one more `F`.
+pub fn put_named(
     alloc: Global,
     pool: &mut Pool<Counting>,
     at: u64,

@@ -1,9 +1,9 @@
 // The blocks of what two jobs of a core did.
 
-ghost use Rattle.std.specs.Prelude.{◌≡◌, ◌≤◌, [], length};
+ghost use Rattle.std.specs.Prelude.{◌≡◌, ◌≤◌, [], length, true, IfOk};
 ghost use Rattle.mj_dev.specs.Shelves.{principal, left_of};
 ghost use Rattle.mj_jobs.specs.Rows.{rows_limit};
-ghost use Rattle.mj_sys.specs.Opening.{opening_of};
+ghost use Rattle.mj_sys.specs.Opening.{opening_of, are_bare};
 
 use crate::begins::{image, starts};
 use crate::serial::{First, first_four};
@@ -69,7 +69,9 @@ fn stepped(alloc: Global, bytes: &str, steps: &[u32], ready: bool) -> Result<Fir
 }
 
 // A principal device and a start for each of the two.
-pub fn opened(alloc: Global, pool: &mut Pool<Memory>) -> Result<Vec<Start>, Failure> {
+pub fn opened(alloc: Global, pool: &mut Pool<Memory>) -> Result<Vec<Start>, Failure>
+    ensures { IfOk result (λ starts. are_bare starts.items ≡ true) }
+{
     let name = Text::from_number(alloc, 0);
     let added = add_two(alloc, pool, &name);
     drop(name);
@@ -99,7 +101,9 @@ fn begun(
     starts: Vec<Start>,
     steps: &[u32],
     ready: bool,
-) -> Result<First, Failure> {
+) -> Result<First, Failure>
+    requires { are_bare starts.items ≡ true }
+{
     if starts.len() != 2 || !pool.fits(2) {
         drop(image);
         drop(pool);
@@ -122,6 +126,7 @@ fn run<D: Device, O: Opening>(
     requires some { 1 ≤ length starts.items }
     requires few { length starts.items ≤ rows_limit }
     requires fits { length starts.items ≤ left_of principal pool }
+    requires bare { are_bare starts.items ≡ true }
 {
     match Core::<D, Sessions<D>, O>::new(alloc, image, Globals::new(alloc), pool, starts) {
         Ok(core) => Ok(to_its_end(alloc, core, steps, ready)?),

@@ -1,15 +1,18 @@
 // A routine, stepped over devices that fail and count their drops: its history, and where they were dropped.
 
-ghost use Rattle.std.specs.Prelude.{◌≡◌, ◌≤◌, [], length};
+ghost use Rattle.std.specs.Prelude.{◌≡◌, ◌≤◌, length, true, IfOk};
 ghost use Rattle.mj_dev.specs.Shelves.{principal, left_of};
 ghost use Rattle.mj_jobs.specs.Rows.{rows_limit};
-ghost use Rattle.mj_sys.specs.Opening.{opening_of};
+ghost use Rattle.mj_sys.specs.Opening.{opening_of, are_bare};
+ghost use Rattle.mj_sys.specs.Shared.{are_global};
 
 use crate::begins::{image, starts};
-use crate::boxes::{Drops, pool};
+use crate::boxes::{Drops, many, pool};
+use crate::standing::shared;
 use mj_ask::Start;
 use mj_core::{Core, Seen, Step, Way};
 use mj_dev::{Device, Pool};
+use mj_gfile::read;
 use mj_globs::Globals;
 use mj_load::Image;
 use mj_sessions::Sessions;
@@ -20,7 +23,7 @@ use std::alloc::{AllocError, Global};
 use std::marker::Brand;
 
 // How often every job is stepped.
-const ROUNDS: usize = 16;
+const ROUNDS: usize = 64;
 
 /// Steps the routine `R`, which begins at its first line, over the device `F` and two principal ones, and gives the lines of its events. Behind an
 /// event stands `F is dropped` or `0 is dropped` where it dropped such a device, and behind `---` which ones the end of the core dropped. Which
@@ -28,21 +31,51 @@ const ROUNDS: usize = 16;
 pub fn stepped(alloc: Global, bytes: &str, named: u64, principal: u64) -> Result<Vec<u8>, Failure> {
     let drops = Drops::new(alloc)?;
     let lines = match pool(alloc, named, principal, &drops) {
-        Ok(pool) => run_with_pool(alloc, bytes, pool, &drops),
+        Ok(pool) => run_with_pool(alloc, None, bytes, pool, &drops),
         Err(failure) => Err(failure),
     };
     drop(drops);
     lines
 }
 
+/// Steps it so over the globals of a listing, and gives these lines behind the globals that it left, and behind a line for each name that is held.
+pub fn stepped_on(
+    alloc: Global,
+    listing: &str,
+    bytes: &str,
+    named: u64,
+    principal: u64,
+) -> Result<Vec<u8>, Failure> {
+    let drops = Drops::new(alloc)?;
+    let lines = match pool(alloc, named, principal, &drops) {
+        Ok(pool) => run_with_pool(alloc, Some(listing), bytes, pool, &drops),
+        Err(failure) => Err(failure),
+    };
+    drop(drops);
+    lines
+}
+
+/// Steps it so over as many devices, `D1`, `D2` and so on, of which none fails. Their drops are told as those of `F`.
+pub fn stepped_over(alloc: Global, bytes: &str, devices: u32) -> Result<Vec<u8>, Failure> {
+    let drops = Drops::new(alloc)?;
+    let lines = match many(alloc, devices, &drops) {
+        Ok(pool) => run_with_pool(alloc, None, bytes, pool, &drops),
+        Err(failure) => Err(failure),
+    };
+    drop(drops);
+    lines
+}
+
+// A listing is there where what is left is told too.
 fn run_with_pool<D: Device>(
     alloc: Global,
+    listing: Option<&str>,
     bytes: &str,
     pool: Pool<D>,
     drops: &Drops,
 ) -> Result<Vec<u8>, Failure> {
     match image(alloc, bytes) {
-        Ok(image) => begun(alloc, image, pool, drops),
+        Ok(image) => begun(alloc, listing, image, pool, drops),
         Err(failure) => {
             drop(pool);
             Err(failure)
@@ -52,39 +85,102 @@ fn run_with_pool<D: Device>(
 
 fn begun<D: Device>(
     alloc: Global,
+    listing: Option<&str>,
     image: Image,
     pool: Pool<D>,
     drops: &Drops,
 ) -> Result<Vec<u8>, Failure> {
-    let Ok(starts) = starts(alloc, 1) else {
-        drop(image);
-        drop(pool);
-        return Err(Failure::Memory);
+    match opened(alloc, listing) {
+        Ok((globals, starts)) => {
+            begun_on(
+                alloc,
+                listing.is_some(),
+                image,
+                globals,
+                pool,
+                starts,
+                drops,
+            )
+        }
+        Err(failure) => {
+            drop(image);
+            drop(pool);
+            Err(failure)
+        }
+    }
+}
+
+// The globals of a listing, or none, and a start.
+fn opened(alloc: Global, listing: Option<&str>) -> Result<(Globals, Vec<Start>), Failure>
+    ensures global { IfOk result (λ x. are_global x.0.content ≡ true) }
+    ensures bare { IfOk result (λ x. are_bare x.1.items ≡ true) }
+{
+    let globals = globals(alloc, listing)?;
+    match starts(alloc, 1) {
+        Ok(starts) => Ok((globals, starts)),
+        Err(failure) => {
+            drop(globals);
+            Err(failure)
+        }
+    }
+}
+
+fn globals(alloc: Global, listing: Option<&str>) -> Result<Globals, Failure>
+    ensures { IfOk result (λ globals. are_global globals.content ≡ true) }
+{
+    let Some(listing) = listing else {
+        return Ok(Globals::new(alloc));
     };
+    match read(alloc, listing.as_bytes()) {
+        Ok(globals) => Ok(globals),
+        Err(refused) => {
+            drop(refused);
+            Err(Failure::Memory)
+        }
+    }
+}
+
+fn begun_on<D: Device>(
+    alloc: Global,
+    shows: bool,
+    image: Image,
+    globals: Globals,
+    pool: Pool<D>,
+    starts: Vec<Start>,
+    drops: &Drops,
+) -> Result<Vec<u8>, Failure>
+    requires global { are_global globals.content ≡ true }
+    requires bare { are_bare starts.items ≡ true }
+{
     if starts.len() != 1 || !pool.fits(1) {
         drop(starts);
         drop(image);
+        drop(globals);
         drop(pool);
         return Err(Failure::Memory);
     }
-    run::<D, Brand>(alloc, image, pool, starts, drops)
+    run::<D, Brand>(alloc, shows, image, globals, pool, starts, drops)
 }
 
 // Steps the jobs of a core that begins so, and drops it.
 fn run<D: Device, O: Opening>(
     alloc: Global,
+    shows: bool,
     image: Image,
+    globals: Globals,
     pool: Pool<D>,
     starts: Vec<Start>,
     drops: &Drops,
 ) -> Result<Vec<u8>, Failure>
-    requires opening { opening_of [] pool starts.items ≡ O.opening }
+    requires opening { opening_of globals.content pool starts.items ≡ O.opening }
+    requires global { are_global globals.content ≡ true }
     requires some { 1 ≤ length starts.items }
     requires few { length starts.items ≤ rows_limit }
     requires fits { length starts.items ≤ left_of principal pool }
+    requires bare { are_bare starts.items ≡ true }
 {
-    match Core::<D, Sessions<D>, O>::new(alloc, image, Globals::new(alloc), pool, starts) {
-        Ok(core) => to_its_end(alloc, core, drops),
+    match Core::<D, Sessions<D>, O>::new(alloc, image, globals, pool, starts) {
+        Ok(core) => to_its_end(alloc, shows, core, drops),
         Err(back) => {
             drop(back);
             Err(Failure::Memory)
@@ -94,13 +190,14 @@ fn run<D: Device, O: Opening>(
 
 fn to_its_end<D: Device, O: Opening>(
     alloc: Global,
+    shows: bool,
     core: Core<D, Sessions<D>, O>,
     drops: &Drops,
 ) -> Result<Vec<u8>, Failure> {
     let mut core = core;
     let mut lines = Vec::new(alloc);
     let mut dropped = (0, 0);
-    let made = make_steps(alloc, &mut core, drops, &mut dropped, &mut lines);
+    let made = make_steps(alloc, shows, &mut core, drops, &mut dropped, &mut lines);
     drop(core);
     made?;
     lines.extend_from_slice(b"---\n")?;
@@ -108,9 +205,10 @@ fn to_its_end<D: Device, O: Opening>(
     Ok(lines)
 }
 
-// Steps all jobs in turn.
+// Steps all jobs in turn, and tells what they left where that is shown.
 fn make_steps<D: Device, O: Opening>(
     alloc: Global,
+    shows: bool,
     core: &mut Core<D, Sessions<D>, O>,
     drops: &Drops,
     dropped: &mut (u64, u64),
@@ -124,7 +222,22 @@ fn make_steps<D: Device, O: Opening>(
             put_drops(drops, dropped, lines)?;
         }
     }
+    if shows {
+        put_left(alloc, core, lines)?;
+    }
     Ok(())
+}
+
+// Puts the globals and what is held to the end.
+fn put_left<D: Device, O: Opening>(
+    alloc: Global,
+    core: &Core<D, Sessions<D>, O>,
+    lines: &mut Vec<u8>,
+) -> Result<(), AllocError> {
+    let left = shared(alloc, core.globals(), core.locks())?;
+    let put = lines.extend_from_slice(&left);
+    drop(left);
+    put
 }
 
 // A step of this job, and the place of its event.

@@ -1,7 +1,8 @@
 // What is asked of devices that fail, and where devices are dropped, by the lines of a history.
 
-use crate::counted::stepped;
+use crate::counted::{stepped, stepped_on, stepped_over};
 use crate::judged::hold;
+use std::alloc::{AllocError, Global};
 use std::test::Fail;
 
 // The nine events of a device that fails at its third call: its beginning and a text were done. The job's fault is written to its principal
@@ -140,6 +141,195 @@ F is dropped
 F is dropped
 0 is dropped
 ",
+    )
+}
+
+// A job with a device, a lock and an open transaction, of whose devices each call fails in turn. What it has is given back in each case, and each device that
+// was moved out is dropped once; one that wasn't stays in the pool.
+#[test]
+fn each_call_of_a_job_that_has_all_fails(rt: HostRuntime) -> Result<(), Fail> {
+    // none
+    leaves(
+        &rt,
+        0,
+        0,
+        "1 dev \"0\" begin done
+1 open \"F\" got
+1 dev \"F\" begin done
+1 dev \"F\" write \"x\" done
+1 try ^L got
+1 begin done
+1 set ^A \"2\" done
+1 dev \"F\" end done
+F is dropped
+1 dev \"0\" end done
+0 is dropped
+1 halt done
+mj-globals 1
+^A=\"1\"
+---
+0 is dropped
+",
+    )?;
+    // the begin of F
+    leaves(
+        &rt,
+        1,
+        0,
+        "1 dev \"0\" begin done
+1 open \"F\" got
+1 dev \"F\" begin failed
+1 dev \"0\" write \"F16 DEVICE R:1\\0a\" done
+1 dev \"F\" end done
+F is dropped
+1 dev \"0\" end done
+0 is dropped
+1 halt F16 done
+mj-globals 1
+^A=\"1\"
+---
+0 is dropped
+",
+    )?;
+    // what is written to it
+    leaves(
+        &rt,
+        2,
+        0,
+        "1 dev \"0\" begin done
+1 open \"F\" got
+1 dev \"F\" begin done
+1 dev \"F\" write \"x\" failed
+1 dev \"0\" write \"F16 DEVICE R:1\\0a\" done
+1 dev \"F\" end done
+F is dropped
+1 dev \"0\" end done
+0 is dropped
+1 halt F16 done
+mj-globals 1
+^A=\"1\"
+---
+0 is dropped
+",
+    )?;
+    // its end
+    leaves(
+        &rt,
+        3,
+        0,
+        "1 dev \"0\" begin done
+1 open \"F\" got
+1 dev \"F\" begin done
+1 dev \"F\" write \"x\" done
+1 try ^L got
+1 begin done
+1 set ^A \"2\" done
+1 dev \"F\" end failed
+F is dropped
+1 dev \"0\" end done
+0 is dropped
+1 halt done
+mj-globals 1
+^A=\"1\"
+---
+0 is dropped
+",
+    )
+}
+
+#[test]
+fn each_call_of_the_principal_device_of_a_job_that_has_all_fails(
+    rt: HostRuntime,
+) -> Result<(), Fail> {
+    // its begin, before F is moved out
+    leaves(
+        &rt,
+        0,
+        1,
+        "1 dev \"0\" begin failed
+1 dev \"0\" end done
+0 is dropped
+1 halt F16 done
+mj-globals 1
+^A=\"1\"
+---
+F is dropped
+0 is dropped
+",
+    )?;
+    // its end
+    leaves(
+        &rt,
+        0,
+        2,
+        "1 dev \"0\" begin done
+1 open \"F\" got
+1 dev \"F\" begin done
+1 dev \"F\" write \"x\" done
+1 try ^L got
+1 begin done
+1 set ^A \"2\" done
+1 dev \"F\" end done
+F is dropped
+1 dev \"0\" end failed
+0 is dropped
+1 halt done
+mj-globals 1
+^A=\"1\"
+---
+0 is dropped
+",
+    )
+}
+
+// Fails where the job comes to other lines, or leaves something else.
+fn leaves(rt: &HostRuntime, named: u64, principal: u64, wanted: &str) -> Result<(), Fail> {
+    let bytes = " OPEN \"F\" USE \"F\" WRITE \"x\" LOCK +^L TSTART  SET ^A=2 HALT\n";
+    let lines = stepped_on(
+        rt.alloc(),
+        "mj-globals 1\n^A=\"1\"\n",
+        bytes,
+        named,
+        principal,
+    )?;
+    let told = hold(lines.as_slice() == wanted.as_bytes(), bytes, &lines);
+    drop(lines);
+    told
+}
+
+// A job has 16 devices beside the principal one. The seventeenth isn't asked for, and those that it has are ended and dropped, each once.
+#[test]
+fn a_seventeenth_device_is_a_fault(rt: HostRuntime) -> Result<(), Fail> {
+    let bytes = " FOR I=1:1:17 OPEN \"D\"_I\n";
+    let lines = stepped_over(rt.alloc(), bytes, 17)?;
+    let told = judge_seventeen(rt.alloc(), bytes, &lines);
+    drop(lines);
+    told
+}
+
+fn judge_seventeen(alloc: Global, bytes: &str, lines: &[u8]) -> Result<(), Fail> {
+    let mut wanted = Vec::new(alloc);
+    let put = put_seventeen(alloc, &mut wanted);
+    let told = hold(put.is_ok() && lines == wanted.as_slice(), bytes, lines);
+    drop(wanted);
+    told
+}
+
+fn put_seventeen(alloc: Global, wanted: &mut Vec<u8>) -> Result<(), AllocError> {
+    wanted.extend_from_slice(b"1 dev \"0\" begin done\n")?;
+    for number in 1..=16u32 {
+        let lines = format!(in alloc;
+            "1 open \"D{number}\" got\n1 dev \"D{number}\" begin done\n"
+        )?;
+        wanted.extend_from_slice(lines.as_bytes())?;
+    }
+    wanted.extend_from_slice(b"1 dev \"0\" write \"F18 LIMIT R:1\\0a\" done\n")?;
+    for number in 1..=16u32 {
+        let lines = format!(in alloc; "1 dev \"D{number}\" end done\nF is dropped\n")?;
+        wanted.extend_from_slice(lines.as_bytes())?;
+    }
+    wanted.extend_from_slice(
+        b"1 dev \"0\" end done\n0 is dropped\n1 halt F18 done\n---\nF is dropped\n0 is dropped\n",
     )
 }
 

@@ -1,14 +1,13 @@
 // Tests of a core of many jobs, and of what it stands on: devices that fail, and where each is dropped; what is recorded, told to a core without
 // devices; what jobs share, served event by event; the blocks of a history and of a core; and how often a job asks. They are no tests of the
-// program, and one crate, since each that stands on a core has all below it loaded, and how parts of it are dropped proved anew.
+// program, and one crate, since each that stands on a core has all below it loaded, and how parts of it are dropped proved anew. What jobs begin with, the
+// devices that count their drops, and how shared things stand are there for `mj_refused` too.
 #![tactic(auto)]
 
-#[cfg(test)]
-mod begins;
+pub mod begins;
 #[cfg(test)]
 mod blank;
-#[cfg(test)]
-mod boxes;
+pub mod boxes;
 #[cfg(test)]
 mod cores;
 #[cfg(test)]
@@ -25,3 +24,4 @@ mod recorded;
 mod serial;
 #[cfg(test)]
 mod serving;
+pub mod standing;

@@ -1,10 +1,10 @@
 // Transactions in what jobs share, by the events of two jobs: each line is an event, as a trace has it. What a job asks is read from it, and the
 // line that the answer makes must be the same.
 
-ghost use Rattle.std.specs.Prelude.{◌≡◌, ◌≤◌, [], length};
+ghost use Rattle.std.specs.Prelude.{◌≡◌, ◌≤◌, [], length, true};
 ghost use Rattle.mj_dev.specs.Shelves.{principal, left_of};
 ghost use Rattle.mj_jobs.specs.Rows.{rows_limit};
-ghost use Rattle.mj_sys.specs.Opening.{opening_of};
+ghost use Rattle.mj_sys.specs.Opening.{opening_of, are_bare};
 
 use crate::cores::opened;
 use crate::judged::hold;
@@ -172,7 +172,7 @@ fn tells(rt: &HostRuntime, lines: &str) -> Result<(), Fail> {
     tell_parts(rt, &[(lines, 1)])
 }
 
-// The same of several texts, each as many times.
+// Fails so for several texts, each as many times.
 fn tell_parts(rt: &HostRuntime, parts: &[(&str, usize)]) -> Result<(), Fail> {
     let alloc = rt.alloc();
     let mut pool = Pool::new(alloc);
@@ -190,7 +190,9 @@ fn begun(
     pool: Pool<Memory>,
     starts: Vec<Start>,
     parts: &[(&str, usize)],
-) -> Result<(), Fail> {
+) -> Result<(), Fail>
+    requires { are_bare starts.items ≡ true }
+{
     if starts.len() != 2 || !pool.fits(2) {
         drop(pool);
         drop(starts);
@@ -199,7 +201,7 @@ fn begun(
     tell::<Brand>(alloc, pool, starts, parts)
 }
 
-// The same, from a system that begins so.
+// Fails so with jobs of a system that begins so.
 fn tell<O: Opening>(
     alloc: Global,
     pool: Pool<Memory>,
@@ -210,6 +212,7 @@ fn tell<O: Opening>(
     requires some { 1 ≤ length starts.items }
     requires few { length starts.items ≤ rows_limit }
     requires fits { length starts.items ≤ left_of principal pool }
+    requires bare { are_bare starts.items ≡ true }
 {
     let mut system = match System::<Memory, O>::new(alloc, Globals::new(alloc), pool, starts) {
         Ok(system) => system,

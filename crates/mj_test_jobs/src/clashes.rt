@@ -278,7 +278,7 @@ fn add(history: &mut Vec<Event>, job: u32, ask: &Ask, reply: &Reply) -> Result<(
     Ok(())
 }
 
-// The same event once more.
+// An event of a job: a copy of an ask and its reply.
 fn event(job: u32, ask: &Ask, reply: &Reply) -> Result<Event, AllocError> {
     let ask = ask.try_clone()?;
     match reply.try_clone() {

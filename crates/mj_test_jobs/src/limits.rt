@@ -24,6 +24,42 @@ fn a_transaction_of_65536_accesses_is_made(rt: HostRuntime) -> Result<(), Fail> 
         "F18 LIMIT R:1\n",
         "",
         1,
+    )?;
+    let folder = folder(&rt, "accesses")?;
+    let told = leaves_nothing(&rt, folder.as_str());
+    drop(folder);
+    told
+}
+
+// Where it goes on for ever, none of its changes is left.
+fn leaves_nothing(rt: &HostRuntime, folder: &str) -> Result<(), Fail> {
+    write(rt, folder, "R.m", b" TSTART  FOR I=1:1 SET ^A=I\n")?;
+    let words = "run|--start|^R|--save|DIR/saved|DIR/R.m";
+    comes_to(rt, folder, words, b"", "F18 LIMIT R:1\n", "", 1)?;
+    judge_file(rt, folder, "saved", Some("mj-globals 1\n"))?;
+    remove(rt, folder)
+}
+
+// A job holds 1,024 names. One more is a fault, and behind it another job takes all of them.
+#[test]
+fn a_job_holds_1024_names(rt: HostRuntime) -> Result<(), Fail> {
+    gives(
+        &rt,
+        "--start|^R",
+        " FOR I=1:1:1024 LOCK +^L(I)\n WRITE I\n",
+        "",
+        "1024",
+        "",
+        0,
+    )?;
+    gives(
+        &rt,
+        "--start|A^R|--start|B^R",
+        "A FOR I=1:1:1025 LOCK +^L(I)\nB HANG 1 LOCK +^L:0 WRITE $TEST FOR I=1:1:1100 HANG 1\n LOCK +^L:0 WRITE $TEST\n",
+        "",
+        "--- job 1\nF18 LIMIT R:1\n--- job 2\n01\n",
+        "",
+        1,
     )
 }
 
@@ -57,13 +93,19 @@ fn write_steps(rt: &HostRuntime, folder: &str) -> Result<(), Fail> {
     written
 }
 
-// In turn no more than 1,000,000 steps are made, those of jobs that wait among them. 100 of these jobs end in the third round, as the end of their
+// In turn 1,000,000 steps are made, those of jobs that wait among them, and no more. 100 of these jobs end in the third round, as the end of their
 // session is their second step, and their halt the third; they aren't stepped again. So 300 steps are theirs, and 100 are made in each of 9,997 rounds: in
-// the first all begin, in the second the first job writes, in the third it takes the name for which the others wait, and in each behind it sets the
-// number of the pass.
+// the first all begin, in the second the first job writes, in the third it takes the name for which 98 others wait, and in each behind it sets the
+// number of the pass. The job that has the last step of a round does so from the second on: one step less or more would leave another number.
 #[test]
 fn jobs_make_1000000_steps_in_turn(rt: HostRuntime) -> Result<(), Fail> {
-    let going = repeated(rt.alloc(), "step|--start|A^R", 99, "|--start|B^R", "")?;
+    let going = repeated(
+        rt.alloc(),
+        "step|--start|A^R",
+        98,
+        "|--start|B^R",
+        "|--start|D^R",
+    )?;
     let words = repeated(rt.alloc(), going.as_str(), 100, "|--start|C^R", "");
     drop(going);
     let words = words?;
@@ -85,9 +127,9 @@ fn are_made(rt: &HostRuntime, words: &str, out: &str) -> Result<(), Fail> {
         rt,
         folder.as_str(),
         words,
-        "A WRITE \"x\" LOCK +^L FOR I=1:1 SET ^A=I\nB HANG 1 LOCK +^L SET ^B=1\nC QUIT\n",
+        "A WRITE \"x\" LOCK +^L FOR I=1:1 SET ^A=I\nB HANG 1 LOCK +^L SET ^B=1\nC QUIT\nD FOR I=1:1 SET ^D=I\n",
         out,
-        "mj-globals 1\n^A=\"9994\"\n",
+        "mj-globals 1\n^A=\"9994\"\n^D=\"9996\"\n",
     );
     drop(folder);
     told

@@ -65,6 +65,28 @@ fn a_beginning_is_replayed(rt: HostRuntime) -> Result<(), Fail> {
     replays(&rt, BEFORE, " SET ^A=21\n", "differs at line 5\n", "", 1)
 }
 
+// It begins with the globals of a listing, where one is named.
+#[test]
+fn a_run_over_globals_is_replayed(rt: HostRuntime) -> Result<(), Fail> {
+    let folder = folder(&rt, "replays")?;
+    let told = replays_over(&rt, folder.as_str());
+    drop(folder);
+    told
+}
+
+fn replays_over(rt: &HostRuntime, folder: &str) -> Result<(), Fail> {
+    let trace =
+        "mj-trace 1\npool \"0\" 1\nstart ^R\n1 dev \"0\" begin done\n1 value ^A \"1\"\n1 set ^B \"1\" done\n";
+    write(rt, folder, "R.m", b" SET ^B=^A\n")?;
+    write(rt, folder, "globals", b"mj-globals 1\n^A=\"1\"\n")?;
+    write(rt, folder, "trace", trace.as_bytes())?;
+    let over = "replay|--globals|DIR/globals|--trace|DIR/trace|DIR/R.m";
+    comes_to(rt, folder, over, b"", "same\n", "", 0)?;
+    let without = "replay|--trace|DIR/trace|DIR/R.m";
+    comes_to(rt, folder, without, b"", "differs at line 5\n", "", 1)?;
+    remove(rt, folder)
+}
+
 // What a device is said to have answered is believed where some device may have answered so. An event behind a job's halt isn't made.
 #[test]
 fn devices_are_believed(rt: HostRuntime) -> Result<(), Fail> {

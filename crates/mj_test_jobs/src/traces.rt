@@ -199,5 +199,7 @@ fn cannot_be_written(rt: &HostRuntime, folder: &str) -> Result<(), Fail> {
     let words = "run|--start|^R|--trace|DIR/missing/trace|--save|DIR/missing/saved|DIR/R.m";
     let err = "file DIR/missing/saved\nfile DIR/missing/trace\n";
     comes_to(rt, folder, words, b"", "1", err, 4)?;
+    let alone = "run|--start|^R|--trace|DIR/missing/trace|DIR/R.m";
+    comes_to(rt, folder, alone, b"", "1", "file DIR/missing/trace\n", 4)?;
     remove(rt, folder)
 }

@@ -31,7 +31,7 @@ fn prints(
     told
 }
 
-// The same in its folder, which goes.
+// Compares in its folder, which goes.
 fn prints_over(
     rt: &HostRuntime,
     folder: &str,
@@ -47,7 +47,7 @@ fn prints_over(
     remove(rt, folder)
 }
 
-// The same in its folder, which stays.
+// Compares in its folder, which stays.
 fn prints_in(
     rt: &HostRuntime,
     folder: &str,
@@ -141,6 +141,15 @@ fn files_are_devices(rt: HostRuntime) -> Result<(), Fail> {
     // one session of the name, and then none
     let twice = " OPEN \"F\" CLOSE \"F\" OPEN \"F\"\n";
     prints(&rt, from, twice, "", "F15 NODEVICE R:1\n", 1)?;
+    // each name has its own file: the one is read, and the other gives nothing
+    prints(
+        &rt,
+        "run|--device|G=out:DIR/copy|--device|F=in:DIR/lines|--start|^R",
+        " OPEN \"F\",\"G\" USE \"F\" READ X USE \"G\" WRITE X READ Y:0 USE 0 WRITE X,$TEST\n",
+        "",
+        "one\r0",
+        0,
+    )?;
     // a name without bytes, and a file with `=` in its name
     prints(
         &rt,
@@ -180,7 +189,7 @@ fn a_long_line_is_a_failure(rt: HostRuntime) -> Result<(), Fail> {
     prints_long(&rt, from, other, 32_768, "F16 DEVICE R:1\n", 1)
 }
 
-// The same as `prints`, where the input and the file `lines` have a line of so many bytes behind their first.
+// Compares as `prints`, where the input and the file `lines` have a line of so many bytes behind their first.
 fn prints_long(
     rt: &HostRuntime,
     words: &str,

@@ -13,6 +13,7 @@ fn operators_give_values(rt: HostRuntime) -> Result<(), Fail> {
  WRITE \"a\",5\\0~ => a~F2 DIVIDE R:1~ => 1
  WRITE 1/2~ => F3 FRACTION R:1~ => 1
  WRITE 0&(1/0)~ => F2 DIVIDE R:1~ => 1
+ WRITE ((((((((((((((((((((((((((((((((((((((((((((((((((((((((((((((((1))))))))))))))))))))))))))))))))))))))))))))))))))))))))))))))))~ => 1 => 0
  WRITE 1,!,'\"9999999999999999999\" => 1~F4 RANGE R:1~ => 1
 ";
     judge(&rt, "operators", Wanted::Printed, rows)

@@ -17,6 +17,25 @@ fn routines_run(rt: HostRuntime) -> Result<(), Fail> {
     judge(&rt, "runs", Wanted::Printed, rows)
 }
 
+// A routine calls that of another file, in whose name a first `_` stands for `%`.
+#[test]
+fn routines_call_others(rt: HostRuntime) -> Result<(), Fail> {
+    let folder = folder(&rt, "others")?;
+    let told = call_others(&rt, folder.as_str());
+    drop(folder);
+    told
+}
+
+fn call_others(rt: &HostRuntime, folder: &str) -> Result<(), Fail> {
+    write(rt, folder, "R.m", b" DO ^%TOOL WRITE 2\n")?;
+    write(rt, folder, "_TOOL.m", b" WRITE 1\n")?;
+    let first = "run|--start|^R|DIR/R.m|DIR/_TOOL.m";
+    comes_to(rt, folder, first, b"", "12", "", 0)?;
+    let second = "run|--start|^%TOOL|DIR/R.m|DIR/_TOOL.m";
+    comes_to(rt, folder, second, b"", "1", "", 0)?;
+    remove(rt, folder)
+}
+
 #[test]
 fn routines_are_refused(rt: HostRuntime) -> Result<(), Fail> {
     let rows = " WRITE \"abc => L2 R:1:8~

@@ -1,13 +1,15 @@
-// Fronts of a text, and texts with one byte replaced: each is read, and written as it is, or refused by its name.
+// Fronts of a text, and texts with one byte replaced: each is read, and where there is a writer written as it is, or refused by its name.
 
 use crate::traces::is_written;
 use mj_gfile::{ReadError, read, write};
+use mj_rou::LoadError;
 use mj_trace::{TraceError, read_trace};
 use std::alloc::{AllocError, Global};
 
 /// What the bytes are read as.
 #[derive(Clone, Copy)]
 pub enum Form {
+    Routine,
     Listing,
     Trace,
 }
@@ -22,24 +24,33 @@ pub fn wrong_front(alloc: Global, form: Form, bytes: &[u8]) -> Result<Option<usi
     Ok(None)
 }
 
-/// The first place, and the first code there, with which the text is neither.
+/// The first place in this part of as many parts of the text, and the first code there, with which the text is neither. A text is tried in parts, so that no
+/// test takes long.
 pub fn wrong_code(
     alloc: Global,
     form: Form,
     text: &str,
+    part: usize,
+    parts: usize,
 ) -> Result<Option<(usize, u32)>, AllocError> {
     let mut bytes = Vec::from_slice(alloc, text.as_bytes())?;
-    let found = replaced(alloc, form, &mut bytes);
+    let found = replaced(alloc, form, &mut bytes, part, parts);
     drop(bytes);
     found
 }
 
+// A part has every place that leaves its number as the rest by the number of parts.
 fn replaced(
     alloc: Global,
     form: Form,
     bytes: &mut Vec<u8>,
+    part: usize,
+    parts: usize,
 ) -> Result<Option<(usize, u32)>, AllocError> {
     for place in 0..bytes.len() {
+        if place.checked_rem(parts) != Some(part) {
+            continue;
+        }
         let before = bytes[place];
         for code in 0..256u32 {
             bytes[place] = code as u8;
@@ -55,8 +66,21 @@ fn replaced(
 // Whether the bytes are read, and written as they are, or refused as no such text.
 fn is_judged(alloc: Global, form: Form, bytes: &[u8]) -> Result<bool, AllocError> {
     match form {
+        Form::Routine => Ok(is_judged_routine(alloc, bytes)),
         Form::Listing => is_judged_listing(alloc, bytes),
         Form::Trace => is_judged_trace(alloc, bytes),
+    }
+}
+
+// A routine isn't written. Its name is none that is refused.
+fn is_judged_routine(alloc: Global, bytes: &[u8]) -> bool {
+    match mj_rou::read(alloc, b"R", bytes) {
+        Ok(routine) => {
+            drop(routine);
+            true
+        }
+        Err(LoadError::Memory | LoadError::Name) => false,
+        Err(_) => true,
     }
 }
 

@@ -12,6 +12,8 @@ mod read_back;
 #[cfg(test)]
 mod reading;
 #[cfg(test)]
+mod routines;
+#[cfg(test)]
 mod tables;
 #[cfg(test)]
 mod traces;

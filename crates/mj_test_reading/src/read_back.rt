@@ -74,7 +74,7 @@ start ^R
 
 #[test]
 fn traces_are_read_and_written(rt: HostRuntime) -> Result<(), Fail> {
-    for text in [FIRST, ALL, SHORT, "mj-trace 1\npool \"0\" 1\nstart ^R\n"] {
+    for text in [FIRST, ALL, "mj-trace 1\npool \"0\" 1\nstart ^R\n"] {
         let said = trace_told(rt.alloc(), text.as_bytes())?;
         assert_eq!(rt; said.as_str(), "same");
     }
@@ -147,24 +147,58 @@ fn each_front_of_a_trace_is_read_or_refused(rt: HostRuntime) -> Result<(), Fail>
     Ok(())
 }
 
-// A trace whose bytes are replaced, one after the other.
-const SHORT: &str = "mj-trace 1
-pool \"0\" 2
-start A^R
-1 dev \"0\" begin done
-1 set ^A(1,\"x\") \"\\0a\" done
-1 order ^A(\"\") -1 -5
-1 try A,^B :5 late
-1 start ^R (-,\"\") job 2
-1 subtree ^A {()=\"v\",(1)=\"w\"}
-2 dev \"0\" byte 13
-1 commit clash 1 - 7
-1 halt F2 done
-";
-
-// The place and the code of the first that is neither.
+// The place and the code of the first that is neither, in part 1 of 8.
 #[test]
-fn a_trace_with_one_byte_replaced_is_read_or_refused(rt: HostRuntime) -> Result<(), Fail> {
-    assert_eq!(rt; wrong_code(rt.alloc(), Form::Trace, SHORT)?, None);
+fn a_trace_with_one_byte_replaced_is_read_or_refused_1(rt: HostRuntime) -> Result<(), Fail> {
+    assert_eq!(rt; wrong_code(rt.alloc(), Form::Trace, ALL, 0, 8)?, None);
+    Ok(())
+}
+
+// The place and the code of the first that is neither, in part 2 of 8.
+#[test]
+fn a_trace_with_one_byte_replaced_is_read_or_refused_2(rt: HostRuntime) -> Result<(), Fail> {
+    assert_eq!(rt; wrong_code(rt.alloc(), Form::Trace, ALL, 1, 8)?, None);
+    Ok(())
+}
+
+// The place and the code of the first that is neither, in part 3 of 8.
+#[test]
+fn a_trace_with_one_byte_replaced_is_read_or_refused_3(rt: HostRuntime) -> Result<(), Fail> {
+    assert_eq!(rt; wrong_code(rt.alloc(), Form::Trace, ALL, 2, 8)?, None);
+    Ok(())
+}
+
+// The place and the code of the first that is neither, in part 4 of 8.
+#[test]
+fn a_trace_with_one_byte_replaced_is_read_or_refused_4(rt: HostRuntime) -> Result<(), Fail> {
+    assert_eq!(rt; wrong_code(rt.alloc(), Form::Trace, ALL, 3, 8)?, None);
+    Ok(())
+}
+
+// The place and the code of the first that is neither, in part 5 of 8.
+#[test]
+fn a_trace_with_one_byte_replaced_is_read_or_refused_5(rt: HostRuntime) -> Result<(), Fail> {
+    assert_eq!(rt; wrong_code(rt.alloc(), Form::Trace, ALL, 4, 8)?, None);
+    Ok(())
+}
+
+// The place and the code of the first that is neither, in part 6 of 8.
+#[test]
+fn a_trace_with_one_byte_replaced_is_read_or_refused_6(rt: HostRuntime) -> Result<(), Fail> {
+    assert_eq!(rt; wrong_code(rt.alloc(), Form::Trace, ALL, 5, 8)?, None);
+    Ok(())
+}
+
+// The place and the code of the first that is neither, in part 7 of 8.
+#[test]
+fn a_trace_with_one_byte_replaced_is_read_or_refused_7(rt: HostRuntime) -> Result<(), Fail> {
+    assert_eq!(rt; wrong_code(rt.alloc(), Form::Trace, ALL, 6, 8)?, None);
+    Ok(())
+}
+
+// The place and the code of the first that is neither, in part 8 of 8.
+#[test]
+fn a_trace_with_one_byte_replaced_is_read_or_refused_8(rt: HostRuntime) -> Result<(), Fail> {
+    assert_eq!(rt; wrong_code(rt.alloc(), Form::Trace, ALL, 7, 8)?, None);
     Ok(())
 }

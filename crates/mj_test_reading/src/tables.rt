@@ -102,7 +102,7 @@ fn put_lines(text: &str, bytes: &mut Vec<u8>) -> Result<(), AllocError> {
     Ok(())
 }
 
-// The same, with N times X for `<X*N>`.
+// Puts a text to the end, with N times X for `<X*N>`.
 fn put_repeated(text: &str, bytes: &mut Vec<u8>) -> Result<(), AllocError> {
     let (front, rest) = text.split_once("<").unwrap_or((text, ""));
     let (middle, rest) = rest.split_once("*").unwrap_or((rest, ""));

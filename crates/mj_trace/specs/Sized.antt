@@ -36,9 +36,12 @@ are_texts ts = list_all is_text ts
 abbrev pub name_fits : Name → Bool
 name_fits n = are_texts n.subscripts
 
--- nodes, each with no more subscripts than there may be
+-- a node, with no more subscripts than there may be
+abbrev pub node_fits : List (List ℕ) × List ℕ → Bool
+node_fits e = nat_le (length e.0) 31 && are_texts e.0 && is_text e.1
+
 abbrev pub nodes_fit : Subtree → Bool
-nodes_fit nodes = list_all (λ e. nat_le (length e.0) 31 && are_texts e.0 && is_text e.1) nodes
+nodes_fit nodes = list_all node_fits nodes
 
 abbrev pub access_fits : Access → Bool
 access_fits (accesses.Value n) = name_fits n
@@ -109,7 +112,15 @@ reply_fits replies.NoSession = true
 reply_fits replies.Failed = true
 reply_fits replies.End = true
 
+-- a device with the number of its sessions
+abbrev pub device_count_fits : List ℕ × ℕ → Bool
+device_count_fits d = is_text d.0 && is_count d.1
+
+-- what a job asked and was told, with its number
+abbrev pub event_fits : ℕ × Ask × Reply → Bool
+event_fits e = is_count e.0 && ask_fits e.1 && reply_fits e.2
+
 -- the values of a trace
 pub record IsSized (t : Traced) : Type 0 where
-  pub devices : list_all (λ d. is_text d.0 && is_count d.1) t.pool ≡ true
-  pub events : list_all (λ e. is_count e.0 && ask_fits e.1 && reply_fits e.2) t.events ≡ true
+  pub devices : list_all device_count_fits t.pool ≡ true
+  pub events : list_all event_fits t.events ≡ true

@@ -1,9 +1,11 @@
 // What a job asks is written.
 #![tactic(auto, using(mj_gfile::proofs::Longer::begins_same, mj_gfile::proofs::Longer::begins_more, mj_gfile::proofs::Longer::begins_trans))]
 
-ghost use Rattle.std.specs.Prelude.{◌≡◌, ◌++◌, codes, OnOk};
+ghost use Rattle.std.specs.Prelude.{◌≡◌, ◌++◌, true, ◌&&◌, codes, OnOk};
+ghost use Rattle.std.specs.List.{list_all};
 ghost use Rattle.mj_gfile.specs.Spelling.{listed_name};
 ghost use Rattle.mj_gfile.specs.Begins.{HasFront};
+ghost use Rattle.mj_trace.specs.Sized.{access_fits, ask_fits, device_fits, name_fits, shared_fits, timeout_fits, value_fits};
 ghost use Rattle.mj_trace.specs.Spelling.{values_text, timeout_text, start_text, direction_text, access_text, kind_text, shared_text, device_text, ask_text};
 
 use crate::fields::{
@@ -21,6 +23,7 @@ use std::alloc::{AllocError, Global};
 pub fn put_ask(alloc: Global, bytes: &mut Vec<u8>, ask: &Ask) -> Result<(), AllocError>
     ensures ok { OnOk result (bytes.new.items ≡ bytes.old.items ++ ask_text ask.now) }
     ensures kept { HasFront bytes.old.items bytes.new.items }
+    ensures fits { OnOk result (ask_fits ask.now ≡ true) }
 {
     match ask {
         Ask::Shared(ask) => put_shared(alloc, bytes, ask),
@@ -41,6 +44,7 @@ pub fn put_ask(alloc: Global, bytes: &mut Vec<u8>, ask: &Ask) -> Result<(), Allo
 fn put_shared(alloc: Global, bytes: &mut Vec<u8>, ask: &SharedAsk) -> Result<(), AllocError>
     ensures ok { OnOk result (bytes.new.items ≡ bytes.old.items ++ shared_text ask.now) }
     ensures kept { HasFront bytes.old.items bytes.new.items }
+    ensures fits { OnOk result (shared_fits ask.now ≡ true) }
 {
     match ask {
         SharedAsk::Access(access) => put_access(bytes, access),
@@ -78,6 +82,7 @@ fn put_shared(alloc: Global, bytes: &mut Vec<u8>, ask: &SharedAsk) -> Result<(),
 fn put_device_ask(bytes: &mut Vec<u8>, ask: &DeviceAsk) -> Result<(), AllocError>
     ensures ok { OnOk result (bytes.new.items ≡ bytes.old.items ++ device_text ask.now) }
     ensures kept { HasFront bytes.old.items bytes.new.items }
+    ensures fits { OnOk result (device_fits ask.now ≡ true) }
 {
     match ask {
         DeviceAsk::Begin => bytes.extend_from_slice(b"begin"),
@@ -101,6 +106,7 @@ fn put_device_ask(bytes: &mut Vec<u8>, ask: &DeviceAsk) -> Result<(), AllocError
 fn put_access(bytes: &mut Vec<u8>, access: &Access) -> Result<(), AllocError>
     ensures ok { OnOk result (bytes.new.items ≡ bytes.old.items ++ access_text access.now) }
     ensures kept { HasFront bytes.old.items bytes.new.items }
+    ensures fits { OnOk result (access_fits access.now ≡ true) }
 {
     match access {
         Access::Value(name) => put_named(bytes, b"value ", name),
@@ -130,6 +136,7 @@ fn put_access(bytes: &mut Vec<u8>, access: &Access) -> Result<(), AllocError>
 fn put_named(bytes: &mut Vec<u8>, word: &[u8], name: &Name) -> Result<(), AllocError>
     ensures ok { OnOk result (bytes.new.items ≡ bytes.old.items ++ (word.now ++ listed_name name.now)) }
     ensures kept { HasFront bytes.old.items bytes.new.items }
+    ensures fits { OnOk result (name_fits name.now ≡ true) }
 {
     bytes.extend_from_slice(word)?;
     put_name(bytes, name)
@@ -166,6 +173,7 @@ fn put_start(
 ) -> Result<(), AllocError>
     ensures ok { OnOk result (bytes.new.items ≡ bytes.old.items ++ start_text start.now timeout) }
     ensures kept { HasFront bytes.old.items bytes.new.items }
+    ensures fits { OnOk result ((list_all value_fits start.now.values && timeout_fits timeout) ≡ true) }
 {
     put_entry(alloc, bytes, start.entry())?;
     bytes.push(b' ')?;
@@ -180,6 +188,7 @@ fn put_given(
 ) -> Result<(), AllocError>
     ensures ok { OnOk result (bytes.new.items ≡ bytes.old.items ++ (values_text values.now ++ timeout_text timeout)) }
     ensures kept { HasFront bytes.old.items bytes.new.items }
+    ensures fits { OnOk result ((list_all value_fits values.now && timeout_fits timeout) ≡ true) }
 {
     put_values(bytes, values)?;
     put_timeout(bytes, timeout)

@@ -3,7 +3,8 @@
 ghost use Rattle.std.specs.Prelude.{◌≡◌, true, IfOk};
 ghost use Rattle.std.specs.Option.{option_map};
 ghost use Rattle.mj_subs.specs.Name.{is_word};
-ghost use Rattle.mj_trace.specs.Reading.{subscript_more, subscripts_in, name_on, name_in, name_more, names_in, node_in, node_more, subtree_in, value_in, value_more, values_in};
+ghost use Rattle.mj_trace.specs.Reading.{subscript_more, subscripts_in, name_on, name_in, name_more, names_in, node_in, node_more, subtree_in, value_in};
+ghost use Rattle.mj_trace.specs.Reading.{value_more, values_in};
 
 use crate::found::{Found, find_subscript, find_text};
 use crate::lists::{List, read_all, read_closed};

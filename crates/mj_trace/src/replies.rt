@@ -1,8 +1,10 @@
 // What a job was told is written.
 #![tactic(auto, using(mj_gfile::proofs::Longer::begins_same, mj_gfile::proofs::Longer::begins_more, mj_gfile::proofs::Longer::begins_trans))]
 
-ghost use Rattle.std.specs.Prelude.{◌≡◌, ◌++◌, OnOk};
+ghost use Rattle.std.specs.Prelude.{◌≡◌, ◌++◌, true, OnOk};
 ghost use Rattle.mj_gfile.specs.Begins.{HasFront};
+ghost use Rattle.mj_ask.specs.declared.ask.Reply.TheVariants as replies;
+ghost use Rattle.mj_trace.specs.Sized.{answer_fits, kept_fits, reply_fits};
 ghost use Rattle.mj_trace.specs.Spelling.{spaced, answer_text, kept_text, clash_text, reply_text};
 
 use crate::fields::{put_count, put_number, put_subtree};
@@ -15,6 +17,7 @@ use std::alloc::AllocError;
 pub fn put_reply(bytes: &mut Vec<u8>, reply: &Reply) -> Result<(), AllocError>
     ensures ok { OnOk result (bytes.new.items ≡ bytes.old.items ++ reply_text reply.now) }
     ensures kept { HasFront bytes.old.items bytes.new.items }
+    ensures fits { OnOk result (reply_fits reply.now ≡ true) }
 {
     match reply {
         Reply::Done => bytes.extend_from_slice(b"done"),
@@ -42,6 +45,7 @@ pub fn put_reply(bytes: &mut Vec<u8>, reply: &Reply) -> Result<(), AllocError>
 fn put_answer(bytes: &mut Vec<u8>, answer: &Answer) -> Result<(), AllocError>
     ensures ok { OnOk result (bytes.new.items ≡ bytes.old.items ++ answer_text answer.now) }
     ensures kept { HasFront bytes.old.items bytes.new.items }
+    ensures fits { OnOk result (answer_fits answer.now ≡ true) }
 {
     match answer {
         Answer::Value(Some(text)) => put_text(bytes, text),
@@ -61,6 +65,7 @@ fn put_answer(bytes: &mut Vec<u8>, answer: &Answer) -> Result<(), AllocError>
 fn put_kept(bytes: &mut Vec<u8>, kept: &Kept) -> Result<(), AllocError>
     ensures ok { OnOk result (bytes.new.items ≡ bytes.old.items ++ kept_text kept.now) }
     ensures kept { HasFront bytes.old.items bytes.new.items }
+    ensures fits { OnOk result (kept_fits kept.now ≡ true) }
 {
     match kept {
         Kept::Nothing => bytes.extend_from_slice(b"-"),
@@ -75,6 +80,7 @@ fn put_kept(bytes: &mut Vec<u8>, kept: &Kept) -> Result<(), AllocError>
 fn put_kept_behind(bytes: &mut Vec<u8>, kept: &Kept) -> Result<(), AllocError>
     ensures ok { OnOk result (bytes.new.items ≡ bytes.old.items ++ spaced (kept_text kept.now)) }
     ensures kept { HasFront bytes.old.items bytes.new.items }
+    ensures fits { OnOk result (kept_fits kept.now ≡ true) }
 {
     bytes.push(b' ')?;
     put_kept(bytes, kept)
@@ -84,6 +90,7 @@ fn put_kept_behind(bytes: &mut Vec<u8>, kept: &Kept) -> Result<(), AllocError>
 fn put_clash(bytes: &mut Vec<u8>, clash: &Clash) -> Result<(), AllocError>
     ensures ok { OnOk result (bytes.new.items ≡ bytes.old.items ++ clash_text clash.entry.now) }
     ensures kept { HasFront bytes.old.items bytes.new.items }
+    ensures fits { OnOk result (reply_fits (replies.Clash clash.entry.now) ≡ true) }
 {
     put_count(bytes, clash.place)?;
     put_kept_behind(bytes, &clash.then)?;

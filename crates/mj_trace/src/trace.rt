@@ -1,9 +1,11 @@
 // Traces.
 
-ghost use Rattle.std.specs.Prelude.{◌≡◌, ◌++◌, codes, IfOk, OnOk};
+ghost use Rattle.std.specs.Prelude.{◌≡◌, ◌++◌, true, codes, IfOk, OnOk};
+ghost use Rattle.std.specs.List.{list_all};
 ghost use Rattle.std.specs.Str.{bytes_eq};
 ghost use Rattle.std.specs.Option.{option_copied};
 ghost use Rattle.mj_trace.specs.Trace.{trace_text, event_lines};
+ghost use Rattle.mj_trace.specs.Sized.{device_count_fits, event_fits};
 ghost use Rattle.mj_trace.specs.Lines.{no_lines, is_full, stands_behind, principal, may_start, may_follow, with_piece};
 
 use crate::head::{put_event, put_opening};
@@ -151,9 +153,11 @@ fn is_principal(name: &Text) -> bool
     name.bytes(&mut digits) == b"0".as_slice()
 }
 
-/// Writes a trace.
+/// Writes a trace. What is written is within the sizes of its values, so it is read back if it can be written.
 pub fn write_trace(alloc: Global, trace: &Trace) -> Result<Vec<u8>, AllocError>
-    ensures { IfOk result (λ bytes. bytes.items ≡ trace_text trace.now) }
+    ensures text { IfOk result (λ bytes. bytes.items ≡ trace_text trace.now) }
+    ensures devices { IfOk result (λ bytes. list_all device_count_fits trace.now.pool ≡ true) }
+    ensures events { IfOk result (λ bytes. list_all event_fits trace.now.events ≡ true) }
 {
     let mut bytes = Vec::new(alloc);
     put_opening(alloc, &mut bytes, &trace.pool, &trace.starts)?;
@@ -167,7 +171,8 @@ fn put_events(
     bytes: &mut Vec<u8>,
     events: &[(u32, Ask, Reply)],
 ) -> Result<(), AllocError>
-    ensures { OnOk result (bytes.new.items ≡ bytes.old.items ++ event_lines events.now) }
+    ensures text { OnOk result (bytes.new.items ≡ bytes.old.items ++ event_lines events.now) }
+    ensures fits { OnOk result (list_all event_fits events.now ≡ true) }
 {
     for (job, ask, reply) in events {
         put_event(alloc, bytes, *job, ask, reply)?;

@@ -11,7 +11,7 @@ use Rattle.std.specs.BTreeMap.{insert_entry}
 use Rattle.mj_tree.specs.Nest.{own, under, behind, below}
 use Rattle.mj_tree.specs.Maps.{first_so, second_so, is_less}
 
-joined : {A : Type 0} (xs ys zs : List A) → (xs ++ ys) ++ zs ≡ xs ++ (ys ++ zs)
+pub joined : {A : Type 0} (xs ys zs : List A) → (xs ++ ys) ++ zs ≡ xs ++ (ys ++ zs)
 joined [] ys zs = refl
 joined (x ∷ xs) ys zs = ap (λ r. x ∷ r) (joined xs ys zs)
 

@@ -1,6 +1,6 @@
 // A node: a text of its own, and children by their subscripts.
 
-ghost use Rattle.std.specs.Prelude.{◌≡◌, ◌↔◌, [], ◌∷◌, ◌++◌, option_copied, IsTrue, IfSome, IfOk, OnOk, OnErr, MatchOption, T};
+ghost use Rattle.std.specs.Prelude.{◌≡◌, ◌↔◌, [], ◌∷◌, ◌++◌, option_copied, IsTrue, IfSome, IfOk, IfErr, OnOk, OnErr, MatchOption, T};
 ghost use Rattle.std.specs.Option.{option_map};
 ghost use Rattle.std.specs.FinMap.{find, is_sorted, put};
 ghost use Rattle.std.specs.Cmp.Lexicographic.{slice_cmp};
@@ -12,7 +12,8 @@ ghost use Rattle.mj_store.specs.Nodes.{is_empty, subtree, data_of, next_past};
 ghost use Rattle.mj_store.specs.Questions.{next_from};
 ghost use Rattle.mj_tree.specs.Nest.{AreFilled, IsAside, IsNoneAside, IsTurn, behind, lead, later, nodes_of, own, without};
 ghost use Rattle.mj_tree.specs.Undo.{restored};
-ghost use Rattle.mj_tree.specs.Walks.{named};
+ghost use Rattle.mj_tree.specs.Walks.{named, StopsSo};
+ghost use Rattle.mj_tree.specs.declared.sink.SinkStop.TheVariants as stops;
 
 use crate::sink::{Sink, SinkStop};
 use mj_store::{Direction, Nodes};
@@ -272,7 +273,7 @@ impl Node {
     }
 
     /// Has a sink take what stands at the node and below it, in order: each by the name of this kind and word with the subscripts of `front` and then
-    /// its own. `front` is given back as it was.
+    /// its own. `front` is given back as it was. It is told that the sink closed only where that did, behind what was walked until then.
     pub fn walk<S: Sink>(
         &self,
         global: bool,
@@ -281,6 +282,7 @@ impl Node {
         sink: &mut S,
     ) -> Result<(), SinkStop>
         ensures taken { OnOk result (S.takes sink.old (named global word.now (behind front.old self.now)) sink.new) }
+        ensures closed { IfErr result (StopsSo S.closes sink.old (named global word.now (behind front.old self.now)) sink.new) }
         ensures front { OnOk result (front.new ≡ front.old) }
     {
         walk_own(&self.text, global, word, front, sink)?;
@@ -442,7 +444,8 @@ fn walk_own<S: Sink>(
     front: &Subs,
     sink: &mut S,
 ) -> Result<(), SinkStop>
-    ensures { OnOk result (S.takes sink.old (named global word.now (behind front.now (own text.now))) sink.new) }
+    ensures taken { OnOk result (S.takes sink.old (named global word.now (behind front.now (own text.now))) sink.new) }
+    ensures closed { IfErr result (λ stop. stop ≡ stops.Closed → S.closes sink.old (named global word.now (behind front.now (own text.now))) sink.new) }
 {
     match text {
         None => Ok(()),

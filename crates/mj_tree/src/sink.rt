@@ -1,8 +1,9 @@
 // What takes the names of a store one by one.
 
-ghost use Rattle.std.specs.Prelude.{[], ◌∷◌, ◌++◌, OnOk};
+ghost use Rattle.std.specs.Prelude.{◌≡◌, [], ◌∷◌, ◌++◌, OnOk, IfErr};
 ghost use Rattle.mj_store.specs.Questions.{Content};
 ghost use Rattle.mj_tree.specs.Walks.{name};
+ghost use Rattle.mj_tree.specs.declared.sink.SinkStop.TheVariants as stops;
 
 use mj_subs::Subs;
 use mj_text::Text;
@@ -18,10 +19,7 @@ pub enum SinkStop {
 }
 
 impl From<AllocError> for SinkStop {
-    ghost use Rattle.mj_tree.specs.declared.sink.SinkStop.TheVariants as stop;
-    ghost use Rattle.std.specs.Prelude.{◌≡◌};
-
-    ghost from_gives = { λ e r. r ≡ stop.Memory };
+    ghost from_gives = { λ e r. r ≡ stops.Memory };
 
     fn from(_error: AllocError) -> SinkStop {
         SinkStop::Memory
@@ -33,11 +31,17 @@ pub trait Sink {
     /// The first, where it takes these in order, comes to the last.
     ghost takes: { Self → Content → Self → Type 0 };
 
+    /// The first, where it takes these in order up to the last of them, at which it closes, comes to the last.
+    ghost closes: { Self → Content → Self → Type 0 };
+
     /// One that takes nothing stays as it is.
     ghost nothing: { (s : Self) → takes s [] s };
 
     /// What is taken by turns is taken in order.
     ghost more: { (r s t : Self) (xs ys : Content) → takes r xs s → takes s ys t → takes r (xs ++ ys) t };
+
+    /// One that takes some and then closes has closed at the last of all.
+    ghost closed: { (r s t : Self) (xs ys : Content) → takes r xs s → closes s ys t → closes r (xs ++ ys) t };
 
     /// Takes one name more: of this kind, with this word and these subscripts.
     fn take(
@@ -47,5 +51,6 @@ pub trait Sink {
         subscripts: &Subs,
         text: &Text,
     ) -> Result<(), SinkStop>
-        ensures { OnOk result (takes self.old ((name global word.now subscripts.now, text.now) ∷ []) self.new) };
+        ensures taken { OnOk result (takes self.old ((name global word.now subscripts.now, text.now) ∷ []) self.new) }
+        ensures closed { IfErr result (λ stop. stop ≡ stops.Closed → closes self.old ((name global word.now subscripts.now, text.now) ∷ []) self.new) };
 }

@@ -7,7 +7,7 @@ ghost use Rattle.mj_subs.specs.Collation.{subscript_cmp};
 ghost use Rattle.mj_store.specs.Nodes.{subtree, data_of, next_after};
 ghost use Rattle.mj_tree.specs.Nest.{order_in, without, put_behind, is_too_long};
 ghost use Rattle.mj_tree.specs.Undo.{restored, undone};
-ghost use Rattle.mj_tree.specs.Walks.{named};
+ghost use Rattle.mj_tree.specs.Walks.{named, StopsSo};
 ghost use Rattle.mj_text.specs.declared.fault.Failure.TheVariants as failure;
 ghost use Rattle.mj_text.specs.declared.fault.Fault.TheVariants as fault;
 
@@ -136,9 +136,11 @@ impl Tree {
         self.root.subtree(self.alloc, path.as_slice())
     }
 
-    /// Has a sink take its texts, in order, each by the name of this kind and word with its list.
+    /// Has a sink take its texts, in order, each by the name of this kind and word with its list. It is told that the sink closed only where that did,
+    /// behind what was walked until then.
     pub fn walk<S: Sink>(&self, global: bool, word: &[u8], sink: &mut S) -> Result<(), SinkStop>
-        ensures { OnOk result (S.takes sink.old (named global word.now self.now) sink.new) }
+        ensures taken { OnOk result (S.takes sink.old (named global word.now self.now) sink.new) }
+        ensures closed { IfErr result (StopsSo S.closes sink.old (named global word.now self.now) sink.new) }
     {
         self.root
             .walk(global, word, &mut Subs::new(self.alloc), sink)

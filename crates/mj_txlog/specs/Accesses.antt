@@ -63,6 +63,10 @@ abbrev pub with_reply : Transaction → Access → Answer → Transaction
 with_reply t a answer.Limit = t
 with_reply t a r = with_entry t (entry.Access a r)
 
+-- and where it was answered on the globals as they are
+abbrev pub with_told : Transaction → Access → Content → Transaction
+with_told t a globals = with_reply t a (reply_in t globals a)
+
 -- an unlock in a transaction is done where it isn't full
 abbrev pub unlock_reply : Transaction → Answer
 unlock_reply t = cond (is_full t) answer.Limit answer.Done

@@ -1,4 +1,5 @@
 pub mod Accesses
+pub mod Logged
 pub mod Sight
 pub mod Skips
 pub mod Laid

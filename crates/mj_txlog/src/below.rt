@@ -21,7 +21,7 @@ pub(crate) fn seen_below(
     own: &Overlay,
     name: &Name,
 ) -> Result<Globals, AllocError>
-    ensures { IfOk result (λ below. (es : Accesses) → IsLaid own.now es → AreAlike name.now below (seen globals.now es)) }
+    ensures { IfOk result (λ below. (es : Accesses) → IsLaid own.now es → AreAlike name.now below.content (seen globals.now.content es)) }
 {
     globals.rises();
     let mut below = Globals::new(globals.allocator());
@@ -47,7 +47,7 @@ fn add_kept(
     more: &Subs,
     text: &Text,
 ) -> Result<(), AllocError>
-    ensures { OnOk result (below.new ≡ with_kept own.now below.old (followed_by name.now more.now) text.now) }
+    ensures { OnOk result (below.new.content ≡ with_kept own.now below.old.content (followed_by name.now more.now) text.now) }
 {
     let at = followed(below.allocator(), name, more)?;
     let added = match own.went(&at) {

@@ -3,7 +3,7 @@
 ghost use Rattle.std.specs.Prelude.{◌≡◌, ◌≤◌, [], false, true, length, IfOk, OnOk, OnErr};
 ghost use Rattle.mj_store.specs.Runs.{answer_of};
 ghost use Rattle.mj_txlog.specs.declared.entry.Entry.TheVariants.{Access as access_entry};
-ghost use Rattle.mj_txlog.specs.Accesses.{is_write, is_full, reply_in, seen, with_entry, with_reply, with_unlock, unlock_reply, with_gained};
+ghost use Rattle.mj_txlog.specs.Accesses.{is_write, is_full, reply_in, seen, with_entry, with_told, with_unlock, unlock_reply, with_gained};
 ghost use Rattle.mj_txlog.specs.Skips.{AreSkips, gone_by};
 
 use crate::entry::{Entry, Unlock, is_refused, is_write};
@@ -32,15 +32,18 @@ pub struct TxLog {
 }
 
 impl Model for TxLog {
-    ghost use Rattle.std.specs.Prelude.{◌≡◌, ◌≤◌, length};
-    ghost use Rattle.mj_txlog.specs.Accesses.{Transaction};
+    ghost use Rattle.std.specs.Prelude.{◌≡◌, ◌≤◌, [], length};
+    ghost use Rattle.mj_txlog.specs.Logged.{Logged};
     ghost use Rattle.mj_txlog.specs.declared.log.TheConstants.{ACCESSES_LIMIT};
     ghost use Rattle.mj_txlog.specs.Laid.{IsLaid};
     ghost use Rattle.mj_txlog.specs.Skips.{gone_by};
 
-    ghost Value = { Transaction };
+    ghost Value = { Logged };
 
-    ghost view = { λ t. record { serial = t.serial; accesses = t.entries.items; gained = t.gained.items } };
+    ghost view = { λ t. record {
+      transaction = record { serial = t.serial; accesses = t.entries.items; gained = t.gained.items };
+      stamps = [];
+    } };
 
     ghost invariant = { λ t. (length t.entries.items ≤ ACCESSES_LIMIT) × IsLaid t.own t.entries.items × (t.own.gone ≡ gone_by t.entries.items) };
 }
@@ -49,7 +52,7 @@ impl TxLog {
     /// A transaction that has just begun.
     #[tactic(auto, using(crate::proofs::Laid::none_laid))]
     pub fn new(alloc: Global, serial: bool) -> TxLog
-        ensures { result ≡ record { serial = serial; accesses = []; gained = [] } }
+        ensures { result.transaction ≡ record { serial = serial; accesses = []; gained = [] } }
     {
         TxLog {
             alloc,
@@ -67,14 +70,14 @@ impl TxLog {
 
     /// Whether it is SERIAL.
     pub fn is_serial(&self) -> bool
-        ensures { result ≡ self.now.serial }
+        ensures { result ≡ self.now.transaction.serial }
     {
         self.serial
     }
 
     /// Its accesses, in order.
     pub fn entries(&self) -> &[Entry]
-        ensures value { result.now ≡ self.now.accesses }
+        ensures value { result.now ≡ self.now.transaction.accesses }
         ensures limit { length result.now ≤ ACCESSES_LIMIT }
     {
         &self.entries
@@ -82,7 +85,7 @@ impl TxLog {
 
     /// The names of the locks that were gained since it began, one for each count.
     pub fn gained(&self) -> &[Name]
-        ensures { result.now ≡ self.now.gained }
+        ensures { result.now ≡ self.now.transaction.gained }
     {
         &self.gained
     }
@@ -97,12 +100,12 @@ impl TxLog {
         skips: &mut Skips,
         access: Access,
     ) -> Result<(Answer, Answer), AllocError>
-        requires { AreSkips globals.now (gone_by self.old.accesses) skips.old }
-        ensures answer { IfOk result (λ told. told.0 ≡ reply_in self.old globals.now access) }
-        ensures again { IfOk result (λ told. told.1 ≡ reply_in self.old globals.now access) }
-        ensures appended { OnOk result (self.new ≡ with_reply self.old access (reply_in self.old globals.now access)) }
-        ensures unchanged { OnErr result (self.new ≡ self.old) }
-        ensures skips { AreSkips globals.now (gone_by self.new.accesses) skips.new }
+        requires { AreSkips globals.now.content (gone_by self.old.transaction.accesses) skips.old }
+        ensures answer { IfOk result (λ told. told.0 ≡ reply_in self.old.transaction globals.now.content access) }
+        ensures again { IfOk result (λ told. told.1 ≡ reply_in self.old.transaction globals.now.content access) }
+        ensures appended { OnOk result (self.new.transaction ≡ with_told self.old.transaction access globals.now.content) }
+        ensures unchanged { OnErr result (self.new.transaction ≡ self.old.transaction) }
+        ensures skips { AreSkips globals.now.content (gone_by self.new.transaction.accesses) skips.new }
     {
         if is_write(&access) {
             return self.write(access);
@@ -128,11 +131,11 @@ impl TxLog {
         read: &Access,
     ) -> Result<((Answer, Answer), Answer), AllocError>
         requires read { is_write read.now ≡ false }
-        requires skips { AreSkips globals.now (gone_by self.now.accesses) skips.old }
-        ensures skips { AreSkips globals.now (gone_by self.now.accesses) skips.new }
-        ensures given { IfOk result (λ x. x.0.0 ≡ answer_of read.now (seen globals.now self.now.accesses)) }
-        ensures again { IfOk result (λ x. x.0.1 ≡ answer_of read.now (seen globals.now self.now.accesses)) }
-        ensures kept { IfOk result (λ x. x.1 ≡ answer_of read.now (seen globals.now self.now.accesses)) }
+        requires skips { AreSkips globals.now.content (gone_by self.now.transaction.accesses) skips.old }
+        ensures skips { AreSkips globals.now.content (gone_by self.now.transaction.accesses) skips.new }
+        ensures given { IfOk result (λ x. x.0.0 ≡ answer_of read.now (seen globals.now.content self.now.transaction.accesses)) }
+        ensures again { IfOk result (λ x. x.0.1 ≡ answer_of read.now (seen globals.now.content self.now.transaction.accesses)) }
+        ensures kept { IfOk result (λ x. x.1 ≡ answer_of read.now (seen globals.now.content self.now.transaction.accesses)) }
     {
         let answer = answer(self.alloc, globals, &self.entries, &self.own, skips, read)?;
         match twice(&answer) {
@@ -151,10 +154,10 @@ impl TxLog {
         told: (Answer, Answer),
         kept: Answer,
     ) -> Result<(Answer, Answer), AllocError>
-        requires { is_full self.old ≡ false }
+        requires { is_full self.old.transaction ≡ false }
         ensures answer { IfOk result (λ t. t ≡ told) }
-        ensures appended { OnOk result (self.new ≡ with_entry self.old (access_entry access kept)) }
-        ensures unchanged { OnErr result (self.new ≡ self.old) }
+        ensures appended { OnOk result (self.new.transaction ≡ with_entry self.old.transaction (access_entry access kept)) }
+        ensures unchanged { OnErr result (self.new.transaction ≡ self.old.transaction) }
     {
         match self.push(Entry::Access(access, kept)) {
             Ok(()) => Ok(told),
@@ -168,9 +171,9 @@ impl TxLog {
     // Appends an entry, and makes the write that it is, if it is one.
     #[tactic(auto, using(crate::proofs::Laid::more_laid, crate::proofs::Goes::gone_laid))]
     fn push(&mut self, entry: Entry) -> Result<(), AllocError>
-        requires { is_full self.old ≡ false }
-        ensures appended { OnOk result (self.new ≡ with_entry self.old entry) }
-        ensures unchanged { OnErr result (self.new ≡ self.old) }
+        requires { is_full self.old.transaction ≡ false }
+        ensures appended { OnOk result (self.new.transaction ≡ with_entry self.old.transaction entry) }
+        ensures unchanged { OnErr result (self.new.transaction ≡ self.old.transaction) }
     {
         let room = self.entries.reserve(1);
         let made = match room {
@@ -192,10 +195,10 @@ impl TxLog {
     /// Makes a write in the transaction, as `see` does, for which no globals are wanted.
     pub fn write(&mut self, access: Access) -> Result<(Answer, Answer), AllocError>
         requires { is_write access ≡ true }
-        ensures answer { IfOk result (λ told. told.0 ≡ reply_in self.old [] access) }
-        ensures again { IfOk result (λ told. told.1 ≡ reply_in self.old [] access) }
-        ensures appended { OnOk result (self.new ≡ with_reply self.old access (reply_in self.old [] access)) }
-        ensures unchanged { OnErr result (self.new ≡ self.old) }
+        ensures answer { IfOk result (λ told. told.0 ≡ reply_in self.old.transaction [] access) }
+        ensures again { IfOk result (λ told. told.1 ≡ reply_in self.old.transaction [] access) }
+        ensures appended { OnOk result (self.new.transaction ≡ with_told self.old.transaction access []) }
+        ensures unchanged { OnErr result (self.new.transaction ≡ self.old.transaction) }
     {
         if self.is_full() || is_refused(&access) {
             drop(access); // for the proof
@@ -207,9 +210,9 @@ impl TxLog {
 
     /// Appends an unlock, which waits for the commit. Past the limit it is answered that it passes one, and isn't appended.
     pub fn unlock(&mut self, unlock: Unlock) -> Result<Answer, AllocError>
-        ensures answer { IfOk result (λ a. a ≡ unlock_reply self.old) }
-        ensures appended { OnOk result (self.new ≡ with_unlock self.old unlock) }
-        ensures unchanged { OnErr result (self.new ≡ self.old) }
+        ensures answer { IfOk result (λ a. a ≡ unlock_reply self.old.transaction) }
+        ensures appended { OnOk result (self.new.transaction ≡ with_unlock self.old.transaction unlock) }
+        ensures unchanged { OnErr result (self.new.transaction ≡ self.old.transaction) }
     {
         if self.is_full() {
             drop(unlock); // for the proof
@@ -221,8 +224,8 @@ impl TxLog {
 
     /// Counts the lock of each name once more, which a rollback gives back: all of them, or none.
     pub fn gain(&mut self, names: &[Name]) -> Result<(), AllocError>
-        ensures gained { OnOk result (self.new ≡ with_gained self.old names.now) }
-        ensures unchanged { OnErr result (self.new ≡ self.old) }
+        ensures gained { OnOk result (self.new.transaction ≡ with_gained self.old.transaction names.now) }
+        ensures unchanged { OnErr result (self.new.transaction ≡ self.old.transaction) }
     {
         let mut copies = copies_of(self.alloc, names)?;
         self.gained.append(&mut copies)?;
@@ -231,7 +234,7 @@ impl TxLog {
 
     /// Whether it has as many accesses as it can have.
     pub fn is_full(&self) -> bool
-        ensures { result ≡ is_full self.now }
+        ensures { result ≡ is_full self.now.transaction }
     {
         ACCESSES_LIMIT <= self.entries.len()
     }

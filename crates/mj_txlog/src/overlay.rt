@@ -34,7 +34,7 @@ impl Model for Overlay {
 
     ghost Value = { Laid };
 
-    ghost view = { λ o. record { over = o.over; gone = o.gone } };
+    ghost view = { λ o. record { over = o.over.content; gone = o.gone.content } };
 }
 
 impl Overlay {
@@ -89,7 +89,7 @@ impl Overlay {
 
     // What was given and still stands.
     pub(crate) fn over(&self) -> &Globals
-        ensures which { result.now ≡ self.now.over }
+        ensures which { result.now.content ≡ self.now.over }
         ensures rises { T (is_sorted name_cmp self.now.over) }
     {
         self.over.rises();
@@ -126,7 +126,7 @@ impl Overlay {
 
     // Whether a name has a text over the globals.
     pub(crate) fn is_text(&self, globals: &Globals, name: &Name) -> Result<bool, AllocError>
-        ensures { IfOk result (λ b. b ≡ is_some (text_over self.now name.now (value_at globals.now name.now))) }
+        ensures { IfOk result (λ b. b ≡ is_some (text_over self.now name.now (value_at globals.now.content name.now))) }
     {
         if self.over.value(name).is_some() {
             return Ok(true);
@@ -139,7 +139,7 @@ impl Overlay {
 
     // The text of a name over the globals.
     pub(crate) fn text(&self, globals: &Globals, name: &Name) -> Result<Option<Text>, AllocError>
-        ensures { IfOk result (λ t. t ≡ text_over self.now name.now (value_at globals.now name.now)) }
+        ensures { IfOk result (λ t. t ≡ text_over self.now name.now (value_at globals.now.content name.now)) }
     {
         if let Some(text) = self.over.value(name) {
             return Ok(Some(text.try_clone()?));

@@ -27,9 +27,9 @@ pub(crate) fn query(
     skips: &mut Skips,
     name: &Name,
 ) -> Result<Option<Option<Name>>, AllocError>
-    requires { KeepSkips globals.now own.now skips.old }
-    ensures next { IfOk result (λ x. IfSome x (λ next. (es : Accesses) → IsLaid own.now es → next ≡ query_at (seen globals.now es) name.now)) }
-    ensures skips { KeepSkips globals.now own.now skips.new }
+    requires { KeepSkips globals.now.content own.now skips.old }
+    ensures next { IfOk result (λ x. IfSome x (λ next. (es : Accesses) → IsLaid own.now es → next ≡ query_at (seen globals.now.content es) name.now)) }
+    ensures skips { KeepSkips globals.now.content own.now skips.new }
 {
     match first_below(globals, own, skips, name)? {
         Some(next) => Ok(Some(Some(next))),
@@ -45,9 +45,9 @@ fn first_within(
     skips: &mut Skips,
     name: &Name,
 ) -> Result<Option<Name>, AllocError>
-    requires { KeepSkips globals.now own.now skips.old }
-    ensures next { IfOk result (λ next. IsSeenFirst globals.now own.now name.now (is_within name.now.subscripts) next) }
-    ensures skips { KeepSkips globals.now own.now skips.new }
+    requires { KeepSkips globals.now.content own.now skips.old }
+    ensures next { IfOk result (λ next. IsSeenFirst globals.now.content own.now name.now (is_within name.now.subscripts) next) }
+    ensures skips { KeepSkips globals.now.content own.now skips.new }
 {
     if own.is_text(globals, name)? {
         return Ok(Some(name.try_clone()?));
@@ -63,9 +63,9 @@ fn first_below(
     skips: &mut Skips,
     name: &Name,
 ) -> Result<Option<Name>, AllocError>
-    requires { KeepSkips globals.now own.now skips.old }
-    ensures next { IfOk result (λ next. IsSeenFirst globals.now own.now name.now (is_below name.now.subscripts) next) }
-    ensures skips { KeepSkips globals.now own.now skips.new }
+    requires { KeepSkips globals.now.content own.now skips.old }
+    ensures next { IfOk result (λ next. IsSeenFirst globals.now.content own.now name.now (is_below name.now.subscripts) next) }
+    ensures skips { KeepSkips globals.now.content own.now skips.new }
 {
     match first_sub(globals, own, skips, name)? {
         None => Ok(None),
@@ -86,9 +86,9 @@ fn first_past(
     skips: &mut Skips,
     name: &Name,
 ) -> Result<Option<Option<Name>>, AllocError>
-    requires { KeepSkips globals.now own.now skips.old }
-    ensures next { IfOk result (λ x. IfSome x (λ next. IsSeenFirst globals.now own.now name.now (is_beyond name.now.subscripts) next)) }
-    ensures skips { KeepSkips globals.now own.now skips.new }
+    requires { KeepSkips globals.now.content own.now skips.old }
+    ensures next { IfOk result (λ x. IfSome x (λ next. IsSeenFirst globals.now.content own.now name.now (is_beyond name.now.subscripts) next)) }
+    ensures skips { KeepSkips globals.now.content own.now skips.new }
 {
     match name.subscripts().as_slice() {
         [] => Ok(Some(None)),
@@ -111,9 +111,10 @@ fn first_beside(
     front: &Name,
     last: &Sub,
 ) -> Result<Option<Option<Name>>, AllocError>
-    requires { KeepSkips globals.now own.now skips.old }
-    ensures next { IfOk result (λ x. IfSome x (λ next. IsSeenFirst globals.now own.now front.now (is_beyond (front.now.subscripts ++ last.now ∷ [])) next)) }
-    ensures skips { KeepSkips globals.now own.now skips.new }
+    requires { KeepSkips globals.now.content own.now skips.old }
+    ensures next { IfOk result (λ x.
+        IfSome x (λ next. IsSeenFirst globals.now.content own.now front.now (is_beyond (front.now.subscripts ++ last.now ∷ [])) next)) }
+    ensures skips { KeepSkips globals.now.content own.now skips.new }
 {
     match next_below(globals, own, skips, front, last, Direction::Forward)? {
         None => first_past(globals, own, skips, front),

@@ -35,9 +35,9 @@ pub fn answer(
 ) -> Result<Answer, AllocError>
     requires read { is_write read.now ≡ false }
     requires own { IsLaid own.now earlier.now }
-    requires skips { AreSkips globals.now own.now.gone skips.old }
-    ensures answer { IfOk result (λ a. a ≡ answer_of read.now (seen globals.now earlier.now)) }
-    ensures skips { AreSkips globals.now own.now.gone skips.new }
+    requires skips { AreSkips globals.now.content own.now.gone skips.old }
+    ensures answer { IfOk result (λ a. a ≡ answer_of read.now (seen globals.now.content earlier.now)) }
+    ensures skips { AreSkips globals.now.content own.now.gone skips.new }
 {
     match read {
         Access::Value(name) => {
@@ -57,9 +57,9 @@ fn seen_answer(
     read: &Access,
 ) -> Result<Answer, AllocError>
     requires read { is_write read.now ≡ false }
-    requires skips { KeepSkips globals.now own.now skips.old }
-    ensures skips { KeepSkips globals.now own.now skips.new }
-    ensures answer { IfOk result (λ a. (es : Accesses) → IsLaid own.now es → a ≡ answer_of read.now (seen globals.now es)) }
+    requires skips { KeepSkips globals.now.content own.now skips.old }
+    ensures skips { KeepSkips globals.now.content own.now skips.new }
+    ensures answer { IfOk result (λ a. (es : Accesses) → IsLaid own.now es → a ≡ answer_of read.now (seen globals.now.content es)) }
 {
     let reach = reach_of(alloc, read)?;
     let answer = answer_at(globals, own, skips, read, &reach);
@@ -77,9 +77,9 @@ fn answer_at(
 ) -> Result<Answer, AllocError>
     requires read { is_write read.now ≡ false }
     requires reach { reach.now ≡ reach_of read.now }
-    requires skips { KeepSkips globals.now own.now skips.old }
-    ensures skips { KeepSkips globals.now own.now skips.new }
-    ensures answer { IfOk result (λ a. (es : Accesses) → IsLaid own.now es → a ≡ answer_of read.now (seen globals.now es)) }
+    requires skips { KeepSkips globals.now.content own.now skips.old }
+    ensures skips { KeepSkips globals.now.content own.now skips.new }
+    ensures answer { IfOk result (λ a. (es : Accesses) → IsLaid own.now es → a ≡ answer_of read.now (seen globals.now.content es)) }
 {
     globals.rises();
     if own.went(reach)? {
@@ -107,9 +107,9 @@ fn answer_at(
 
 // Whether a text stands at the name, and whether one stands below it.
 fn data(globals: &Globals, own: &Overlay, skips: &mut Skips, name: &Name) -> Result<u8, AllocError>
-    requires { KeepSkips globals.now own.now skips.old }
-    ensures skips { KeepSkips globals.now own.now skips.new }
-    ensures data { IfOk result (λ d. (es : Accesses) → IsLaid own.now es → d ≡ data_at (seen globals.now es) name.now) }
+    requires { KeepSkips globals.now.content own.now skips.old }
+    ensures skips { KeepSkips globals.now.content own.now skips.new }
+    ensures data { IfOk result (λ d. (es : Accesses) → IsLaid own.now es → d ≡ data_at (seen globals.now.content es) name.now) }
 {
     let here = own.is_text(globals, name)?;
     let below = first_sub(globals, own, skips, name)?;
@@ -139,9 +139,9 @@ fn order(
     front: &Name,
 ) -> Result<Option<Sub>, AllocError>
     requires front { front.now ≡ with_subscripts name.now (front_of name.now.subscripts) }
-    requires skips { KeepSkips globals.now own.now skips.old }
-    ensures skips { KeepSkips globals.now own.now skips.new }
-    ensures next { IfOk result (λ next. (es : Accesses) → IsLaid own.now es → next ≡ order_at (seen globals.now es) name.now way) }
+    requires skips { KeepSkips globals.now.content own.now skips.old }
+    ensures skips { KeepSkips globals.now.content own.now skips.new }
+    ensures next { IfOk result (λ next. (es : Accesses) → IsLaid own.now es → next ≡ order_at (seen globals.now.content es) name.now way) }
 {
     match name.subscripts().as_slice() {
         [] => Ok(None),
@@ -158,7 +158,7 @@ fn answer_among(
 ) -> Result<Answer, AllocError>
     requires read { is_write read.now ≡ false }
     requires reach { reach.now ≡ reach_of read.now }
-    ensures { IfOk result (λ a. (es : Accesses) → IsLaid own.now es → a ≡ answer_of read.now (seen globals.now es)) }
+    ensures { IfOk result (λ a. (es : Accesses) → IsLaid own.now es → a ≡ answer_of read.now (seen globals.now.content es)) }
 {
     globals.rises();
     let below = seen_below(globals, own, reach)?;
@@ -171,7 +171,7 @@ fn answer_among(
 // The answer to a read.
 fn look(globals: &Globals, read: &Access) -> Result<Answer, AllocError>
     requires { is_write read.now ≡ false }
-    ensures { IfOk result (λ a. a ≡ answer_of read.now globals.now) }
+    ensures { IfOk result (λ a. a ≡ answer_of read.now globals.now.content) }
 {
     Ok(match read {
         Access::Value(name) => Answer::Value(text_of(globals, name)?),
@@ -209,7 +209,7 @@ fn front_of<'a>(list: &'a [Sub]) -> &'a [Sub]
 
 // The text of a name, for keeps.
 fn text_of(globals: &Globals, name: &Name) -> Result<Option<Text>, AllocError>
-    ensures { IfOk result (λ text. text ≡ value_at globals.now name.now) }
+    ensures { IfOk result (λ text. text ≡ value_at globals.now.content name.now) }
 {
     Ok(match globals.value(name) {
         None => None,

@@ -32,7 +32,7 @@ impl Model for Skips {
 
     ghost Value = { Content };
 
-    ghost view = { λ s. s.runs };
+    ghost view = { λ s. s.runs.content };
 }
 
 impl Skips {

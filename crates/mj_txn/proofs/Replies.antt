@@ -45,7 +45,8 @@ hold_next g es i e lt here h n =
 split_at : (es : Accesses) (i : ℕ) (e : Entry) → i < length es → e ≡ get_or es i e → es ≡ take i es ++ e ∷ drop (i + 1) es
 split_at es i e lt here = sym (take-append-drop i es) ∙ ap (λ (r : Accesses). take i es ++ r) (drop_more es i e lt ∙ ap (λ (y : Entry). y ∷ drop (i + 1) es) (sym here))
 
-pub differs_at : (g : Content) (es : Accesses) (i : ℕ) (e : Entry) (k : ℕ) (old new : Answer) → i < length es → e ≡ get_or es i e → Hold g [] (take i es) → DiffersNow g (take i es) e k old new → Differs g es k old new
+pub differs_at : (g : Content) (es : Accesses) (i : ℕ) (e : Entry) (k : ℕ) (old new : Answer) → i < length es → e ≡ get_or es i e → Hold g [] (take i es)
+    → DiffersNow g (take i es) e k old new → Differs g es k old new
 differs_at g es i e k old new lt here h d = record { earlier = take i es; e = e; later = drop (i + 1) es; is = split_at es i e lt here; hold = h; differs = d }
 
 hold_at : (g : Content) (front xs : Accesses) (e : Entry) (later : Accesses) → Hold g front (xs ++ e ∷ later) → HoldsNow g (front ++ xs) e

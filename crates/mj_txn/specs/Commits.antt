@@ -15,9 +15,13 @@ use Rattle.mj_txlog.specs.Accesses.{Accesses, is_write, seen, Transaction}
 use Rattle.mj_txn.specs.declared.committing.Outcome.{Outcome}
 use Rattle.mj_txn.specs.declared.committing.Outcome.TheVariants as outcome
 
--- an access after these, if it is a read, has its answer also now: on the globals, with the transaction's own writes before it
+-- a read after these accesses has this answer now: on the globals, with the transaction's own writes before it
+abbrev pub HasAnswer : Content → Accesses → Access → Answer → Type 0
+HasAnswer globals earlier a r = answer_of a (seen globals earlier) ≡ r
+
+-- an access after these, if it is a read, has its answer also now
 abbrev pub HoldsNow : Content → Accesses → Entry → Type 0
-HoldsNow globals earlier (entry.Access a r) = is_write a ≡ false → answer_of a (seen globals earlier) ≡ r
+HoldsNow globals earlier (entry.Access a r) = is_write a ≡ false → HasAnswer globals earlier a r
 HoldsNow globals earlier (entry.Unlock u) = ⊤
 
 -- and so has each of these, one after the other
@@ -46,9 +50,13 @@ pub record Differs (globals : Content) (accesses : Accesses) (k : ℕ) (old new 
   pub hold : Hold globals [] earlier
   pub differs : DiffersNow globals earlier e k old new
 
+-- where the transaction is SERIAL, each of its reads has its answer now
+abbrev pub MayCommit : Transaction → Content → Type 0
+MayCommit t globals = t.serial ≡ true → Hold globals [] t.accesses
+
 -- what may come of a commit. One that isn't SERIAL is always done
 abbrev pub CommitsAs : Transaction → Content → Outcome → Type 0
-CommitsAs t globals outcome.Done = t.serial ≡ true → Hold globals [] t.accesses
+CommitsAs t globals outcome.Done = MayCommit t globals
 CommitsAs t globals (outcome.Clash c) = (t.serial ≡ true) × Differs globals t.accesses c.place c.then c.now
 
 -- what it leaves: all writes are made, or none

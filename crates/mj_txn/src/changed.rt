@@ -1,11 +1,10 @@
 // The first read of a transaction that has another answer now.
 
 ghost use Rattle.std.specs.Prelude.{◌≡◌, ◌<◌, ◌≤◌, [], false, length, IfOk, MatchOption};
-ghost use Rattle.mj_store.specs.Runs.{answer_of};
-ghost use Rattle.mj_txlog.specs.Accesses.{is_write, seen};
+ghost use Rattle.mj_txlog.specs.Accesses.{is_write};
 ghost use Rattle.mj_txlog.specs.Laid.{IsLaid};
 ghost use Rattle.mj_txlog.specs.Skips.{AreSkips};
-ghost use Rattle.mj_txn.specs.Commits.{HoldsNow, Hold, IsOther, DiffersNow, Differs};
+ghost use Rattle.mj_txn.specs.Commits.{HasAnswer, HoldsNow, Hold, IsOther, DiffersNow, Differs};
 
 use mj_globs::Globals;
 use mj_store::{Access, Answer, is_same_answer};
@@ -31,7 +30,7 @@ pub fn first_changed(
     entries: &[Entry],
 ) -> Result<Option<Changed>, AllocError>
     requires { length entries.now ≤ ACCESSES_LIMIT }
-    ensures { IfOk result (λ r. MatchOption r (Hold globals.now [] entries.now) (λ c. Differs globals.now entries.now c.place c.then c.now)) }
+    ensures { IfOk result (λ r. MatchOption r (Hold globals.now.content [] entries.now) (λ c. Differs globals.now.content entries.now c.place c.then c.now)) }
 {
     let mut own = Overlay::new(alloc);
     let mut skips = Skips::new(alloc);
@@ -41,7 +40,7 @@ pub fn first_changed(
     found
 }
 
-// The same, where no own writes lie over the globals yet. What a read passes over, the later ones don't look at again.
+// Finds it where no own writes lie over the globals yet. What a read passes over, the later ones don't look at again.
 fn first_over(
     alloc: Global,
     globals: &Globals,
@@ -51,8 +50,8 @@ fn first_over(
 ) -> Result<Option<Changed>, AllocError>
     requires limit { length entries.now ≤ ACCESSES_LIMIT }
     requires none { IsLaid own.old [] }
-    requires skips { AreSkips globals.now own.old.gone skips.old }
-    ensures { IfOk result (λ r. MatchOption r (Hold globals.now [] entries.now) (λ c. Differs globals.now entries.now c.place c.then c.now)) }
+    requires skips { AreSkips globals.now.content own.old.gone skips.old }
+    ensures { IfOk result (λ r. MatchOption r (Hold globals.now.content [] entries.now) (λ c. Differs globals.now.content entries.now c.place c.then c.now)) }
 {
     for (i, entry) in entries.iter().enumerate() {
         match changed_now(alloc, globals, &entries[..i], own, skips, entry) {
@@ -75,9 +74,10 @@ fn changed_now(
 ) -> Result<Option<Changed>, AllocError>
     requires room { length earlier.now < ACCESSES_LIMIT }
     requires own { IsLaid own.now earlier.now }
-    requires skips { AreSkips globals.now own.now.gone skips.old }
-    ensures skips { AreSkips globals.now own.now.gone skips.new }
-    ensures changed { IfOk result (λ r. MatchOption r (HoldsNow globals.now earlier.now entry.now) (λ c. DiffersNow globals.now earlier.now entry.now c.place c.then c.now)) }
+    requires skips { AreSkips globals.now.content own.now.gone skips.old }
+    ensures skips { AreSkips globals.now.content own.now.gone skips.new }
+    ensures changed { IfOk result (λ r.
+        MatchOption r (HoldsNow globals.now.content earlier.now entry.now) (λ c. DiffersNow globals.now.content earlier.now entry.now c.place c.then c.now)) }
 {
     match entry {
         Entry::Access(access, then) => {
@@ -102,10 +102,12 @@ fn changed_read(
 ) -> Result<Option<Changed>, AllocError>
     requires room { length earlier.now < ACCESSES_LIMIT }
     requires own { IsLaid own.now earlier.now }
-    requires skips { AreSkips globals.now own.now.gone skips.old }
+    requires skips { AreSkips globals.now.content own.now.gone skips.old }
     requires read { is_write read.now ≡ false }
-    ensures skips { AreSkips globals.now own.now.gone skips.new }
-    ensures changed { IfOk result (λ r. MatchOption r (answer_of read.now (seen globals.now earlier.now) ≡ then.now) (λ c. IsOther globals.now earlier.now read.now then.now c.place c.then c.now)) }
+    ensures skips { AreSkips globals.now.content own.now.gone skips.new }
+    ensures changed { IfOk result (λ r.
+        MatchOption r (HasAnswer globals.now.content earlier.now read.now then.now)
+        (λ c. IsOther globals.now.content earlier.now read.now then.now c.place c.then c.now)) }
 {
     let now = answer(alloc, globals, earlier, own, skips, read)?;
     if is_same_answer(&now, then) {

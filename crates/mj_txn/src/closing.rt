@@ -27,12 +27,12 @@ pub fn access(
     skips: &mut Skips,
     access: &Access,
 ) -> Result<(Answer, Answer), AllocError>
-    requires { AreSkips globals.now (gone_by log.old.accesses) skips.old }
-    ensures answer { IfOk result (λ told. told.0 ≡ told_in log.old globals.now access.now) }
-    ensures again { IfOk result (λ told. told.1 ≡ told_in log.old globals.now access.now) }
-    ensures log { OnOk result (log.new ≡ after_told log.old globals.now access.now) }
-    ensures unchanged { OnErr result (log.new ≡ log.old) }
-    ensures skips { AreSkips globals.now (gone_by log.new.accesses) skips.new }
+    requires { AreSkips globals.now.content (gone_by log.old.transaction.accesses) skips.old }
+    ensures answer { IfOk result (λ told. told.0 ≡ told_in log.old.transaction globals.now.content access.now) }
+    ensures again { IfOk result (λ told. told.1 ≡ told_in log.old.transaction globals.now.content access.now) }
+    ensures log { OnOk result (log.new.transaction ≡ after_told log.old.transaction globals.now.content access.now) }
+    ensures unchanged { OnErr result (log.new.transaction ≡ log.old.transaction) }
+    ensures skips { AreSkips globals.now.content (gone_by log.new.transaction.accesses) skips.new }
 {
     if is_local_write(access) {
         return Ok(if is_refused(access) {
@@ -59,11 +59,11 @@ pub fn try_take(
     job: u32,
     names: &[Name],
 ) -> Result<Taken, AllocError>
-    ensures taken { IfOk result (λ taken. taken ≡ try_of locks.old job names.now) }
-    ensures locks { OnOk result (locks.new ≡ after_try locks.old job names.now) }
-    ensures meaning { IfOk result (λ taken. TryGives locks.old job names.now taken locks.new) }
-    ensures log { IfOk result (λ taken. log.new ≡ gained_by_try log.old names.now taken) }
-    ensures unchanged { OnErr result ((locks.new ≡ locks.old) × (log.new ≡ log.old)) }
+    ensures taken { IfOk result (λ taken. taken ≡ try_of locks.old.holds job names.now) }
+    ensures locks { OnOk result (locks.new.holds ≡ after_try locks.old.holds job names.now) }
+    ensures meaning { IfOk result (λ taken. TryGives locks.old.holds job names.now taken locks.new.holds) }
+    ensures log { IfOk result (λ taken. log.new.transaction ≡ gained_by_try log.old.transaction names.now taken) }
+    ensures unchanged { OnErr result ((locks.new.holds ≡ locks.old.holds) × (log.new.transaction ≡ log.old.transaction)) }
 {
     locks.keeps();
     match locks.try_take(job, names)? {
@@ -81,9 +81,9 @@ pub fn try_take(
 
 /// An unlock of the names, which waits for the commit. Past the limit of accesses it is answered that it passes one, and doesn't.
 pub fn unlock(log: &mut TxLog, names: &[Name]) -> Result<Answer, AllocError>
-    ensures answer { IfOk result (λ a. a ≡ unlock_reply log.old) }
-    ensures waits { OnOk result (log.new ≡ with_unlock log.old (unlocks.Names names.now)) }
-    ensures unchanged { OnErr result (log.new ≡ log.old) }
+    ensures answer { IfOk result (λ a. a ≡ unlock_reply log.old.transaction) }
+    ensures waits { OnOk result (log.new.transaction ≡ with_unlock log.old.transaction (unlocks.Names names.now)) }
+    ensures unchanged { OnErr result (log.new.transaction ≡ log.old.transaction) }
 {
     let list = NameList::of(log.allocator(), names)?;
     log.unlock(Unlock::Names(list))
@@ -91,7 +91,7 @@ pub fn unlock(log: &mut TxLog, names: &[Name]) -> Result<Answer, AllocError>
 
 /// Rolls the transaction back: the counts that it gained go back, and the unlocks that waited are forgotten.
 pub fn roll_back(log: &TxLog, locks: &mut LockTable, job: u32)
-    ensures { locks.new ≡ rolled_back log.now job locks.old }
+    ensures { locks.new.holds ≡ rolled_back log.now.transaction job locks.old.holds }
 {
     locks.give(job, log.gained());
 }
@@ -104,11 +104,11 @@ pub fn close(
     locks: &mut LockTable,
     job: u32,
 ) -> Result<(Reply, Reply), AllocError>
-    ensures reply { IfOk result (λ told. told.0 ≡ (committed log.now job globals.old locks.old).reply) }
+    ensures reply { IfOk result (λ told. told.0 ≡ (committed log.now.transaction job globals.old.content locks.old.holds).reply) }
     ensures again { IfOk result (λ told. told.1 ≡ told.0) }
-    ensures globals { OnOk result (globals.new ≡ (committed log.now job globals.old locks.old).globals) }
-    ensures locks { OnOk result (locks.new ≡ (committed log.now job globals.old locks.old).locks) }
-    ensures unchanged { OnErr result ((globals.new ≡ globals.old) × (locks.new ≡ locks.old)) }
+    ensures globals { OnOk result (globals.new.content ≡ (committed log.now.transaction job globals.old.content locks.old.holds).globals) }
+    ensures locks { OnOk result (locks.new.holds ≡ (committed log.now.transaction job globals.old.content locks.old.holds).locks) }
+    ensures unchanged { OnErr result ((globals.new.content ≡ globals.old.content) × (locks.new.holds ≡ locks.old.holds)) }
 {
     match commit(log, globals)? {
         Outcome::Done => {
@@ -146,7 +146,7 @@ fn clash_twice(alloc: Global, changed: Changed) -> Result<(Reply, Reply), AllocE
 
 // Makes the unlocks that waited, in order.
 fn unlock_waiting(entries: &[Entry], locks: &mut LockTable, job: u32)
-    ensures { locks.new ≡ unlocked locks.old job entries.now }
+    ensures { locks.new.holds ≡ unlocked locks.old.holds job entries.now }
 {
     for entry in entries {
         unlock_by(entry, locks, job);
@@ -155,7 +155,7 @@ fn unlock_waiting(entries: &[Entry], locks: &mut LockTable, job: u32)
 
 // Makes the unlock that an entry is, if it is one.
 fn unlock_by(entry: &Entry, locks: &mut LockTable, job: u32)
-    ensures { locks.new ≡ unlocked locks.old job (entry.now ∷ []) }
+    ensures { locks.new.holds ≡ unlocked locks.old.holds job (entry.now ∷ []) }
 {
     if let Entry::Unlock(unlock) = entry {
         unlock_one(unlock, locks, job);
@@ -164,7 +164,7 @@ fn unlock_by(entry: &Entry, locks: &mut LockTable, job: u32)
 
 // Makes one of them.
 fn unlock_one(unlock: &Unlock, locks: &mut LockTable, job: u32)
-    ensures { locks.new ≡ unlocked_by locks.old job unlock.now }
+    ensures { locks.new.holds ≡ unlocked_by locks.old.holds job unlock.now }
 {
     match unlock {
         Unlock::Names(names) => locks.give(job, names.as_slice()),

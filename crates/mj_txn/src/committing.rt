@@ -1,7 +1,7 @@
 // A commit.
 
-ghost use Rattle.std.specs.Prelude.{◌≡◌, ◌↔◌, true, [], IfOk, OnErr};
-ghost use Rattle.mj_txn.specs.Commits.{Hold, CommitsAs, after_commit};
+ghost use Rattle.std.specs.Prelude.{◌≡◌, ◌↔◌, IfOk, OnErr};
+ghost use Rattle.mj_txn.specs.Commits.{MayCommit, CommitsAs, after_commit};
 ghost use Rattle.mj_txn.specs.Testing.{outcome_of};
 ghost use Rattle.mj_txn.specs.declared.committing.Outcome.TheVariants as outcome;
 
@@ -25,22 +25,22 @@ pub enum Outcome {
 /// read, has the answer that it had, and otherwise the first read that has another answer is named. Where it is done all writes are made,
 /// and else none. The transaction itself stays as it is: what waits for its commit, and what a rollback gives back, is the caller's to do.
 pub fn commit(log: &TxLog, globals: &mut Globals) -> Result<Outcome, AllocError>
-    ensures outcome { IfOk result (λ r. CommitsAs log.now globals.old r) }
-    ensures exactly { IfOk result (λ r. (r ≡ outcome.Done) ↔ (log.now.serial ≡ true → Hold globals.old [] log.now.accesses)) }
-    ensures told { IfOk result (λ r. r ≡ outcome_of log.now globals.old) }
-    ensures globals { IfOk result (λ r. globals.new ≡ after_commit log.now globals.old r) }
-    ensures unchanged { OnErr result (globals.new ≡ globals.old) }
+    ensures outcome { IfOk result (λ r. CommitsAs log.now.transaction globals.old.content r) }
+    ensures exactly { IfOk result (λ r. (r ≡ outcome.Done) ↔ MayCommit log.now.transaction globals.old.content) }
+    ensures told { IfOk result (λ r. r ≡ outcome_of log.now.transaction globals.old.content) }
+    ensures globals { IfOk result (λ r. globals.new.content ≡ after_commit log.now.transaction globals.old.content r) }
+    ensures unchanged { OnErr result (globals.new.content ≡ globals.old.content) }
 {
     made(log, globals)
 }
 
-// The same, by what holds of what comes of it.
+// Commits, told by what holds of what comes of it.
 #[tactic(auto, using(crate::proofs::Replies::exact))]
 fn made(log: &TxLog, globals: &mut Globals) -> Result<Outcome, AllocError>
-    ensures outcome { IfOk result (λ r. CommitsAs log.now globals.old r) }
-    ensures exactly { IfOk result (λ r. (r ≡ outcome.Done) ↔ (log.now.serial ≡ true → Hold globals.old [] log.now.accesses)) }
-    ensures globals { IfOk result (λ r. globals.new ≡ after_commit log.now globals.old r) }
-    ensures unchanged { OnErr result (globals.new ≡ globals.old) }
+    ensures outcome { IfOk result (λ r. CommitsAs log.now.transaction globals.old.content r) }
+    ensures exactly { IfOk result (λ r. (r ≡ outcome.Done) ↔ MayCommit log.now.transaction globals.old.content) }
+    ensures globals { IfOk result (λ r. globals.new.content ≡ after_commit log.now.transaction globals.old.content r) }
+    ensures unchanged { OnErr result (globals.new.content ≡ globals.old.content) }
 {
     if log.is_serial() {
         if let Some(changed) = first_changed(log.allocator(), globals, log.entries())? {

@@ -1,7 +1,14 @@
 // The rows of the table of what is left out by name.
 
 ghost use Rattle.std.specs.Prelude.{◌≡◌, ◌&&◌, ◌||◌, IfOk, reverse, true};
-ghost use Rattle.mj_ast.specs.LeftOut.{StandsFor, IsBehindDevice, IsBehindInput, IsBehindLabel, IsBehindSerial, IsBehindTimeout, MayBeOperator, MayBeginCommand, MayBeginDestination, MayBeginName, MayBeginOutput, MayBeginRestartable, called as the_called, ends_in, has_dollar as the_dollar, is_at as the_at, is_bar as the_bar, is_bracket as the_bracket, is_caret as the_caret, is_close as the_close, is_colon as the_colon, is_comma as the_comma, is_comma_in, is_digits as the_digits, is_exponent, is_extract as the_extract, is_hash as the_hash, is_justify as the_justify, is_match as the_match, is_name as the_name, is_no_function, is_no_variable, is_open as the_open, is_order_name as the_order_name, is_plus as the_plus, is_query as the_query, is_slash as the_slash, is_star as the_star, is_transaction_word as the_transaction_word, is_two_dollars, is_unknown as the_unknown};
+ghost use Rattle.mj_ast.specs.LeftOut.{StandsFor, IsBehindDevice, IsBehindInput, IsBehindLabel, IsBehindSerial, IsBehindTimeout, MayBeOperator};
+ghost use Rattle.mj_ast.specs.LeftOut.{MayBeginCommand, MayBeginDestination, MayBeginName, MayBeginOutput, MayBeginRestartable, called as the_called, ends_in};
+ghost use Rattle.mj_ast.specs.LeftOut.{has_dollar as the_dollar, is_at as the_at, is_bar as the_bar, is_bracket as the_bracket, is_caret as the_caret};
+ghost use Rattle.mj_ast.specs.LeftOut.{is_close as the_close, is_colon as the_colon, is_comma as the_comma, is_comma_in, is_digits as the_digits, is_exponent};
+ghost use Rattle.mj_ast.specs.LeftOut.{is_extract as the_extract, is_hash as the_hash, is_justify as the_justify, is_match as the_match, is_name as the_name};
+ghost use Rattle.mj_ast.specs.LeftOut.{is_no_function, is_no_variable, is_open as the_open, is_order_name as the_order_name, is_plus as the_plus};
+ghost use Rattle.mj_ast.specs.LeftOut.{is_query as the_query, is_slash as the_slash, is_star as the_star, is_transaction_word as the_transaction_word};
+ghost use Rattle.mj_ast.specs.LeftOut.{is_two_dollars, is_unknown as the_unknown};
 ghost use Rattle.mj_lex.specs.Seen.{token_seen, tokens_seen};
 ghost use Rattle.mj_unsupported.specs.Fronts.{IsFront, Says, IsFraction, IsByReference, IsDeviceParameters, IsMnemonicSpace};
 

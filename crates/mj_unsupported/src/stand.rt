@@ -3,7 +3,8 @@
 ghost use Rattle.std.specs.Prelude.{◌≡◌, ◌⊎◌, IfOk, codes, true};
 ghost use Rattle.mj_ast.specs.declared.sign.Sign.TheVariants.{Caret, Close, Colon, Exclamation, Star, Underscore};
 ghost use Rattle.mj_ast.specs.Tokens.{Called, Signed, Special, Word};
-ghost use Rattle.mj_ast.specs.LeftOut.{IsBehindLabel, MayBeOperator, MayBeginActual, MayBeginCommand, MayBeginDestination, MayBeginName, MayBeginOperand, MayBeginOutput, MayStand, is_in_formals as in_formals};
+ghost use Rattle.mj_ast.specs.LeftOut.{IsBehindLabel, MayBeOperator, MayBeginActual, MayBeginCommand, MayBeginDestination, MayBeginName, MayBeginOperand};
+ghost use Rattle.mj_ast.specs.LeftOut.{MayBeginOutput, MayStand, is_in_formals as in_formals};
 ghost use Rattle.mj_lex.specs.Seen.{token_seen, tokens_seen};
 ghost use Rattle.mj_unsupported.specs.Fronts.{IsFront, IsProbe, Says};
 

@@ -1,7 +1,13 @@
 // Single tokens, and those at the ends of a list.
 
 ghost use Rattle.std.specs.Prelude.{◌≡◌, ◌∷◌, ◌++◌, ◌+◌, [], IfSome, MatchOption, length};
-ghost use Rattle.mj_ast.specs.LeftOut.{has_no_blank as has_none, has_dollar as the_dollar, is_at as the_at, is_bar as the_bar, is_blank_or_dot as the_blank_or_dot, is_blank_token, is_bracket as the_bracket, is_caret as the_caret, is_close as the_close, is_colon as the_colon, is_comma as the_comma, is_digits as the_digits, is_dollar as the_stray_dollar, is_dot as the_dot, is_hash as the_hash, is_label as the_label, is_negated_question as the_negated_question, is_open as the_open, is_open_or_comma as the_open_or_comma, is_plus as the_plus, is_question as the_question, is_slash as the_slash, is_star as the_star, is_word as the_word, starts, ends_in};
+ghost use Rattle.mj_ast.specs.LeftOut.{has_no_blank as has_none, has_dollar as the_dollar, is_at as the_at, is_bar as the_bar};
+ghost use Rattle.mj_ast.specs.LeftOut.{is_blank_or_dot as the_blank_or_dot, is_blank_token, is_bracket as the_bracket, is_caret as the_caret};
+ghost use Rattle.mj_ast.specs.LeftOut.{is_close as the_close, is_colon as the_colon, is_comma as the_comma, is_digits as the_digits};
+ghost use Rattle.mj_ast.specs.LeftOut.{is_dollar as the_stray_dollar, is_dot as the_dot, is_hash as the_hash, is_label as the_label};
+ghost use Rattle.mj_ast.specs.LeftOut.{is_negated_question as the_negated_question, is_open as the_open, is_open_or_comma as the_open_or_comma};
+ghost use Rattle.mj_ast.specs.LeftOut.{is_plus as the_plus, is_question as the_question, is_slash as the_slash, is_star as the_star, is_word as the_word};
+ghost use Rattle.mj_ast.specs.LeftOut.{starts, ends_in};
 ghost use Rattle.mj_lex.specs.Seen.{token_seen, tokens_seen};
 ghost use Rattle.mj_unsupported.specs.Fronts.{seen_back};
 

@@ -1,7 +1,9 @@
 // Words that the profile has, and functions.
 
 ghost use Rattle.std.specs.Prelude.{◌≡◌, ◌∷◌, ◌+◌, ◌≤◌, MatchOption, Option, None, length, reverse, ℕ};
-ghost use Rattle.mj_ast.specs.LeftOut.{called as the_called, function_of as the_function, innermost as the_innermost, is_e as the_e, is_extract as the_extract, is_justify as the_justify, is_name as the_name, is_order as the_order, is_order_name as the_order_name, is_in_order, is_query as the_query, is_t as the_t, is_variable as the_variable, without_caret as the_rest};
+ghost use Rattle.mj_ast.specs.LeftOut.{called as the_called, function_of as the_function, innermost as the_innermost, is_e as the_e, is_extract as the_extract};
+ghost use Rattle.mj_ast.specs.LeftOut.{is_justify as the_justify, is_name as the_name, is_order as the_order, is_order_name as the_order_name, is_in_order};
+ghost use Rattle.mj_ast.specs.LeftOut.{is_query as the_query, is_t as the_t, is_variable as the_variable, without_caret as the_rest};
 ghost use Rattle.mj_ast.specs.Expressions.{is_named};
 ghost use Rattle.mj_lex.specs.Seen.{token_seen, tokens_seen};
 ghost use Rattle.mj_unsupported.specs.Fronts.{seen_back};

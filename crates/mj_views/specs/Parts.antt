@@ -9,4 +9,4 @@ abbrev pub stand_of : Standing → JobView
 stand_of job = record { frames = frames_of job.frames.items; locals = job.locals.now }
 
 abbrev pub viewed : Inside → Viewed
-viewed v = record { globals = v.globals; locks = v.locks; jobs = map stand_of v.jobs.items }
+viewed v = record { globals = v.globals.content; locks = v.locks.holds; jobs = map stand_of v.jobs.items }

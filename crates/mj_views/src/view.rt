@@ -42,7 +42,7 @@ impl Model for View {
 impl View {
     /// A view with these globals and locks, and no job.
     pub fn of(globals: &Globals, locks: &LockTable) -> Result<View, AllocError>
-        ensures { IfOk result (λ view. view ≡ record { globals = globals.now; locks = locks.now; jobs = [] }) }
+        ensures { IfOk result (λ view. view ≡ record { globals = globals.now.content; locks = locks.now.holds; jobs = [] }) }
     {
         let jobs = Vec::new(globals.allocator());
         let globals = globals.try_clone()?;
@@ -68,14 +68,14 @@ impl View {
 
     /// The committed globals.
     pub fn globals(&self) -> &Globals
-        ensures { result.now ≡ self.now.globals }
+        ensures { result.now.content ≡ self.now.globals }
     {
         &self.globals
     }
 
     /// Who holds which names.
     pub fn locks(&self) -> &LockTable
-        ensures { result.now ≡ self.now.locks }
+        ensures { result.now.holds ≡ self.now.locks }
     {
         &self.locks
     }

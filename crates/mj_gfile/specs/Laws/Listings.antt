@@ -394,7 +394,7 @@ pub lists_them : (bs : List ℕ) (r : Result Content ReadError) → IfOk r (λ g
 lists_them bs (Ok g) h = ((reading bs).lists g).0 h
 lists_them bs (Err e) h = tt
 
-pub lists_all : (bs : List ℕ) (r : Result Content ReadError) → IfErr r (λ e. (e ≡ error.Memory) ⊎ (reading_of bs ≡ Err e)) → (content : Content) → bs ≡ listing_of content → AreGlobals content
+pub lists_all : {A : Type 0} (bs : List ℕ) (r : Result A ReadError) → IfErr r (λ e. (e ≡ error.Memory) ⊎ (reading_of bs ≡ Err e)) → (content : Content) → bs ≡ listing_of content → AreGlobals content
     → IfErr r (λ e. e ≡ error.Memory)
 lists_all bs (Ok g) h content is are = tt
 lists_all bs (Err e) h content is are = by h (((reading bs).lists content).1 (is, are))

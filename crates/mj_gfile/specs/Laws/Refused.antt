@@ -258,7 +258,7 @@ pub refusal : (bytes : List ℕ) (x : ReadError) → reading_of bytes ≡ Err x 
 refusal bytes x h = headed_refused bytes x (lines_of bytes) refl h
 
 -- what a call gives that reads so
-pub refuses_it : (bytes : List ℕ) (r : Result Content ReadError) → IfErr r (λ e. (e ≡ error.Memory) ⊎ (reading_of bytes ≡ Err e)) → IfErr r (IsListingRefused bytes)
+pub refuses_it : {A : Type 0} (bytes : List ℕ) (r : Result A ReadError) → IfErr r (λ e. (e ≡ error.Memory) ⊎ (reading_of bytes ≡ Err e)) → IfErr r (IsListingRefused bytes)
 refuses_it bytes (Ok g) h = tt
 refuses_it bytes (Err e) h = by h
   where

@@ -18,7 +18,7 @@ use Rattle.mj_trace.specs.declared.refusal.TraceError.{TraceError}
 use Rattle.mj_trace.specs.declared.refusal.TraceError.TheVariants as errors
 use Rattle.mj_trace.specs.Trace.{Traced, header, trace_text}
 use Rattle.mj_trace.specs.Lines.{piece_text, is_piece, piece_of, events_limit, is_full, stands_behind, last_device, may_start, may_follow, with_piece, followed_by, then_more, lines_from, no_lines, headed, reading_of}
-use Rattle.mj_trace.specs.Sized.{is_count, ask_fits, reply_fits, IsSized}
+use Rattle.mj_trace.specs.Sized.{is_count, device_count_fits, event_fits, IsSized}
 use Rattle.mj_trace.specs.Refused.{IsBegun, line_count, is_sized, IsNoLine, IsOneTooMany, IsFirst, IsTraceRefused, HasOneReason}
 use Rattle.mj_trace.specs.Laws.Spelled.{piece_said, text_added, IsFront, front_added, trace_of_front, none_yet}
 use Rattle.mj_trace.specs.Laws.Within.{entry_within, event_within, device_line_within}
@@ -70,13 +70,13 @@ begun_more t (pieces.Event job ask reply) may = inr (by (is_empty t.starts) may)
 
 sized_more : (t : Traced) (p : Piece) → IsSized t → is_sized p ≡ true → IsSized (with_piece t p)
 sized_more t (pieces.Device name count) s fit = record {
-  devices = list_all-append (λ d. is_text d.0 && is_count d.1) t.pool ((name, count) ∷ []) ∙ (λ i. s.devices i && (fit i && true));
+  devices = list_all-append device_count_fits t.pool ((name, count) ∷ []) ∙ (λ i. s.devices i && (fit i && true));
   events = s.events;
 }
 sized_more t (pieces.Start entry) s fit = record { devices = s.devices; events = s.events }
 sized_more t (pieces.Event job ask reply) s fit = record {
   devices = s.devices;
-  events = list_all-append (λ e. is_count e.0 && ask_fits e.1 && reply_fits e.2) t.events ((job, ask, reply) ∷ []) ∙ (λ i. s.events i && (fit i && true));
+  events = list_all-append event_fits t.events ((job, ask, reply) ∷ []) ∙ (λ i. s.events i && (fit i && true));
 }
 
 count_more : (t : Traced) (p : Piece) → line_count (with_piece t p) ≡ line_count t + 1

@@ -26,7 +26,7 @@ use Rattle.mj_trace.specs.Spelling.{ask_text, reply_text, event_text}
 use Rattle.mj_trace.specs.Trace.{Traced, header, pool_line, pool_lines, start_line, start_lines, event_lines, trace_text}
 use Rattle.mj_trace.specs.Reading.{onward, front, behind_bytes}
 use Rattle.mj_trace.specs.Lines.{piece_text, are_told, is_event, is_piece, event_piece, asked, event_in, counted, piece_with, piece_in, respelled, piece_of, starts_limit, events_limit, is_before, stands_behind, last_device, principal, may_start, may_follow, with_piece, followed_by, then_more, lines_from, no_lines, headed, reading_of, rises, IsTrace}
-use Rattle.mj_trace.specs.Sized.{is_count, ask_fits, reply_fits, IsSized}
+use Rattle.mj_trace.specs.Sized.{is_count, ask_fits, reply_fits, device_count_fits, event_fits, IsSized}
 use Rattle.mj_trace.specs.Refused.{IsBegun, line_count}
 use Rattle.mj_trace.specs.Laws.Spelled.{last_pushed, one_longer}
 use Rattle.mj_trace.specs.Laws.Found.{number_bytes, count_found, text_found}
@@ -104,22 +104,18 @@ follows t k p rest within few found may =
     ∙ ap (λ o. then_more more (followed_by t k o)) found
     ∙ ap (λ b. then_more more (cond b (Ok (with_piece t p)) (Err (errors.Line k)))) may
 
-is_sized_event : ℕ × Ask × Reply → Bool
-is_sized_event e = is_count e.0 && ask_fits e.1 && reply_fits e.2
-
 abbrev at : List (List ℕ × ℕ) → List Entry → List (ℕ × Ask × Reply) → Traced
 at pool starts events = record { pool = pool; starts = starts; events = events }
 
 -- behind the lines of events it goes on with what follows
 events_on : (pool : List (List ℕ × ℕ)) (starts : List Entry) (acc : List (ℕ × Ask × Reply)) (k : ℕ) (es : List (ℕ × Ask × Reply)) (rest : List ℕ) → is_empty starts ≡ false
-    → list_all is_event es ≡ true → list_all is_sized_event es ≡ true → length acc + length es ≤ events_limit
+    → list_all is_event es ≡ true → list_all event_fits es ≡ true → length acc + length es ≤ events_limit
     → lines_from (at pool starts acc) k (lines_of (event_lines es ++ rest)) ≡ lines_from (at pool starts (acc ++ es)) (k + length es) (lines_of rest)
-unfolding is_sized_event
 events_on pool starts acc k [] rest some can fit few =
     let same : k ≡ k + length {A = ℕ × Ask × Reply} [] = omega arith in λ i. lines_from (at pool starts (sym (append-nil acc) i)) (same i) (lines_of rest)
 events_on pool starts acc k ((job, a, r) ∷ es) rest some can fit few =
     let p = both_true (are_told a r) (list_all is_event es) can in
-    let q = both_true (is_count job && ask_fits a && reply_fits r) (list_all is_sized_event es) fit in
+    let q = both_true (is_count job && ask_fits a && reply_fits r) (list_all event_fits es) fit in
     let w = written job a r p.0 q.0 in
     let same : suc k + length es ≡ k + length {A = ℕ × Ask × Reply} ((job, a, r) ∷ es) = omega arith in
     ap (λ l. lines_from (at pool starts acc) k (lines_of l)) (append_assoc (event_text job a r) (10 ∷ event_lines es) rest)
@@ -154,17 +150,14 @@ rises_behind (c ∷ []) name count ds h = (both_true (is_before c.0 name) (rises
 rises_behind (c ∷ e ∷ acc) name count ds h =
     ap (λ l. stands_behind l name) (last_pushed c e acc) ∙ rises_behind (e ∷ acc) name count ds (both_true (is_before c.0 e.0) (rises ((e ∷ acc) ++ (name, count) ∷ ds)) h).1
 
-is_sized_device : List ℕ × ℕ → Bool
-is_sized_device d = is_text d.0 && is_count d.1
-
 -- behind those of devices
-pool_on : (acc : List (List ℕ × ℕ)) (k : ℕ) (ds : List (List ℕ × ℕ)) (rest : List ℕ) → rises (acc ++ ds) ≡ true → list_all is_sized_device ds ≡ true
+pool_on : (acc : List (List ℕ × ℕ)) (k : ℕ) (ds : List (List ℕ × ℕ)) (rest : List ℕ) → rises (acc ++ ds) ≡ true → list_all device_count_fits ds ≡ true
     → lines_from (at acc [] []) k (lines_of (pool_lines ds ++ rest)) ≡ lines_from (at (acc ++ ds) [] []) (k + length ds) (lines_of rest)
-unfolding is_sized_device no_end
+unfolding no_end
 pool_on acc k [] rest up sized =
     let same : k ≡ k + length {A = List ℕ × ℕ} [] = omega arith in λ i. lines_from (at (sym (append-nil acc) i) [] []) (same i) (lines_of rest)
 pool_on acc k ((name, count) ∷ ds) rest up sized =
-    let p = both_true (is_text name && is_count count) (list_all is_sized_device ds) sized in
+    let p = both_true (is_text name && is_count count) (list_all device_count_fits ds) sized in
     let q = both_true (is_text name) (is_count count) p.0 in
     let more = append_assoc acc ((name, count) ∷ []) ds in
     let same : suc k + length ds ≡ k + length {A = List ℕ × ℕ} ((name, count) ∷ ds) = omega arith in
@@ -183,7 +176,7 @@ text_behind t rest =
 
 -- behind a trace as far as it goes, within the limits, it goes on with what follows
 pub trace_on : (t : Traced) → IsBegun t → IsSized t → (rest : List ℕ) → reading_of (trace_text t ++ rest) ≡ lines_from t (line_count t + 1) (lines_of rest)
-unfolding no_end is_sized_device is_sized_event
+unfolding no_end
 trace_on t h k rest =
     ap reading_of (text_behind t rest)
     ∙ ap headed (line_first header (pool_lines t.pool ++ (start_lines t.starts ++ (event_lines t.events ++ rest))) refl)

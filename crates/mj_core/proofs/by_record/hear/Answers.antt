@@ -39,5 +39,5 @@ returns-in-Ok-Some c =
       in_time c.args.ask.now c.args.late c.args.reply.now (sym c.is_early.ensures ∙ c.if-is_early.false),
       (λ log all. subst (H log) c.in-Ok-Some.field-0-is (c.in-Ok-Some.ensures.heard log all)),
       (λ s name has held. held),
-      ((λ of. refl), tt),
+      (λ log all. ((λ of. refl), tt)),
     )

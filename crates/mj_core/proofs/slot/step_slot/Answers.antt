@@ -24,7 +24,7 @@ ask-requires-clause-asks g c =
     let tied : IsTied ans image opening system s.claim s.job s.answerer = subst P (sym c.slot.view_is) c.requires.tied in
     let start = start_in s.claim.job s.claim.start in
     ap is_some (needed image start c.advance.new.self.run (let T : Turn → Type 0 = λ t. AdvanceTells (routines_of image) start t c.advance.new.self.run in
-    subst T c.in-Ok-Asks.field-0-is (c.in-Ok-Asks.ensures.told start tied.run))).1
+    subst T c.in-Ok-Asks.field-0-is (c.in-Ok-Asks.ensures.told start tied.own.run))).1
 
 pub returns-in-Ok-Ran-clause-gives : goal.returns-in-Ok-Ran-clause-gives
 returns-in-Ok-Ran-clause-gives g c =
@@ -43,7 +43,7 @@ returns-in-Ok-Ran-clause-gives g c =
     rw (← c.slot.view_is) (
       counted,
       subst Q c.advance.ensures.log (let T : Turn → Type 0 = λ t. AdvanceTells (routines_of image) start t c.advance.new.self.run in
-          subst T c.in-Ok-Ran.field-0-is (c.in-Ok-Ran.ensures.told start tied.run)),
+          subst T c.in-Ok-Ran.field-0-is (c.in-Ok-Ran.ensures.told start tied.own.run)),
       refl,
       c.advance.ensures.log,
       (λ name has is. is),
@@ -62,7 +62,7 @@ returns-in-Ok-Ended-clause-gives g c =
     let Q : Log → Type 0 = λ l. HasEnded (routines_of image) start l in
     rw (← c.slot.view_is) (
       subst Q c.advance.ensures.log (let T : Turn → Type 0 = λ t. AdvanceTells (routines_of image) start t c.advance.new.self.run in
-          subst T c.in-Ok-Ended.field-0-is (c.in-Ok-Ended.ensures.told start tied.run)),
+          subst T c.in-Ok-Ended.field-0-is (c.in-Ok-Ended.ensures.told start tied.own.run)),
       refl,
       (
         c.advance.ensures.log,
@@ -86,10 +86,10 @@ returns-in-Ok-Asks-clause-gives g c =
     let start = start_in s.claim.job s.claim.start in
     let n =
     needed image start c.advance.new.self.run (let T : Turn → Type 0 = λ t. AdvanceTells (routines_of image) start t c.advance.new.self.run in
-    subst T c.in-Ok-Asks.field-0-is (c.in-Ok-Asks.ensures.told start tied.run)) in
+    subst T c.in-Ok-Asks.field-0-is (c.in-Ok-Asks.ensures.told start tied.own.run)) in
     rw (← c.slot.view_is)
     (stepped_ok ans image opening system c.ask.new.system s.claim c.ask.new.claim s.job c.advance.new.self c.ask.new.job s.answerer c.ask.new.answerer c.args.late (option_copied c.args.given)
-    tied (c.advance.ensures.run start tied.run) c.advance.ensures.log live n.0 n.1 n.2
+    tied (c.advance.ensures.run start tied.own.run) c.advance.ensures.log live n.0 n.1 n.2
     (let U : Turn → Type 0 = λ t. c.advance.new.self.run.spent ≡ spent_after {E = AllocError} (Ok t) 10000 s.job.run.spent in subst U c.in-Ok-Asks.field-0-is c.in-Ok-Asks.ensures.spent)
     c.ask.result c.ask.ensures.ok)
 
@@ -107,10 +107,10 @@ returns-in-Ok-Asks-clause-refused g c =
     let start = start_in s.claim.job s.claim.start in
     let n =
     needed image start c.advance.new.self.run (let T : Turn → Type 0 = λ t. AdvanceTells (routines_of image) start t c.advance.new.self.run in
-    subst T c.in-Ok-Asks.field-0-is (c.in-Ok-Asks.ensures.told start tied.run)) in
+    subst T c.in-Ok-Asks.field-0-is (c.in-Ok-Asks.ensures.told start tied.own.run)) in
     rw (← c.slot.view_is)
     (stepped_err ans image opening system c.ask.new.system s.claim c.ask.new.claim s.job c.advance.new.self c.ask.new.job s.answerer c.ask.new.answerer c.args.late (option_copied c.args.given)
-    tied (c.advance.ensures.run start tied.run) c.advance.ensures.log live n.0 n.1 n.2
+    tied (c.advance.ensures.run start tied.own.run) c.advance.ensures.log live n.0 n.1 n.2
     (let U : Turn → Type 0 = λ t. c.advance.new.self.run.spent ≡ spent_after {E = AllocError} (Ok t) 10000 s.job.run.spent in subst U c.in-Ok-Asks.field-0-is c.in-Ok-Asks.ensures.spent)
     c.ask.result c.ask.ensures.refused)
 
@@ -128,10 +128,10 @@ returns-in-Ok-Asks-clause-kept g c =
     let start = start_in s.claim.job s.claim.start in
     let n =
     needed image start c.advance.new.self.run (let T : Turn → Type 0 = λ t. AdvanceTells (routines_of image) start t c.advance.new.self.run in
-    subst T c.in-Ok-Asks.field-0-is (c.in-Ok-Asks.ensures.told start tied.run)) in
+    subst T c.in-Ok-Asks.field-0-is (c.in-Ok-Asks.ensures.told start tied.own.run)) in
     rw (← c.slot.view_is)
     (stepped_still ans image opening system c.ask.new.system s.claim c.ask.new.claim s.job c.advance.new.self c.ask.new.job s.answerer c.ask.new.answerer c.args.late (option_copied c.args.given)
-    tied (c.advance.ensures.run start tied.run) c.advance.ensures.log live n.0 n.1 n.2
+    tied (c.advance.ensures.run start tied.own.run) c.advance.ensures.log live n.0 n.1 n.2
     (let U : Turn → Type 0 = λ t. c.advance.new.self.run.spent ≡ spent_after {E = AllocError} (Ok t) 10000 s.job.run.spent in subst U c.in-Ok-Asks.field-0-is c.in-Ok-Asks.ensures.spent)
     c.ask.result c.ask.ensures.kept)
 
@@ -149,8 +149,8 @@ returns-in-Ok-Asks-clause-tied g c =
     let start = start_in s.claim.job s.claim.start in
     let n =
     needed image start c.advance.new.self.run (let T : Turn → Type 0 = λ t. AdvanceTells (routines_of image) start t c.advance.new.self.run in
-    subst T c.in-Ok-Asks.field-0-is (c.in-Ok-Asks.ensures.told start tied.run)) in
+    subst T c.in-Ok-Asks.field-0-is (c.in-Ok-Asks.ensures.told start tied.own.run)) in
     stepped_tied ans image opening system c.ask.new.system s.claim c.ask.new.claim s.job c.advance.new.self c.ask.new.job s.answerer c.ask.new.answerer c.args.late (option_copied c.args.given)
-    tied (c.advance.ensures.run start tied.run) c.advance.ensures.log live n.0 n.1 n.2
+    tied (c.advance.ensures.run start tied.own.run) c.advance.ensures.log live n.0 n.1 n.2
     (let U : Turn → Type 0 = λ t. c.advance.new.self.run.spent ≡ spent_after {E = AllocError} (Ok t) 10000 s.job.run.spent in subst U c.in-Ok-Asks.field-0-is c.in-Ok-Asks.ensures.spent)
     c.ask.result c.ask.ensures.ok c.ask.ensures.kept

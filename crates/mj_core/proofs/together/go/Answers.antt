@@ -7,8 +7,8 @@ use Rattle.mj_jobs.specs.Rows.{IsLive}
 use Rattle.mj_sys.specs.History.{state_of}
 use Rattle.mj_core.specs.declared.happened.Happened.{Happened}
 use Rattle.mj_core.specs.declared.seen.Seen.TheVariants as seen
-use Rattle.mj_core.specs.declared.slot.Made.{Made}
-use Rattle.mj_core.specs.declared.slot.Made.TheVariants as made
+use Rattle.mj_core.specs.declared.parts.Made.{Made}
+use Rattle.mj_core.specs.declared.parts.Made.TheVariants as made
 use Rattle.mj_core.specs.Gives as gives
 use Rattle.mj_core.specs.Ties.{Placed, Steps}
 use Rattle.mj_core.specs.Kept.{AreKept, shown}

@@ -5,4 +5,4 @@ use Rattle.mj_dialogue.proofs.shows.lock_lines.Given as goal
 
 -- the lines so far, and those of what is left, are all
 abbrev pub invariant-loop-job : goal.invariant-loop-job
-invariant-loop-job l = held_lines l.fn.locks ≡ l.bytes.items ++ listed (drop l.job-index l.job-items)
+invariant-loop-job l = held_lines l.fn.locks.holds ≡ l.bytes.items ++ listed (drop l.job-index l.job-items)

@@ -7,11 +7,11 @@ use Rattle.mj_globs.proofs.all.exchange.Goals as goal
 
 pub returns-in-Ok-clause-before : goal.returns-in-Ok-clause-before
 returns-in-Ok-clause-before c =
-    undone_written name_cmp name_cmp_total c.args.name c.in_ok-before.before c.args.text.now c.args.globals.now c.set.new.self c.rises.ensures c.in_ok-before.ensures c.in_ok-set.ensures.ok
-    c.args.log.now.items c.push.new.self.items c.in-Ok.ensures.items
+    undone_written name_cmp name_cmp_total c.args.name c.in_ok-before.before c.args.text.now c.args.globals.now.content c.set.new.self.content c.rises.ensures
+    c.in_ok-before.ensures c.in_ok-set.ensures.ok c.args.log.now.items c.push.new.self.items c.in-Ok.ensures.items
 
 pub returns-in-Err-clause-before : goal.returns-in-Err-clause-before
 returns-in-Err-clause-before c =
-    undone_refused name_cmp name_cmp_total c.args.name c.in_ok-before.before c.args.text.now c.args.globals.now c.set.new.self c.rises.ensures c.in_ok-before.ensures c.in_ok-set.ensures.ok
-    c.args.log.now.items c.push.new.self.items c.restore.new.self c.in-Err.ensures.items
-    (c.restore.ensures ∙ (λ i. restored name_cmp (c.in-Err.ensures.value_returned i).0 (c.in-Err.ensures.value_returned i).1 c.set.new.self))
+    undone_refused name_cmp name_cmp_total c.args.name c.in_ok-before.before c.args.text.now c.args.globals.now.content c.set.new.self.content c.rises.ensures
+    c.in_ok-before.ensures c.in_ok-set.ensures.ok c.args.log.now.items c.push.new.self.items c.restore.new.self.content c.in-Err.ensures.items
+    (c.restore.ensures ∙ (λ i. restored name_cmp (c.in-Err.ensures.value_returned i).0 (c.in-Err.ensures.value_returned i).1 c.set.new.self.content))

@@ -7,6 +7,6 @@ use Rattle.mj_globs.proofs.all.give_all.Given as goal
 -- the store holds what the changes so far give, and the log leads back
 abbrev pub invariant-loop-change : goal.invariant-loop-change
 invariant-loop-change l = record {
-  content : l.globals ≡ all_given l.fn.globals (take l.change-index l.changes);
-  before : undone name_cmp l.log.items l.globals ≡ undone name_cmp l.fn.log.items l.fn.globals;
+  content : l.globals.content ≡ all_given l.fn.globals.content (take l.change-index l.changes);
+  before : undone name_cmp l.log.items l.globals.content ≡ undone name_cmp l.fn.log.items l.fn.globals.content;
 }

@@ -7,6 +7,6 @@ use Rattle.mj_globs.proofs.all.give_nodes.Given as goal
 -- the store holds what the nodes so far give, and the log leads back
 abbrev pub invariant-loop-node : goal.invariant-loop-node
 invariant-loop-node l = record {
-  content : l.globals ≡ after_put l.fn.globals l.name (take l.node-index l.nodes);
-  before : undone name_cmp l.log.items l.globals ≡ undone name_cmp l.fn.log.items l.fn.globals;
+  content : l.globals.content ≡ after_put l.fn.globals.content l.name (take l.node-index l.nodes);
+  before : undone name_cmp l.log.items l.globals.content ≡ undone name_cmp l.fn.log.items l.fn.globals.content;
 }

@@ -5,7 +5,7 @@ use Rattle.mj_globs.proofs.all.undo.Given as goal
 
 -- what is left of the log leaves what the whole log leaves
 abbrev pub invariant-loop-name : goal.invariant-loop-name
-invariant-loop-name l = undone name_cmp l.left.items l.globals ≡ undone name_cmp l.fn.log.items l.fn.globals
+invariant-loop-name l = undone name_cmp l.left.items l.globals.content ≡ undone name_cmp l.fn.log.items l.fn.globals.content
 
 abbrev pub decreases-loop-name : goal.decreases-loop-name
 decreases-loop-name l = length l.left.items

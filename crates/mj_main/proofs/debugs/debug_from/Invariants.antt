@@ -3,4 +3,4 @@ use Rattle.mj_main.proofs.debugs.debug_from.Given as goal
 
 -- the opening is that of what the run begins with
 abbrev pub ghosts-with_files : goal.ghosts-with_files
-ghosts-with_files g a = record { opening = opening_of a.globals a.pool a.starts.items }
+ghosts-with_files g a = record { opening = opening_of a.globals.content a.pool a.starts.items }

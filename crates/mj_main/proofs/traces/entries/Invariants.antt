@@ -1,5 +1,5 @@
 use Rattle.std.proofs.Common.{◌≡◌, take}
-use Rattle.mj_main.specs.Traced.{entries_of}
+use Rattle.mj_recorded.specs.Traces.{entries_of}
 use Rattle.mj_main.proofs.traces.entries.Given as goal
 
 -- those of the starts up to here

@@ -1,9 +1,13 @@
-use Rattle.std.proofs.Common.{sym}
-use Rattle.mj_main.proofs.Lines.{lines_on}
+use Rattle.std.proofs.Common.{sym, ◌∙◌}
+use Rattle.mj_sys.specs.declared.event.Event.{Event}
+use Rattle.mj_main.proofs.Lines.{lines_on, fits_on}
 use Rattle.mj_main.proofs.traces.put_events.Goals as goal
 
 pub events-preserved : goal.events-preserved
 events-preserved g c =
-    lines_on c.args.core.now.history c.events.at c.events.bytes.items c.put_event.new.bytes.items _
-    (record { job = c.in-Some.job; ask = c.in-Some.ask.now; reply = c.in-Some.reply.now })
-    (sym c.in-Some.ensures) c.events.invariant c.in_ok-put_event.ensures
+    let e : Event = record { job = c.in-Some.job; ask = c.in-Some.ask.now; reply = c.in-Some.reply.now } in
+    let there = sym c.in-Some.ensures in
+    record {
+      lines = lines_on c.args.core.now.history c.events.at c.events.bytes.items c.put_event.new.bytes.items _ e there c.events.invariant.lines c.in_ok-put_event.ensures.text;
+      fits = fits_on c.args.core.now.history c.events.at e there c.in_ok-put_event.ensures.fits ∙ c.events.invariant.fits;
+    }

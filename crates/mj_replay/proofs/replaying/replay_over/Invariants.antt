@@ -3,4 +3,4 @@ use Rattle.mj_replay.proofs.replaying.replay_over.Given as goal
 
 -- the opening is that of these globals, devices and starts
 abbrev pub ghosts-replay : goal.ghosts-replay
-ghosts-replay a = record { opening = opening_of a.globals a.pool a.starts.items }
+ghosts-replay a = record { opening = opening_of a.globals.content a.pool a.starts.items }

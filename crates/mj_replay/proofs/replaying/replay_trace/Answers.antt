@@ -20,6 +20,9 @@ replay_over-requires-clause-few c = opened.few c.args.trace.now c.requires.writt
 pub replay_over-requires-clause-fits : goal.replay_over-requires-clause-fits
 replay_over-requires-clause-fits c = opened.fits c.args.trace.now c.requires.written c.in-Ok.pool c.in-Ok.starts.items c.in-Ok.ensures.pool c.in-Ok.ensures.starts
 
+pub replay_over-requires-clause-bare : goal.replay_over-requires-clause-bare
+replay_over-requires-clause-bare c = opened.bare c.args.trace.now c.requires.written c.in-Ok.pool c.in-Ok.starts.items c.in-Ok.ensures.pool c.in-Ok.ensures.starts
+
 pub replay_over-requires-clause-short : goal.replay_over-requires-clause-short
 replay_over-requires-clause-short c = subst (λ (events : List (ℕ × Ask × Reply)). length events ≤ history_limit) (sym c.events.ensures) c.requires.written.events_few
 
@@ -27,8 +30,8 @@ pub returns-in-Ok : goal.returns-in-Ok
 returns-in-Ok c =
     let image = routines_of c.args.image.now in
     let result = c.replay_over.result in
-    let opening = opening_in c.args.globals c.args.trace.now in
+    let opening = opening_in c.args.globals.content c.args.trace.now in
     let P : Shared → Type 0 = λ o. IfOk result (λ verdict. Says image o (history_of c.events.result.now) verdict) in
     let Q : List (ℕ × Ask × Reply) → Type 0 = λ events. IfOk result (λ verdict. Says image opening (history_of events) verdict) in
-    let same = opened.opens c.args.trace.now c.requires.written c.in-Ok.pool c.in-Ok.starts.items c.in-Ok.ensures.pool c.in-Ok.ensures.starts c.args.globals in
+    let same = opened.opens c.args.trace.now c.requires.written c.in-Ok.pool c.in-Ok.starts.items c.in-Ok.ensures.pool c.in-Ok.ensures.starts c.args.globals.content in
     subst Q c.events.ensures (subst P same c.replay_over.ensures)

@@ -1,7 +1,7 @@
 use Rattle.std.proofs.Common.{◌≡◌, ◌++◌, map, drop}
-use Rattle.mj_replay.specs.Traces.{start_at}
+use Rattle.mj_replay.specs.Traces.{bare_start}
 use Rattle.mj_replay.proofs.replaying.starts_of.Given as goal
 
 -- with those that are left it is the starts of all
 abbrev pub invariant-loop-entry : goal.invariant-loop-entry
-invariant-loop-entry l = record { left : l.starts.items ++ map start_at (drop l.entry-index l.entries) ≡ map start_at l.entries }
+invariant-loop-entry l = record { left : l.starts.items ++ map bare_start (drop l.entry-index l.entries) ≡ map bare_start l.entries }

@@ -3,7 +3,9 @@ use Rattle.mj_serial.proofs.Cores.{is_serial, all_must}
 use Rattle.mj_serial.proofs.laws.holds.Goals as goal
 
 pub returns-clause-serial : goal.returns-clause-serial
-returns-clause-serial g c = λ none. is_serial (routines_of c.args.core.now.image) g.O.Opening.opening c.args.core.now.history none c.len-run.ensures.run
+returns-clause-serial g c =
+    is_serial (routines_of c.args.core.now.image) g.O.Opening.opening c.args.core.now.history c.len-run.ensures.none_open c.len-run.ensures.run
 
 pub returns-clause-clashes : goal.returns-clause-clashes
-returns-clause-clashes g c = all_must (routines_of c.args.core.now.image) g.O.Opening.opening c.args.core.now.history c.len-run.ensures.run
+returns-clause-clashes g c =
+    all_must (routines_of c.args.core.now.image) g.O.Opening.opening c.args.core.now.history c.len-run.ensures.run c.len-run.ensures.none_open

@@ -1,5 +1,6 @@
 use Rattle.std.proofs.Common.{◌≡◌, ◌≤◌, replicate, None}
+use Rattle.mj_sys.specs.Transactions.{all_logged}
 use Rattle.mj_sys.proofs.transactions.none_open.Given as goal
 
 abbrev pub invariant-loop : goal.invariant-loop
-invariant-loop l = (l.logs.items ≡ replicate l.counter None) × (l.counter ≤ l.rows)
+invariant-loop l = (all_logged l.logs.items ≡ replicate l.counter None) × (l.counter ≤ l.rows)

@@ -9,6 +9,6 @@ returns-in-Err-clause-unchanged c =
     let names = c.args.names.now in (
       c.give.ensures.after
           ∙ ap (λ (l : Locks). after_give l c.args.job names) c.in_ok-try_take.ensures.after
-          ∙ given_after c.args.locks.now c.args.job names c.keeps.ensures (sym c.in_ok-try_take.ensures.answer ∙ c.in-Got.is),
+          ∙ given_after c.args.locks.now.holds c.args.job names c.keeps.ensures (sym c.in_ok-try_take.ensures.answer ∙ c.in-Got.is),
       c.in-Err.ensures.unchanged,
     )

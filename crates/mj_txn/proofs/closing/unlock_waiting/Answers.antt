@@ -9,4 +9,4 @@ loop-entry-preserved c =
     let entry = c.entry-item.result in
     c.unlock_by.ensures
     ∙ ap (λ (l : Locks). unlocked l c.args.job (entry ∷ [])) c.loop-entry.invariant
-    ∙ sym (unlocked_next c.args.locks.now c.args.job c.args.entries.now c.loop-entry.entry-index entry c.loop-entry-test.true c.entry-item.is)
+    ∙ sym (unlocked_next c.args.locks.now.holds c.args.job c.args.entries.now c.loop-entry.entry-index entry c.loop-entry-test.true c.entry-item.is)

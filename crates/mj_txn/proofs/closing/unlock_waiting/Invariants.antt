@@ -4,4 +4,4 @@ use Rattle.mj_txn.proofs.closing.unlock_waiting.Given as goal
 
 -- the unlocks so far are made
 abbrev pub invariant-loop-entry : goal.invariant-loop-entry
-invariant-loop-entry l = l.locks ≡ unlocked l.initial.locks l.job (take l.entry-index l.entries)
+invariant-loop-entry l = l.locks.holds ≡ unlocked l.initial.locks.holds l.job (take l.entry-index l.entries)

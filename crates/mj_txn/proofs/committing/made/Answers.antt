@@ -12,21 +12,23 @@ use Rattle.mj_txn.proofs.committing.made.Goals as goal
 
 pub returns-in-Some-clause-exactly : goal.returns-in-Some-clause-exactly
 returns-in-Some-clause-exactly c =
-    exact c.args.log.now c.args.globals.now (outcome.Clash c.in-Some.changed) (
+    exact c.args.log.now.transaction c.args.globals.now.content (outcome.Clash c.in-Some.changed) (
       sym c.if-is_serial.ensures,
-      subst (λ (xs : Accesses). Differs c.args.globals.now xs c.in-Some.changed.place c.in-Some.changed.«then» c.in-Some.changed.now) c.entries.ensures.value
-          (told_some (Hold c.args.globals.now [] c.entries.result.now) (λ (d : Changed). Differs c.args.globals.now c.entries.result.now d.place d.«then» d.now) c.in_ok-changed.field-0 c.in-Some.changed c.in_ok-changed.ensures c.in-Some.is),
+      subst (λ (xs : Accesses). Differs c.args.globals.now.content xs c.in-Some.changed.place c.in-Some.changed.«then» c.in-Some.changed.now) c.entries.ensures.value
+          (told_some (Hold c.args.globals.now.content [] c.entries.result.now) (λ (d : Changed). Differs c.args.globals.now.content c.entries.result.now d.place d.«then» d.now)
+          c.in_ok-changed.field-0 c.in-Some.changed c.in_ok-changed.ensures c.in-Some.is),
     )
 
 pub returns-in-Ok-clause-globals : goal.returns-in-Ok-clause-globals
 returns-in-Ok-clause-globals c =
     c.in-Ok.ensures.ok
-    ∙ ap (after_changes c.args.globals.now) (c.deref.ensures.value ∙ c.in_ok-changes.ensures ∙ ap changes_of c.entries-2.ensures.value)
-    ∙ changes_seen c.args.log.now.accesses c.args.globals.now
+    ∙ ap (after_changes c.args.globals.now.content) (c.deref.ensures.value ∙ c.in_ok-changes.ensures ∙ ap changes_of c.entries-2.ensures.value)
+    ∙ changes_seen c.args.log.now.transaction.accesses c.args.globals.now.content
 
 pub unreachable-requires : goal.unreachable-requires
 unreachable-requires c =
-    let none : list_any goes_too_deep c.deref.result.now ≡ false = ap (list_any goes_too_deep) (c.deref.ensures.value ∙ c.in_ok-changes.ensures ∙ ap changes_of c.entries-2.ensures.value) ∙ none_deep c.args.log.now.accesses in
+    let none : list_any goes_too_deep c.deref.result.now ≡ false =
+    ap (list_any goes_too_deep) (c.deref.ensures.value ∙ c.in_ok-changes.ensures ∙ ap changes_of c.entries-2.ensures.value) ∙ none_deep c.args.log.now.transaction.accesses in
     let memory : c.in-Err-Fault.field-0 ≡ failure.Memory = c.in-Err-Fault.ensures.error ∙ ap (λ b. if b then failure.Fault fault.Limit else failure.Memory) none in
     let fault : c.in-Err-Fault.field-0 ≡ failure.Fault c.in-Err-Fault.field-0-0 = c.in-Err-Fault.field-0-is in
     cc (memory, fault)

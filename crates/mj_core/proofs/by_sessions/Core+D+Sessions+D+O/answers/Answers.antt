@@ -7,4 +7,4 @@ loop-step-preserved g c =
     let l = c.loop-step in
     answered_on g.O.Opening.opening c.args.self.now l.self c.step-answer.new.self c.args.steps.now l.step-index l.answers.items c.push_reserved.new.self.items l.answers.cap
     c.push_reserved.new.self.cap
-    l.invariant (record { job = 0; way = ways.Go }) c.loop-step-test.true c.step-answer.result c.step-answer.ensures c.push_reserved.ensures.items c.push_reserved.ensures.capacity
+    l.invariant (record { job = 0; way = ways.Go }) c.loop-step-test.true c.step-answer.result c.step-answer.ensures.gives c.push_reserved.ensures.items c.push_reserved.ensures.capacity

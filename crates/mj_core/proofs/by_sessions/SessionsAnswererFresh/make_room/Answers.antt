@@ -1,4 +1,5 @@
 use Rattle.std.proofs.Common.{sym, ap, ◌∙◌, inr}
+use Rattle.mj_dev.specs.Told.{IsToldBy}
 use Rattle.mj_sessions.specs.Named.{session_of}
 use Rattle.mj_core.proofs.Serving.{stays_so, is_none}
 use Rattle.mj_core.proofs.by_sessions.SessionsAnswererFresh.make_room.Goals as goal
@@ -17,7 +18,11 @@ returns-in-Ok-clause-room g c = (
 )
 
 pub returns-in-Ok-clause-stays : goal.returns-in-Ok-clause-stays
-returns-in-Ok-clause-stays g c = stays_so c.args.self.now c.reserve.new.self c.reserve.ensures.sessions
+returns-in-Ok-clause-stays g c =
+    let tells = IsToldBy g.D.Device.inside g.D.Device.failures g.D.Device.taken g.D.Device.given g.D.Device.IsTold in
+    stays_so tells c.args.self.now c.reserve.new.self c.reserve.ensures.sessions
 
 pub returns-in-Err-clause-stays : goal.returns-in-Err-clause-stays
-returns-in-Err-clause-stays g c = stays_so c.args.self.now c.reserve.new.self c.reserve.ensures.sessions
+returns-in-Err-clause-stays g c =
+    let tells = IsToldBy g.D.Device.inside g.D.Device.failures g.D.Device.taken g.D.Device.given g.D.Device.IsTold in
+    stays_so tells c.args.self.now c.reserve.new.self c.reserve.ensures.sessions

@@ -1,5 +1,6 @@
-use Rattle.std.proofs.Common.{length, sym, ap, ◌∙◌, subst}
+use Rattle.std.proofs.Common.{◌≤◌, ℕ, length, sym, ap, ◌∙◌, subst}
 use Rattle.mj_load.specs.Image.{routines_of}
+use Rattle.mj_sys.specs.System.{history_limit}
 use Rattle.mj_core.specs.Runs.{IsRun}
 use Rattle.mj_core.specs.Shown.{Shown}
 use Rattle.mj_core.specs.Kept.{logs_of, claim_of}
@@ -12,6 +13,13 @@ returns-clause-value g c =
     let i = c.self.inside in
     let kept = c.self.invariant.0 in
     c.len.ensures ∙ c.self.inside.order.ok.0 ∙ sym (as_many (logs_of i.slots.items) i.order.items kept.there) ∙ ap (λ (s : Shown). length s.history) c.self.view_is
+
+pub returns-clause-within : goal.returns-clause-within
+returns-clause-within g c =
+    let i = c.self.inside in
+    let kept = c.self.invariant.0 in
+    let many = as_many (logs_of i.slots.items) i.order.items kept.there in
+    subst (λ (s : Shown). length s.history ≤ history_limit) c.self.view_is (subst (λ (n : ℕ). n ≤ history_limit) (sym many) kept.within)
 
 pub returns-clause-run : goal.returns-clause-run
 returns-clause-run g c =

@@ -4,6 +4,7 @@ use Rattle.std.specs.FinMap.{is_sorted}
 use Rattle.mj_subs.specs.Collation.{name_cmp}
 use Rattle.mj_store.specs.Questions.{Content}
 use Rattle.mj_globs.specs.Changes.{keeping}
+use Rattle.mj_globs.specs.Stamps.{Stamped}
 use Rattle.mj_globs.specs.Words.{spelled, of_both}
 use Rattle.mj_globs.proofs.Keeping.{both_kept, names_kept}
 use Rattle.mj_globs.proofs.globals.Globals.keep_words.Goals as goal
@@ -20,4 +21,4 @@ returns c =
     let gs = spelled c.self.inside.globals.entries in
     let ls = spelled c.self.inside.locals.entries in
     both_kept c.args.list.now gs ls (spelled c.keep.new.words.entries) (spelled c.keep-2.new.words.entries) c.keep.ensures.content c.keep-2.ensures.content
-    ∙ ap (λ (es : Content). keeping c.args.list.now es) c.self.view_is
+    ∙ ap (λ (v : Stamped). keeping c.args.list.now v.content) c.self.view_is

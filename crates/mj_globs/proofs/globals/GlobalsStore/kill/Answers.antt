@@ -4,6 +4,7 @@ use Rattle.std.specs.FinMap.{is_sorted}
 use Rattle.mj_subs.specs.Collation.{name_cmp}
 use Rattle.mj_store.specs.Questions.{Content}
 use Rattle.mj_store.specs.Changes.{after_kill}
+use Rattle.mj_globs.specs.Stamps.{Stamped}
 use Rattle.mj_globs.specs.Words.{spelled, name, of_kind, of_both}
 use Rattle.mj_globs.proofs.Both.{kill_globals, kill_locals, rises_kill}
 use Rattle.mj_globs.proofs.globals.GlobalsStore.kill.Goals as goal
@@ -22,7 +23,7 @@ pub returns-then-is_global : goal.returns-then-is_global
 returns-then-is_global c =
     (kill_globals (spelled c.self.inside.globals.entries) (spelled c.self.inside.locals.entries) c.args.name.now (spelled c.kill.new.words.entries) c.if-is_global.ensures
     (λ g. c.kill.ensures.content g ∙ (λ i. after_kill (of_kind g (spelled c.self.inside.globals.entries)) (name g (c.word.ensures i) (c.subscripts.ensures i)))))
-    ∙ ap (λ (es : Content). after_kill es c.args.name.now) c.self.view_is
+    ∙ ap (λ (v : Stamped). after_kill v.content c.args.name.now) c.self.view_is
 
 pub invariant_of-self-2 : goal.invariant_of-self-2
 invariant_of-self-2 c = (
@@ -38,4 +39,4 @@ pub returns : goal.returns
 returns c =
     (kill_locals (spelled c.self.inside.globals.entries) (spelled c.self.inside.locals.entries) c.args.name.now (spelled c.kill-2.new.words.entries) c.if-is_global.ensures
     (λ g. c.kill-2.ensures.content g ∙ (λ i. after_kill (of_kind g (spelled c.self.inside.locals.entries)) (name g (c.word-2.ensures i) (c.subscripts-2.ensures i)))))
-    ∙ ap (λ (es : Content). after_kill es c.args.name.now) c.self.view_is
+    ∙ ap (λ (v : Stamped). after_kill v.content c.args.name.now) c.self.view_is

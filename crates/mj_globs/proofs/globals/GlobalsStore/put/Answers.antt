@@ -1,9 +1,9 @@
 use Rattle.std.proofs.Common.{◌≡◌, ℕ, Bool, List, sym, ap, ◌∙◌, subst}
 use Rattle.std.specs.Prelude.{IsTrue, IfErr, if◌then◌else◌}
 use Rattle.std.proofs.lemmas.Result.{on_ok_weaker, on_err_weaker}
-use Rattle.mj_store.specs.Questions.{Content}
 use Rattle.mj_store.specs.Changes.{after_put}
 use Rattle.mj_tree.specs.Nest.{is_too_long}
+use Rattle.mj_globs.specs.Stamps.{Stamped}
 use Rattle.mj_globs.specs.Words.{Words, spelled, name, of_kind, of_both}
 use Rattle.mj_globs.proofs.Both.{put_globals, put_locals, rises_put, rises_either}
 use Rattle.mj_text.specs.declared.fault.Failure.TheVariants as failure
@@ -27,7 +27,7 @@ invariant_of-self c = (
 
 pub returns-then-is_global-clause-ok : goal.returns-then-is_global-clause-ok
 returns-then-is_global-clause-ok c =
-    on_ok_weaker c.put.result (λ e. e ∙ ap (λ (es : Content). after_put es c.args.name.now c.args.nodes.now) c.self.view_is)
+    on_ok_weaker c.put.result (λ e. e ∙ ap (λ (v : Stamped). after_put v.content c.args.name.now c.args.nodes.now) c.self.view_is)
     (on_ok_weaker c.put.result (λ (changed : (g : Bool) → of_kind g (spelled c.put.new.words.entries)
     ≡ after_put (of_kind g (spelled c.self.inside.globals.entries)) (name g c.word.result.now c.subscripts.result.now) c.args.nodes.now).
     put_globals (spelled c.self.inside.globals.entries) (spelled c.self.inside.locals.entries) c.args.name.now c.args.nodes.now (spelled c.put.new.words.entries) c.if-is_global.ensures
@@ -56,7 +56,7 @@ invariant_of-self-2 c = (
 
 pub returns-clause-ok : goal.returns-clause-ok
 returns-clause-ok c =
-    on_ok_weaker c.put-2.result (λ e. e ∙ ap (λ (es : Content). after_put es c.args.name.now c.args.nodes.now) c.self.view_is)
+    on_ok_weaker c.put-2.result (λ e. e ∙ ap (λ (v : Stamped). after_put v.content c.args.name.now c.args.nodes.now) c.self.view_is)
     (on_ok_weaker c.put-2.result (λ (changed : (g : Bool) → of_kind g (spelled c.put-2.new.words.entries)
     ≡ after_put (of_kind g (spelled c.self.inside.locals.entries)) (name g c.word-2.result.now c.subscripts-2.result.now) c.args.nodes.now).
     put_locals (spelled c.self.inside.globals.entries) (spelled c.self.inside.locals.entries) c.args.name.now c.args.nodes.now (spelled c.put-2.new.words.entries) c.if-is_global.ensures

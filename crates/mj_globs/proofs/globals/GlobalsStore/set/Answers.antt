@@ -1,7 +1,7 @@
 use Rattle.std.proofs.Common.{◌≡◌, Bool, ap, ◌∙◌}
 use Rattle.std.proofs.lemmas.Result.{on_ok_weaker, on_err_weaker}
-use Rattle.mj_store.specs.Questions.{Content}
 use Rattle.mj_store.specs.Changes.{after_set}
+use Rattle.mj_globs.specs.Stamps.{Stamped}
 use Rattle.mj_globs.specs.Words.{Words, spelled, name, of_kind, of_both}
 use Rattle.mj_globs.proofs.Both.{set_globals, set_locals, rises_set, rises_either}
 use Rattle.mj_globs.proofs.globals.GlobalsStore.set.Goals as goal
@@ -23,7 +23,7 @@ invariant_of-self c = (
 
 pub returns-then-is_global-clause-ok : goal.returns-then-is_global-clause-ok
 returns-then-is_global-clause-ok c =
-    on_ok_weaker c.set.result (λ e. e ∙ ap (λ (es : Content). after_set es c.args.name.now c.args.text.now) c.self.view_is)
+    on_ok_weaker c.set.result (λ e. e ∙ ap (λ (v : Stamped). after_set v.content c.args.name.now c.args.text.now) c.self.view_is)
     (on_ok_weaker c.set.result (λ (changed : (g : Bool) → of_kind g (spelled c.set.new.words.entries)
     ≡ after_set (of_kind g (spelled c.self.inside.globals.entries)) (name g c.word.result.now c.subscripts.result.now) c.args.text.now).
     set_globals (spelled c.self.inside.globals.entries) (spelled c.self.inside.locals.entries) c.args.name.now c.args.text.now (spelled c.set.new.words.entries) c.if-is_global.ensures
@@ -46,7 +46,7 @@ invariant_of-self-2 c = (
 
 pub returns-clause-ok : goal.returns-clause-ok
 returns-clause-ok c =
-    on_ok_weaker c.set-2.result (λ e. e ∙ ap (λ (es : Content). after_set es c.args.name.now c.args.text.now) c.self.view_is)
+    on_ok_weaker c.set-2.result (λ e. e ∙ ap (λ (v : Stamped). after_set v.content c.args.name.now c.args.text.now) c.self.view_is)
     (on_ok_weaker c.set-2.result (λ (changed : (g : Bool) → of_kind g (spelled c.set-2.new.words.entries)
     ≡ after_set (of_kind g (spelled c.self.inside.locals.entries)) (name g c.word-2.result.now c.subscripts-2.result.now) c.args.text.now).
     set_locals (spelled c.self.inside.globals.entries) (spelled c.self.inside.locals.entries) c.args.name.now c.args.text.now (spelled c.set-2.new.words.entries) c.if-is_global.ensures

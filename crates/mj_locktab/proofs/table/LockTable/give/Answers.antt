@@ -1,5 +1,6 @@
 use Rattle.std.proofs.Common.{◌≡◌, ap, ◌∙◌, sym, subst}
 use Rattle.mj_locktab.specs.Locks.{Locks, IsLockTable}
+use Rattle.mj_locktab.specs.Visits.{Visited}
 use Rattle.mj_locktab.specs.Changes.{FallsBy}
 use Rattle.mj_locktab.proofs.Counts.{falls}
 use Rattle.mj_locktab.proofs.Kept.{kept-after_give}
@@ -10,5 +11,5 @@ invariant_of-self c = subst IsLockTable (sym c.give_each.ensures) (kept-after_gi
 
 pub returns-clause-counts : goal.returns-clause-counts
 returns-clause-counts c =
-    subst (λ (l : Locks). FallsBy l c.args.job c.args.names.now c.give_each.new.held.items) c.self.view_is
+    subst (λ (v : Visited). FallsBy v.holds c.args.job c.args.names.now c.give_each.new.held.items) c.self.view_is
     (subst (λ (l : Locks). FallsBy c.self.inside.held.items c.args.job c.args.names.now l) (sym c.give_each.ensures) (falls c.self.inside.held.items c.args.job c.args.names.now))

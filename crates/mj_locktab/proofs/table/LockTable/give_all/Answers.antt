@@ -1,5 +1,6 @@
 use Rattle.std.proofs.Common.{◌≡◌, ap, ◌∙◌, sym, subst}
 use Rattle.mj_locktab.specs.Locks.{Locks, IsLockTable, count_of}
+use Rattle.mj_locktab.specs.Visits.{Visited}
 use Rattle.mj_locktab.specs.Changes.{IsWithout}
 use Rattle.mj_locktab.proofs.Counts.{without}
 use Rattle.mj_locktab.proofs.Kept.{kept-after_give_all}
@@ -10,5 +11,5 @@ invariant_of-self c = subst IsLockTable (sym c.give_all.ensures) (kept-after_giv
 
 pub returns-clause-counts : goal.returns-clause-counts
 returns-clause-counts c =
-    subst (λ (l : Locks). IsWithout l c.args.job c.give_all.new.held.items) c.self.view_is
+    subst (λ (v : Visited). IsWithout v.holds c.args.job c.give_all.new.held.items) c.self.view_is
     (subst (λ (l : Locks). IsWithout c.self.inside.held.items c.args.job l) (sym c.give_all.ensures) (without c.self.inside.held.items c.args.job))

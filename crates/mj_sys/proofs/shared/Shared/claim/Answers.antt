@@ -29,7 +29,7 @@ invariant_of-self-2 g c =
 pub returns-clause-state : goal.returns-clause-state
 returns-clause-state g c =
     let i = c.self.inside in
-    let of : Devices → List Row → Shared = λ d rows. record { globals = i.transacted.globals; locks = i.locks; devices = d; rows = rows; transactions = i.transacted.transactions } in
+    let of : Devices → List Row → Shared = λ d rows. record { globals = i.transacted.globals; locks = i.locks.holds; devices = d; rows = rows; transactions = i.transacted.transactions } in
     let rows = c.claim.new.self.rows in
     ap (λ l. of (devices_of i.principals l i.holders.items) rows) (c.in-Some-take.ensures.taken ∙ ap (λ n. after_take n i.pool) c.principal.ensures)
     ∙ ap (λ d. of d rows) (same_devices i.principals i.pool i.holders.items)

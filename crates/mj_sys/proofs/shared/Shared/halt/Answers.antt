@@ -39,12 +39,12 @@ returns g c =
       claimed = jobs.claimed;
     } in
     let of_devices : Devices → Service = λ d. record {
-      state = record { globals = i.transacted.globals; locks = after_give_all i.locks job; devices = d; rows = with_ended i.jobs.rows job; transactions = i.transacted.transactions };
+      state = record { globals = i.transacted.globals; locks = after_give_all i.locks.holds job; devices = d; rows = with_ended i.jobs.rows job; transactions = i.transacted.transactions };
       claimed = i.jobs.claimed;
     } in
     let ended : Rows = c.end.new.self in
     ap (λ locks. of locks (with_items i.holders c.release_all.new.holders).items ended) c.give_all.ensures.after
-    ∙ ap (λ l. of (after_give_all i.locks job) l ended) (holders_are g c)
-    ∙ ap (λ r. of (after_give_all i.locks job) (map (without job) i.holders.items) r) c.end.ensures
+    ∙ ap (λ l. of (after_give_all i.locks.holds job) l ended) (holders_are g c)
+    ∙ ap (λ r. of (after_give_all i.locks.holds job) (map (without job) i.holders.items) r) c.end.ensures
     ∙ ap (λ d. of_devices d) (sym (freed_all i.principals job i.pool i.holders.items))
     ∙ ap closing c.self.view_is

@@ -51,7 +51,7 @@ returns-in-None-take-clause-ok g c =
     let there : position (is_named a.name.now) i.pool ≡ Some at = sym c.place.ensures ∙ c.in-Some.is in
     let p = placed i.principals a.name.now i.pool i.holders.items at c.index.result.now c.self.invariant.placed there e in
     let d = device_of i.principals p.shelf (get_or i.holders.items at c.index.result.now) in
-    let of : Devices → Shared = λ l. record { globals = i.transacted.globals; locks = i.locks; devices = l; rows = i.jobs.rows; transactions = i.transacted.transactions } in
+    let of : Devices → Shared = λ l. record { globals = i.transacted.globals; locks = i.locks.holds; devices = l; rows = i.jobs.rows; transactions = i.transacted.transactions } in
     let s = of (devices_of i.principals i.pool i.holders.items) in
     let told = ap (λ (v : Service). answered v.state a.job (shared_asks.Open a.name.now a.timeout) a.late) (sym c.self.view_is) in
     let moves = ap (λ (v : Service). moves_session v.state (shared_asks.Open a.name.now a.timeout)) (sym c.self.view_is) in
@@ -69,7 +69,7 @@ returns-in-Some-take-clause-ok g c =
     let there : position (is_named a.name.now) i.pool ≡ Some at = sym c.place.ensures ∙ c.in-Some.is in
     let p = placed i.principals a.name.now i.pool i.holders.items at c.index.result.now c.self.invariant.placed there e in
     let d = device_of i.principals p.shelf (get_or i.holders.items at c.index.result.now) in
-    let of : Devices → Shared = λ l. record { globals = i.transacted.globals; locks = i.locks; devices = l; rows = i.jobs.rows; transactions = i.transacted.transactions } in
+    let of : Devices → Shared = λ l. record { globals = i.transacted.globals; locks = i.locks.holds; devices = l; rows = i.jobs.rows; transactions = i.transacted.transactions } in
     let s = of (devices_of i.principals i.pool i.holders.items) in
     let told = ap (λ (v : Service). answered v.state a.job (shared_asks.Open a.name.now a.timeout) a.late) (sym c.self.view_is) in
     let moves = ap (λ (v : Service). moves_session v.state (shared_asks.Open a.name.now a.timeout)) (sym c.self.view_is) in
@@ -91,7 +91,7 @@ returns-in-Some-index-clause-ok g c =
     let devices = devices_of i.principals i.pool i.holders.items in
     let s : Shared = record {
       globals = i.transacted.globals;
-      locks = i.locks;
+      locks = i.locks.holds;
       devices = devices;
       rows = i.jobs.rows;
       transactions = i.transacted.transactions;
@@ -113,7 +113,7 @@ returns-in_ok-try_clone-in-Some-2-clause-ok g c =
     let devices = devices_of i.principals i.pool i.holders.items in
     let s : Shared = record {
       globals = i.transacted.globals;
-      locks = i.locks;
+      locks = i.locks.holds;
       devices = devices;
       rows = i.jobs.rows;
       transactions = i.transacted.transactions;

@@ -15,12 +15,12 @@ returns-clause-ok g c =
     let taken = c.in_ok-taken.field-0 in
     let ts = i.transacted.transactions in
     let left = with_transaction ts job (transaction_after_try (transaction_of ts job) list taken) in
-    let s : Shared = record { globals = i.transacted.globals; locks = i.locks; devices = devices_of i.principals i.pool i.holders.items; rows = i.jobs.rows; transactions = ts } in
+    let s : Shared = record { globals = i.transacted.globals; locks = i.locks.holds; devices = devices_of i.principals i.pool i.holders.items; rows = i.jobs.rows; transactions = ts } in
     let of : Transacted → Service = λ x. record {
-      state = record s { globals = x.globals; locks = c.try_take-taken.new.locks; transactions = x.transactions };
+      state = record s { globals = x.globals; locks = c.try_take-taken.new.locks.holds; transactions = x.transactions };
       claimed = i.jobs.claimed;
     } in
-    let all = comes s i.jobs.claimed job list c.args.timeout c.args.late taken c.try_take-taken.new.locks left
+    let all = comes s i.jobs.claimed job list c.args.timeout c.args.late taken c.try_take-taken.new.locks.holds left
     c.in_ok-taken.ensures.taken c.in_ok-taken.ensures.locks c.in_ok-taken.ensures.meaning refl in
     let is : c.match-branch-2.result ≡ outcome s i.jobs.claimed job list c.args.timeout c.args.late taken = elim c.match-branch-2.branch [
       | in-Got w ↦ w.result-is ∙ ap (outcome s i.jobs.claimed job list c.args.timeout c.args.late) (sym w.in-Got.is)

@@ -1,4 +1,5 @@
 use Rattle.std.proofs.Common.{ap, ◌∙◌}
+use Rattle.mj_sys.specs.Transactions.{all_logged, logged}
 use Rattle.mj_sys.specs.Passed.{killed_by}
 use Rattle.mj_sys.proofs.Passing.{back_like, killed_try}
 use Rattle.mj_sys.proofs.transacted.Transacted.try_take.Goals as goal
@@ -8,5 +9,6 @@ invariant_of-self c =
     let i = c.self.inside in
     let out = c.take_out-own in
     let given = c.try_take-taken in
-    back_like i.globals i.changes i.logs.items out.new.logs.items c.put_back.new.logs.items i.passed.items c.args.job given.new.own out.ensures.left c.put_back.ensures
-    (killed_try out.result given.new.own c.args.names.now _ given.result given.ensures.own given.ensures.err ∙ ap killed_by out.ensures.taken) c.self.invariant
+    back_like i.globals.content i.changes (all_logged i.logs.items) (all_logged out.new.logs.items) (all_logged c.put_back.new.logs.items)
+    i.passed.items c.args.job (logged given.new.own) out.ensures.left c.put_back.ensures
+    (killed_try (logged out.result) (logged given.new.own) c.args.names.now _ given.result given.ensures.own given.ensures.err ∙ ap killed_by out.ensures.taken) c.self.invariant

@@ -1,0 +1,4 @@
+mod Holding
+mod Having
+mod Failing
+mod Serving

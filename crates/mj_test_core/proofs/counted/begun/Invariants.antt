@@ -1,7 +1,0 @@
-use Rattle.std.proofs.Common.{[]}
-use Rattle.mj_sys.specs.Opening.{opening_of}
-use Rattle.mj_test_core.proofs.counted.begun.Given as goal
-
--- the opening is that of what the core begins with
-abbrev pub ghosts-run : goal.ghosts-run
-ghosts-run g a = record { opening = opening_of [] a.pool a.starts.items }
