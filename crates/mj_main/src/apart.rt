@@ -87,17 +87,17 @@ fn is_path_of<'a, R: Files + AllocGlobal>(
     other: &str,
 ) -> Result<bool, ProgramError<'a>> {
     match path_of(rt, other) {
-        Ok(found) => Ok(path == found.as_str() || is_link(rt, found.as_str())),
+        Ok(found) => Ok(path == found.as_str() || leads_nowhere(rt, found.as_str())),
         Err(ProgramError::Memory) => Err(ProgramError::Memory),
         Err(_) => Ok(false),
     }
 }
 
-// Whether a path is that of a link. One that leads somewhere has no path of its own.
-fn is_link<R: Files>(files: &R, path: &str) -> bool {
-    match fs::symlink_metadata(files, path) {
-        Ok(found) => found.is_symlink(),
-        Err(_) => false,
+// Whether a path is that of a link that leads nowhere. A stream leads somewhere, though it has no path.
+fn leads_nowhere<R: Files>(files: &R, path: &str) -> bool {
+    match (fs::symlink_metadata(files, path), fs::metadata(files, path)) {
+        (Ok(found), Err(_)) => found.is_symlink(),
+        _ => false,
     }
 }
 
