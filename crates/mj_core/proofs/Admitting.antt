@@ -2,7 +2,7 @@
 use Rattle.std.specs.Prelude.{not, IfSome, IfNone, if◌then◌else◌}
 use Rattle.std.specs.Option.{is_some}
 use Rattle.std.specs.Str.{bytes_eq}
-use Rattle.std.proofs.Common.{◌≡◌, ℕ, ◌+◌, ◌<◌, List, [], ◌∷◌, ◌++◌, Bool, true, false, Option, Some, None, refl, sym, ap, ◌∙◌, subst, length, arith}
+use Rattle.std.proofs.Common.{◌≡◌, ℕ, ◌+◌, ◌<◌, List, [], ◌∷◌, ◌++◌, Bool, true, false, Option, Some, None, refl, sym, ap, ◌∙◌, subst, length, arith, inl}
 use Rattle.mj_ask.specs.declared.entry.Entry.{Entry}
 use Rattle.mj_semantics.specs.Job.{Start}
 use Rattle.mj_load.specs.Image.{Loaded}
@@ -18,10 +18,10 @@ use Rattle.mj_core.specs.declared.happened.Happened.{Happened}
 use Rattle.mj_core.specs.Woven.{woven}
 use Rattle.mj_core.specs.Runs.{start_in}
 use Rattle.mj_core.specs.Answering.{Answering, HasAll}
-use Rattle.mj_core.specs.Ties.{Placed}
-use Rattle.mj_core.specs.Kept.{AreKept, claim_of, logs_of, turns_of}
+use Rattle.mj_core.specs.Ties.{Placed, stand_of}
+use Rattle.mj_core.specs.Kept.{AreKept, claim_of, logs_of, turns_of, stands_of}
 use Rattle.mj_core.proofs.Keeping.{keeps_claim, tied_first, keeps_slot, shows_slot}
-use Rattle.mj_core.proofs.Giving.{counted_more}
+use Rattle.mj_core.proofs.Giving.{each_more}
 
 -- where none waited, one waits now, or all were claimed
 pub claims : {A : Type 0} (ans : Answering A) (image : Loaded) (opening : Shared) (old new : Recorded) (slots : List (Placed A)) (order : List Happened)
@@ -68,9 +68,9 @@ module _ {A : Type 0} (ans : Answering A) (image : Loaded) (opening : Shared) (s
     (job : Running) (first : job.run.log ≡ []) (rests : job.run.spent ≡ 0)
     (run : IsRunOfAfter image (record { job = number; entry = entry; values = values }) 0 job)
     (x : A) (told : ans.IsOf x []) (held : HasAll ans x (bytes_eq principal))
-    (more : List (Placed A)) (end : more ≡ slots ++ record { claim = claim; job = job; answerer = x } ∷ []) where
+    (more : List (Placed A)) (end : more ≡ slots ++ record { claim = claim; job = job; answerer = x; at_ask = false } ∷ []) where
   abbrev slot : Placed A
-  slot = record { claim = claim; job = job; answerer = x }
+  slot = record { claim = claim; job = job; answerer = x; at_ask = false }
 
   kept_so : AreKept ans image opening system slots (Some claim) order
   kept_so =
@@ -92,15 +92,18 @@ module _ {A : Type 0} (ans : Answering A) (image : Loaded) (opening : Shared) (s
       let P : List (Placed A) → Type 0 = λ l. AreKept ans image opening system l None order in
       let Q : Option (Claimed × Heard) → Type 0 = λ w. AreKept ans image opening system more (claim_of w) order in
       subst Q (sym none) (subst P (sym end) (keeps_slot ans image opening system slots claim order kept_so slot refl first
-      (tied_first ans image opening system slots claim order kept_so job x runs first told_so) held))
+      (tied_first ans image opening system slots claim order kept_so job x runs first told_so) (inl refl) held))
 
   pub slot_woven : woven (logs_of more) order ≡ woven (logs_of slots) order
   slot_woven =
       ap (λ l. woven (logs_of l) order) end
-      ∙ shows_slot ans image opening system slots claim order kept_so slot refl first (tied_first ans image opening system slots claim order kept_so job x runs first told_so) held
+      ∙ shows_slot ans image opening system slots claim order kept_so slot refl first (tied_first ans image opening system slots claim order kept_so job x runs first told_so) (inl refl) held
 
   pub slot_turns : (n : ℕ) → turns_of n more ≡ turns_of n slots
-  slot_turns n = ap (turns_of n) end ∙ counted_more n slots slot rests
+  slot_turns n = ap (turns_of n) end ∙ each_more 0 (λ (s : Placed A). s.job.run.spent) n slots slot rests
+
+  pub slot_stands : (n : ℕ) → stands_of n more ≡ stands_of n slots
+  slot_stands n = ap (stands_of n) end ∙ each_more None (λ (s : Placed A). stand_of s) n slots slot refl
 
 -- ---- one row after the other
 
@@ -111,5 +114,6 @@ pub record AreAdmitted {A : Type 0} (ans : Answering A) (image : Loaded) (openin
   pub history : system'.history ≡ system.history
   pub woven : woven (logs_of slots') order ≡ woven (logs_of slots) order
   pub turns : (n : ℕ) → turns_of n slots' ≡ turns_of n slots
+  pub stands : (n : ℕ) → stands_of n slots' ≡ stands_of n slots
   pub counted : counter ≡ length slots'
   pub ends : end ≡ at + 1

@@ -22,12 +22,12 @@ use Rattle.mj_steps.specs.declared.step.Step.{Step}
 use Rattle.mj_steps.specs.declared.step.Way.{Way}
 use Rattle.mj_steps.specs.declared.step.Way.TheVariants as ways
 use Rattle.mj_steps.specs.contracts.step.Way as way
-use Rattle.mj_core.specs.Shown.{Shown, was_over, with_over}
+use Rattle.mj_core.specs.Shown.{AtAsk, Shown, was_over, with_over}
 use Rattle.mj_core.specs.Gives.{is_late, JobStepGives, StepGivesBy, Readies, GivesReady}
 use Rattle.mj_core.specs.Answering.{Answering}
 use Rattle.mj_core.specs.Meaning.{Means}
 use Rattle.mj_core.specs.Ties.{Placed}
-use Rattle.mj_core.specs.Kept.{AreKept, logs_of, turns_of, shown}
+use Rattle.mj_core.specs.Kept.{AreKept, logs_of, turns_of, stands_of, shown}
 use Rattle.mj_core.proofs.Histories.{same_state}
 use Rattle.mj_core.proofs.Views.{as_many}
 
@@ -38,14 +38,17 @@ row_there None some = absurd (let no : false ≡ true = some in cc)
 
 -- the same is seen where slots came that had no event and counted no turns
 pub shown_same : {A : Type 0} (image : Loaded) (slots slots' : List (Placed A)) (order : List Happened) (over : List Bool) (n : ℕ)
-    → woven (logs_of slots') order ≡ woven (logs_of slots) order → turns_of n slots' ≡ turns_of n slots → shown image slots' order over n ≡ shown image slots order over n
-shown_same image slots slots' order over n history turns =
-    ap (λ (h : History). let s : Shown = record { image = image; history = h; over = over; spent = turns_of n slots' } in s) history
-    ∙ ap (λ (t : List ℕ). let s : Shown = record { image = image; history = woven (logs_of slots) order; over = over; spent = t } in s) turns
+    → woven (logs_of slots') order ≡ woven (logs_of slots) order → turns_of n slots' ≡ turns_of n slots → stands_of n slots' ≡ stands_of n slots
+    → shown image slots' order over n ≡ shown image slots order over n
+shown_same image slots slots' order over n history turns stands =
+    let h = woven (logs_of slots) order in
+    ap (λ (h' : History). let s : Shown = record { image = image; history = h'; over = over; spent = turns_of n slots'; stands = stands_of n slots' } in s) history
+    ∙ ap (λ (t : List ℕ). let s : Shown = record { image = image; history = h; over = over; spent = t; stands = stands_of n slots' } in s) turns
+    ∙ ap (λ (d : List (Option AtAsk)). let s : Shown = record { image = image; history = h; over = over; spent = turns_of n slots; stands = d } in s) stands
 
 -- what is seen of a core of which nothing was asked
 pub shown_first : {A : Type 0} (image : Loaded) (slots : List (Placed A)) (order : List Happened) (over : List Bool) → slots ≡ [] → order ≡ [] → over ≡ replicate 255 false
-    → shown image slots order over 255 ≡ record { image = image; history = []; over = replicate 255 false; spent = replicate 255 0 }
+    → shown image slots order over 255 ≡ record { image = image; history = []; over = replicate 255 false; spent = replicate 255 0; stands = replicate 255 None }
 shown_first {A = A} image slots order over none_there none_yet nobody =
     ap (λ (s : List (Placed A)). shown image s order over 255) none_there
     ∙ ap (λ o. shown {A = A} image [] o over 255) none_yet
@@ -87,7 +90,7 @@ module _ (means : Means) (given : Option Reply) (opening : Shared) (old : Shown)
             (λ row here. ((λ live. done (subst (λ j. IsLive (state_of opening old.history).rows j) (sym is) live)), refl))
 
         pub is_short : StepGivesBy means opening old step given (Err refusals.Memory) old
-        is_short = is_made (Err refusals.Memory) old (λ row here. (tt, refl))
+        is_short = is_made (Err refusals.Memory) old (λ row here. inl (refl, refl))
 
 -- ---- and what it gives to make a job ready
 
@@ -122,7 +125,7 @@ module _ (opening : Shared) (old : Shown) (job : ℕ) where
           (λ row here. ((λ live. done (subst (λ j. IsLive (state_of opening old.history).rows j) (sym is) live)), refl))
 
       pub ready_short : GivesReady opening old job (Err refusals.Memory) old
-      ready_short = ready_made (Err refusals.Memory) old (λ row here. (refl, refl))
+      ready_short = ready_made (Err refusals.Memory) old (λ row here. (refl, inl refl))
 
 -- ---- what is known of a core by what is seen of it
 

@@ -1,6 +1,6 @@
 -- A step of one job among all: what it gives, and what is kept behind it.
 use Rattle.std.specs.Prelude.{slice_get, slice_set, Ok, Err, if◌then◌else◌}
-use Rattle.std.proofs.Common.{◌≡◌, ℕ, suc, ◌<◌, ◌≤◌, List, [], ◌∷◌, ◌++◌, length, Bool, true, false, Option, Some, sym, ap, subst, arith}
+use Rattle.std.proofs.Common.{◌≡◌, ℕ, suc, ◌<◌, ◌≤◌, List, [], ◌∷◌, ◌++◌, length, Bool, true, false, Option, Some, sym, ap, subst, arith, inr}
 use Rattle.mj_ask.specs.declared.ask.Reply.{Reply}
 use Rattle.mj_ask.specs.Fits.{is_shared}
 use Rattle.mj_load.specs.Image.{Loaded, routines_of}
@@ -21,7 +21,7 @@ use Rattle.mj_core.specs.Shown.{with_over}
 use Rattle.mj_core.specs.Gives.{IsStepRefused}
 use Rattle.mj_core.specs.Gives as gives
 use Rattle.mj_core.specs.Answering.{Answering, HasStill}
-use Rattle.mj_core.specs.Ties.{Placed, IsPlaced, Steps, IsStill, start_of}
+use Rattle.mj_core.specs.Ties.{Placed, IsPlaced, IsStanding, Steps, IsStill, start_of, stand_of}
 use Rattle.mj_core.specs.Kept.{AreKept, logs_of, shown}
 use Rattle.mj_core.proofs.Histories.{same_state, is_run}
 use Rattle.mj_core.proofs.Ended.{has_halted}
@@ -68,7 +68,7 @@ room_left ans image opening system slots waiting order kept room =
 module _ {A : Type 0} (ans : Answering A) (image : Loaded) (opening : Shared) (system : Recorded) (slots : List (Placed A)) (waiting : Option Claimed) (order : List Happened)
     (kept : AreKept ans image opening system slots waiting order) (k : ℕ) (slot slot' : Placed A) (here : slice_get slots k ≡ Some slot)
     (numbered : slot'.claim.job ≡ slot.claim.job) (late : Bool) (given : Option Reply) (system' : Recorded) (placed : IsPlaced ans image opening system' slot')
-    (room : length order < history_limit) where
+    (standing : IsStanding image slot') (room : length order < history_limit) where
   abbrev slots' : List (Placed A)
   slots' = slice_set slots k slot'
 
@@ -79,12 +79,12 @@ module _ {A : Type 0} (ans : Answering A) (image : Loaded) (opening : Shared) (s
       → AreKept ans image opening system' slots' waiting order
   kept_as same log stays =
       let P : Recorded → Type 0 = λ s. AreKept ans image opening s slots' waiting order in
-      subst P (sym same) (keeps_still ans image opening system slots waiting order kept k slot slot' here numbered (placed_as same) log stays)
+      subst P (sym same) (keeps_still ans image opening system slots waiting order kept k slot slot' here numbered (placed_as same) standing log stays)
 
   -- all is kept
   pub keeps_step : (m : Made) → Steps ans (routines_of image) opening late given system slot m system' slot'
       → AreKept ans image opening system' slots' waiting (order_on order k slot.job.run.log m)
-  keeps_step made.Event t = keeps_event ans image opening system slots waiting order kept k slot slot' here numbered system' t.0 t.1 late room placed t.6 t.8 t.4 t.5 t.9
+  keeps_step made.Event t = keeps_event ans image opening system slots waiting order kept k slot slot' here numbered system' t.0.ask t.1 late room placed standing t.6 t.8 t.4 t.5 t.9
   keeps_step (made.Busy holder held) t = kept_as t.5 t.6.0 t.6.2
   keeps_step made.NotYet t = kept_as t.4 t.5.0 t.5.2
   keeps_step made.Unfit t = kept_as t.4 t.5.0 t.5.2
@@ -109,34 +109,33 @@ module _ {A : Type 0} (ans : Answering A) (image : Loaded) (opening : Shared) (s
       by : (m : Made) → Steps ans (routines_of image) opening late given system slot m system' slot' → Goal m
       by made.Event t = (
         live_there,
-        gives_event ans image opening system slots waiting order kept over n k few slot slot' here numbered row is late given t.0 t.1 system' t.6 t.7 (keeps_step made.Event t) t.2 t.3 t.5 t.10,
+        gives_event ans image opening system slots waiting order kept over n k few slot slot' here numbered row is late given t.0 t.1 system' t.6 t.7 (keeps_step made.Event t) t.2 t.3 t.5 t.10 t.11,
       )
       by (made.Busy holder held) t = (
         live_there,
-        gives_busy ans image opening system slots waiting order kept over n k few slot slot' here numbered row is late given t.6.0 t.6.2 t.6.1 system' (placed_as t.5) holder held t,
+        gives_busy ans image opening system slots waiting order kept over n k few slot slot' here numbered row is late given t.6.0 t.6.2 t.6.1 system' (placed_as t.5) standing holder held t,
       )
       by made.NotYet t = (
         live_there,
-        gives_not_yet ans image opening system slots waiting order kept over n k few slot slot' here numbered row is late given t.5.0 t.5.2 t.5.1 system' (placed_as t.4) t,
+        gives_not_yet ans image opening system slots waiting order kept over n k few slot slot' here numbered row is late given t.5.0 t.5.2 t.5.1 system' (placed_as t.4) standing t,
       )
       by made.Unfit t = (
         live_there,
-        gives_unfit ans image opening system slots waiting order kept over n k few slot slot' here numbered row is late given t.5.0 t.5.2 t.5.1 system' (placed_as t.4) t,
+        gives_unfit ans image opening system slots waiting order kept over n k few slot slot' here numbered row is late given t.5.0 t.5.2 t.5.1 system' (placed_as t.4) standing t,
       )
       by made.Ran t = (
         live_there,
-        gives_ran ans image opening system slots waiting order kept over n k few slot slot' here numbered row is late given t.3 t.4 (placed_as t.2) t.0 t.1,
+        gives_ran ans image opening system slots waiting order kept over n k few slot slot' here numbered row is late given t.3 t.4 (placed_as t.2) standing t.0 t.1 t.5,
       )
       by made.Ended t =
-          let over_now = gives_ended ans image opening system slots waiting order kept over n k few slot slot' here numbered row is late given t.2.0 t.2.2 t.2.1 system' (placed_as t.1) t in (
-            (has_halted (routines_of image) opening (woven (logs_of slots) order) (is_run ans image opening system slots waiting order kept) (suc k) row is over_now.0).1,
-            over_now.1,
-          )
+          let over_now = gives_ended ans image opening system slots waiting order kept over n k few slot slot' here numbered row is late given system' t in
+          absurd ((has_halted (routines_of image) opening (woven (logs_of slots) order) (is_run ans image opening system slots waiting order kept) (suc k) row is over_now).1 live_there)
 
-    -- and where it isn't made, nothing changes
-    pub makes_none : (why : Refusal) → IsStepRefused (routines_of image) (start_of slot) slot.job.run.log late why → (system' ≡ system) × IsStill ans slot slot'
+    -- and where it isn't made, nothing changes but how the job stands
+    pub makes_none : (why : Refusal) → IsStepRefused (routines_of image) (start_of slot) slot.job.run.log late why (stand_of slot') → (system' ≡ system) × IsStill ans slot slot'
         → gives.JobStepGives ans.means opening (shown image slots order over n) (suc k) row late given (Err why) (shown image slots' order over n)
-    makes_none why refused t = (
+    makes_none why refused t = inr (
+      stand_of slot',
       refuses ans image opening system slots waiting order kept over n k few slot slot' here numbered row is late given why refused,
-      shown_still ans image opening system slots waiting order kept over n k few slot slot' here numbered row is late given t.1.0 t.1.2 (placed_as t.0) t.1.1,
+      shown_still ans image opening system slots waiting order kept over n k few slot slot' here numbered row is late given t.1.0 t.1.2 (placed_as t.0) standing t.1.1,
     )

@@ -30,7 +30,7 @@ use Rattle.mj_core.specs.Runs.{start_in}
 use Rattle.mj_core.specs.Having.{has_behind, has_after, has_session}
 use Rattle.mj_core.specs.Gives.{IsReplyTold}
 use Rattle.mj_core.specs.Answering.{Answering, HasAll, HasStill, AreBehind}
-use Rattle.mj_core.specs.Ties.{Placed, IsTied, IsPlaced, shared_in}
+use Rattle.mj_core.specs.Ties.{Placed, IsTied, IsPlaced, IsStanding, shared_in}
 use Rattle.mj_core.specs.Kept.{AreKept, IsSlotOf, IsClaimed, logs_of}
 use Rattle.mj_core.proofs.Histories.{same_state, none_past}
 
@@ -162,7 +162,8 @@ module _ {A : Type 0} (ans : Answering A) (image : Loaded) (opening : Shared) (s
           IsLive state.rows job × IsReplyTold state job a late reply (state_of opening system'.history)
           × (system' ≡ record system { history = system.history ++ shared_of (event job ∷ []) })
 
-      module _ (room : length order < history_limit) (placed : IsPlaced ans image opening system' slot') (log : slot'.job.run.log ≡ slot.job.run.log ++ (a, reply) ∷ [])
+      module _ (room : length order < history_limit) (placed : IsPlaced ans image opening system' slot') (standing : IsStanding image slot')
+          (log : slot'.job.run.log ≡ slot.job.run.log ++ (a, reply) ∷ [])
           (behind : AreBehind ans state a slot.answerer slot'.answerer)
           (made : Made (suc k)) where
         abbrev e : Event
@@ -199,6 +200,7 @@ module _ {A : Type 0} (ans : Answering A) (image : Loaded) (opening : Shared) (s
         own = record {
           numbered = numbered ∙ at.numbered;
           placed = placed;
+          stands = standing;
           logged =
               ap (log_of (suc k)) history_on ∙ log_of_append (suc k) history (e ∷ []) ∙ ap (λ l. l ++ log_of (suc k) (e ∷ [])) at.logged
               ∙ ap (λ l. slot.job.run.log ++ l) (log_own (suc k) e refl) ∙ sym log;
@@ -220,6 +222,7 @@ module _ {A : Type 0} (ans : Answering A) (image : Loaded) (opening : Shared) (s
               placed =
                   tied_beside ans image opening system system' (shared_of (e ∷ [])) s.claim s.job s.answerer old.placed system_on
                   (let same_many = claimed_same in omega (arith, same_many)) (no_events s.claim.job (shared_of (e ∷ [])) silent);
+              stands = old.stands;
               logged =
                   ap (log_of (suc j)) history_on ∙ log_of_append (suc j) history (e ∷ []) ∙ ap (λ l. log_of (suc j) history ++ l) (log_other (suc j) e not_it)
                   ∙ append-nil (log_of (suc j) history) ∙ old.logged;
@@ -249,12 +252,12 @@ module _ {A : Type 0} (ans : Answering A) (image : Loaded) (opening : Shared) (s
         }
 
       -- what is known of the event, by the number of its claim
-      pub keeps_event : length order < history_limit → IsPlaced ans image opening system' slot' → slot'.job.run.log ≡ slot.job.run.log ++ (a, reply) ∷ []
+      pub keeps_event : length order < history_limit → IsPlaced ans image opening system' slot' → IsStanding image slot' → slot'.job.run.log ≡ slot.job.run.log ++ (a, reply) ∷ []
           → AreBehind ans state a slot.answerer slot'.answerer
           → IsLive state.rows slot.claim.job → IsReplyTold state slot.claim.job a late reply (state_of opening system'.history)
           → system' ≡ record system { history = system.history ++ shared_of (event slot.claim.job ∷ []) }
           → AreKept ans image opening system' slots' waiting (order ++ record { job = suc k; at = length slot.job.run.log } ∷ [])
-      keeps_event room placed log behind live told new = kept_event room placed log behind (subst Made at.numbered (live, told, new))
+      keeps_event room placed standing log behind live told new = kept_event room placed standing log behind (subst Made at.numbered (live, told, new))
 
       -- and what is seen of the history then
       pub shows_event : slot'.job.run.log ≡ slot.job.run.log ++ (a, reply) ∷ []
@@ -264,7 +267,8 @@ module _ {A : Type 0} (ans : Answering A) (image : Loaded) (opening : Shared) (s
           ∙ woven_on (logs_of slots) k slot.job.run.log (a, reply) order log_here kept.there
 
     -- and has none
-    module _ (placed : IsPlaced ans image opening system slot') (log : slot'.job.run.log ≡ slot.job.run.log) (stays : HasStill ans slot.answerer slot'.answerer) where
+    module _ (placed : IsPlaced ans image opening system slot') (standing : IsStanding image slot') (log : slot'.job.run.log ≡ slot.job.run.log)
+        (stays : HasStill ans slot.answerer slot'.answerer) where
       logs_same : logs_of slots' ≡ logs_of slots
       logs_same = map-set_same log_in slots k slot' slot (log ∙ ap log_in (sym (get_or_from_slice_get slots k slot slot here)))
 
@@ -275,6 +279,7 @@ module _ {A : Type 0} (ans : Answering A) (image : Loaded) (opening : Shared) (s
       still = record {
         numbered = numbered ∙ at.numbered;
         placed = placed;
+        stands = standing;
         logged = at.logged ∙ sym log;
         held = λ name. stays name (has_session opening (suc k) name history) (at.held name);
       }
@@ -320,7 +325,7 @@ module _ {A : Type 0} (ans : Answering A) (image : Loaded) (opening : Shared) (s
       }
 
   module _ (slot : Placed A) (is : slot.claim ≡ claim) (log : slot.job.run.log ≡ []) (placed : IsPlaced ans image opening system slot)
-      (held : HasAll ans slot.answerer (bytes_eq principal)) where
+      (standing : IsStanding image slot) (held : HasAll ans slot.answerer (bytes_eq principal)) where
     abbrev old_history : History
     old_history = woven (logs_of slots) order
 
@@ -340,6 +345,7 @@ module _ {A : Type 0} (ans : Answering A) (image : Loaded) (opening : Shared) (s
     first = record {
       numbered = ap (λ (c : Claimed). c.job) is ∙ kept.claimed.1;
       placed = placed;
+      stands = standing;
       logged = none ∙ sym log;
       held = λ name. subst (λ has. ans.Has slot.answerer name has) (sym (has_first opening (suc (length slots)) name (bytes_eq principal name) old_history none)) (held name);
     }
@@ -379,6 +385,7 @@ keeps_claim ans image opening old new slots order claim kept same claimed job ev
           record {
             numbered = at.numbered;
             placed = tied_beside ans image opening old new [] slot.claim slot.job slot.answerer at.placed on (omega (arith, claimed)) refl;
+            stands = at.stands;
             logged = at.logged;
             held = at.held;
           });

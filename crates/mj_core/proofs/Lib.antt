@@ -20,4 +20,5 @@ mod Answering
 mod Answered
 mod Readied
 mod Ended
+mod Showing
 mod Plain

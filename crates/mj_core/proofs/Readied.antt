@@ -22,7 +22,7 @@ use Rattle.mj_core.specs.Gives.{Readies, GivesReady}
 use Rattle.mj_core.specs.Asking.{IfAsks, IsAtAsk}
 use Rattle.mj_core.specs.Answering.{Answering}
 use Rattle.mj_core.specs.Ties.{Placed}
-use Rattle.mj_core.specs.Kept.{AreKept, logs_of, turns_of, shown}
+use Rattle.mj_core.specs.Kept.{AreKept, logs_of, turns_of, stands_of, shown}
 use Rattle.mj_core.proofs.Answering.{shown_same, ready_made, ready_done, ready_short, seen_as, done_as}
 
 -- what stands in a list for each job, by a test of it
@@ -41,11 +41,11 @@ module _ {A : Type 0} (ans : Answering A) (image : Loaded) (opening : Shared) (s
 
   -- slots came, in which nothing was asked yet
   module _ (slots1 : List (Placed A)) (order1 : List Happened) (same : order1 ≡ order) (history : woven (logs_of slots1) order1 ≡ woven (logs_of slots) order1)
-      (counts : (n : ℕ) → turns_of n slots1 ≡ turns_of n slots) where
+      (counts : (n : ℕ) → turns_of n slots1 ≡ turns_of n slots) (stands : (n : ℕ) → stands_of n slots1 ≡ stands_of n slots) where
     seen_still : shown image slots1 order over 255 ≡ self
     seen_still =
         let P : List Happened → Type 0 = λ o. woven (logs_of slots1) o ≡ woven (logs_of slots) o in
-        shown_same image slots slots1 order over 255 (subst P same history) (counts 255) ∙ view
+        shown_same image slots slots1 order over 255 (subst P same history) (counts 255) (stands 255) ∙ view
 
     pub readied_short : GivesReady opening self job (Err refusals.Memory) (shown image slots1 order over 255)
     readied_short =

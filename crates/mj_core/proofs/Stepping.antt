@@ -1,17 +1,17 @@
 -- One job goes on.
-use Rattle.std.specs.Prelude.{◌⊎◌, if◌then◌else◌, Result, Ok, Err, IfOk, IfErr, OnErr}
-use Rattle.std.proofs.Common.{◌≡◌, ◌+◌, [], ◌∷◌, ◌++◌, Bool, true, false, Option, Some, None, refl, sym, ap, ◌∙◌, subst, append-nil, eq-eqb, inl, inr, cond}
+use Rattle.std.specs.Prelude.{◌⊎◌, if◌then◌else◌, Result, Ok, Err, IfOk, IfErr, OnErr, reverse}
+use Rattle.std.proofs.lemmas.List.{reverse-append}
+use Rattle.std.proofs.Common.{◌≡◌, ℕ, ◌+◌, [], ◌∷◌, ◌++◌, Bool, true, false, Option, Some, None, refl, sym, ap, ◌∙◌, subst, append-nil, eq-eqb, inl, inr, cond}
 use Rattle.mj_ask.specs.declared.ask.Ask.{Ask}
 use Rattle.mj_ask.specs.declared.ask.Ask.TheVariants as asks
 use Rattle.mj_ask.specs.declared.ask.Reply.{Reply}
-use Rattle.mj_ask.specs.Fits.{is_shared}
-use Rattle.mj_semantics.specs.Job.{Start}
+use Rattle.mj_ask.specs.Fits.{is_shared, timeout_of}
+use Rattle.mj_semantics.specs.Outcome.{Needs}
+use Rattle.mj_semantics.specs.Job.{Start, next}
 use Rattle.mj_load.specs.Image.{Loaded, routines_of}
 use Rattle.mj_jobs.specs.Rows.{Row, row_at, IsLive}
-use Rattle.mj_jobvm.specs.Run.{Log, Run}
-use Rattle.mj_jobvm.specs.declared.job.Turn.TheVariants as turns
-use Rattle.mj_jobvm.specs.Told.{AdvanceTells}
-use Rattle.mj_semantics.specs.State.{places}
+use Rattle.mj_jobvm.specs.Run.{Log, replies_of}
+use Rattle.mj_semantics.specs.State.{State, places}
 use Rattle.mj_jobvm.specs.Jobs.{Running, IsRunOf}
 use Rattle.mj_sessions.specs.Events.{device_of}
 use Rattle.mj_sys.specs.declared.event.Event.{Event}
@@ -26,10 +26,11 @@ use Rattle.mj_core.specs.declared.parts.Made.TheVariants as made
 use Rattle.mj_core.specs.Runs.{start_in}
 use Rattle.mj_steps.specs.declared.step.Refusal.{Refusal}
 use Rattle.mj_steps.specs.declared.step.Refusal.TheVariants as refusals
-use Rattle.mj_core.specs.Gives.{Makes, IsTimely, IsStepRefused}
+use Rattle.mj_core.specs.Shown.{AtAsk}
+use Rattle.mj_core.specs.Gives.{Waits, StandsAt, answered, IsTimely, IsStepRefused}
 use Rattle.mj_core.specs.Answering.{Answering, Stays}
 use Rattle.mj_core.specs.Meaning.{IsOfDevice}
-use Rattle.mj_core.specs.Ties.{Placed, IsJobOf, IsClaimIn, IsTied, Steps, IsStill, JobIsTold, Talks, Shares, IsMuted, GoesOnBy}
+use Rattle.mj_core.specs.Ties.{Placed, IsJobOf, IsClaimIn, IsTied, IsStanding, start_of, stand_by, stand_in, stand_of, Steps, IsStill, JobIsTold, Talks, Shares, IsMuted, GoesOnBy}
 use Rattle.mj_core.proofs.Owning.{own_still, own_talk, own_share}
 
 -- nothing but the place in the private run changes
@@ -106,31 +107,84 @@ unshared (asks.Shared a) of = absurd (let no : None ≡ Some of.0 = of.1 in cc)
 pub same_ask : (pending : Option Ask) (a b : Ask) → pending ≡ Some a → pending ≡ Some b → a ≡ b
 same_ask pending a b p q = let same : Some a ≡ Some b = sym p ∙ q in cc
 
-module _ {A : Type 0} (ans : Answering A) (image : Loaded) (opening : Shared) (old new : Recorded) (claim claim' : Claimed) (job mid job' : Running) (xs xs' : A) (late : Bool) (given : Option Reply)
+-- a list that ends with this
+last_of : (log : Log) (e : Ask × Reply) → reverse (log ++ e ∷ []) ≡ e ∷ reverse log
+last_of log e = reverse-append log (e ∷ [])
+
+-- one that has its reply, and stands where it stood
+stand_told : (pending : Option Ask) (log earlier : Log) (a : Ask) (reply : Reply) (s t : State) → pending ≡ None → log ≡ earlier ++ (a, reply) ∷ [] → s ≡ t
+    → stand_by pending log s ≡ Some (record { ask = a; locals = t.locals; places = places t; answered = true })
+stand_told pending log earlier a reply s t none is same =
+    ap (λ p. stand_by p log s) none
+    ∙ ap (λ l. stand_by None l s) is
+    ∙ ap (λ (r : Log). elim r as (λ _. Option AtAsk) [ [] ↦ None | e ∷ rest ↦ Some (record { ask = e.0; locals = s.locals; places = places s; answered = true }) ])
+    (last_of earlier (a, reply))
+    ∙ ap (λ (u : State). let at : AtAsk = record { ask = a; locals = u.locals; places = places u; answered = true } in Some at) same
+
+-- what is said of the slot of a job whose ask was served or not, and of the system: what a step ensures
+pub record IsStepped {A : Type 0} (ans : Answering A) (image : Loaded) (opening : Shared) (late : Bool) (given : Option Reply) (old : Recorded) (slot : Placed A)
+    (r : Result Made Refusal) (new : Recorded) (slot' : Placed A) : Type 0 where
+  pub gives : IfOk r (λ m. Steps ans (routines_of image) opening late given old slot m new slot')
+  pub refused : IfErr r (λ why. IsStepRefused (routines_of image) (start_of slot) slot.job.run.log late why (stand_of slot'))
+  pub kept : OnErr r ((new ≡ old) × IsStill ans slot slot')
+  pub tied : IsTied ans image opening new slot'.claim slot'.job slot'.answerer
+  pub stands : IsStanding image slot'
+
+module _ {A : Type 0} (ans : Answering A) (image : Loaded) (opening : Shared) (old new : Recorded) (claim claim' : Claimed) (job mid job' : Running) (xs xs' : A) (was : Bool) (late : Bool)
+    (given : Option Reply)
     (tied : IsTied ans image opening old claim job xs) (run : IsRunOf image (start_in claim.job claim.start) mid) (log : mid.run.log ≡ job.run.log)
     (live : IsLive (state_of opening old.history).rows claim.job)
-    (b : Ask) (pending : mid.run.pending ≡ Some b) (makes : Makes (routines_of image) (start_in claim.job claim.start) mid.run.log b)
+    (b : Ask) (pending : mid.run.pending ≡ Some b)
+    (needs : (n : ℕ) × (next (routines_of image) (start_in claim.job claim.start) n (replies_of mid.run.log) ≡ Needs b mid.run.at.state.locals (places mid.run.at.state)))
     (spent : mid.run.spent ≡ job.run.spent) where
   abbrev start : Start
   start = start_in claim.job claim.start
 
   abbrev slot : Placed A
-  slot = record { claim = claim; job = job; answerer = xs }
+  slot = record { claim = claim; job = job; answerer = xs; at_ask = was }
 
   abbrev slot' : Placed A
-  slot' = record { claim = claim'; job = job'; answerer = xs' }
+  slot' = record { claim = claim'; job = job'; answerer = xs'; at_ask = true }
+
+  -- where it waits
+  abbrev at : AtAsk
+  at = record { ask = b; locals = mid.run.at.state.locals; places = places mid.run.at.state; answered = false }
 
   abbrev Goal : Made → Type 0
-  Goal m = Steps ans (routines_of image) opening late given old slot m new slot' × IsTied ans image opening new claim' job' xs'
+  Goal m = Steps ans (routines_of image) opening late given old slot m new slot' × IsTied ans image opening new claim' job' xs' × IsStanding image slot'
 
   still : job' ≡ mid → Stays ans xs xs' → IsStill ans slot slot'
   still jobs stays = (ap (λ (j : Running). j.run.log) jobs ∙ log, ap (λ (j : Running). j.run.spent) jobs ∙ spent, stays.1)
 
-  makes_it : (a : Ask) → mid.run.pending ≡ Some a → Makes (routines_of image) start job.run.log a
-  makes_it a is =
-      let P : Ask → Type 0 = λ x. Makes (routines_of image) start mid.run.log x in
-      let Q : Log → Type 0 = λ l. Makes (routines_of image) start l a in
-      subst Q log (subst P (same_ask mid.run.pending b a pending is) makes)
+  waits : Waits (routines_of image) start job.run.log at
+  waits =
+      let P : Log → Type 0 = λ l. (n : ℕ) × (next (routines_of image) start n (replies_of l) ≡ Needs b mid.run.at.state.locals (places mid.run.at.state)) in
+      (subst P log needs, refl)
+
+  -- it stands so by this log, whose claim has another count
+  stands_by : (to : AtAsk) (l : Log) → stand_of slot' ≡ Some to → start_in claim'.job claim'.start ≡ start → job'.run.log ≡ l → StandsAt (routines_of image) start l to
+      → IsStanding image slot'
+  stands_by to l shows from is stands =
+      let P : Start → Type 0 = λ st. StandsAt (routines_of image) st job'.run.log to in
+      let Q : Log → Type 0 = λ k. StandsAt (routines_of image) start k to in
+      inr (to, shows, subst P (sym from) (subst Q (sym is) stands))
+
+  -- it isn't told, and waits
+  shows_still : job' ≡ mid → stand_of slot' ≡ Some at
+  shows_still jobs = ap (λ (j : Running). stand_in j.run) jobs ∙ ap (λ p. stand_by p mid.run.log mid.run.at.state) pending
+
+  stands_still : claim' ≡ claim → job' ≡ mid → IsStanding image slot'
+  stands_still claims jobs =
+      stands_by at job.run.log (shows_still jobs) (ap (λ (c : Claimed). start_in c.job c.start) claims) (ap (λ (j : Running). j.run.log) jobs ∙ log) (inl waits)
+
+  -- it is told
+  shows_told : (reply : Reply) → GoesOnBy mid b reply job' → stand_of slot' ≡ Some (answered at)
+  shows_told reply goes = stand_told job'.run.pending job'.run.log mid.run.log b reply job'.run.at.state mid.run.at.state goes.3 goes.0 goes.4
+
+  stands_told : (reply : Reply) → GoesOnBy mid b reply job' → start_in claim'.job claim'.start ≡ start → IsStanding image slot'
+  stands_told reply goes from =
+      stands_by (answered at) (job.run.log ++ (b, reply) ∷ []) (shows_told reply goes) from (goes.0 ∙ ap (λ l. l ++ (b, reply) ∷ []) log)
+      (inr (job.run.log, reply, refl, waits, refl))
 
   -- what is said by the log that the job had is said by the log that it has
   here : (F : Log → Type 0) → (ans.IsOf xs mid.run.log → F mid.run.log) → F job.run.log
@@ -138,103 +192,110 @@ module _ {A : Type 0} (ans : Answering A) (image : Loaded) (opening : Shared) (o
       let T : Log → Type 0 = λ l. ans.IsOf xs l in
       subst F log (said (subst T (sym log) tied.own.told))
 
-  by_talk : (m : Made) (a : Ask) → mid.run.pending ≡ Some a → IsTimely late a → is_shared a ≡ false → Talks ans mid xs a late given m job' xs' → new ≡ old → claim' ≡ claim → Goal m
-  by_talk made.Event a is timely unshared t same claims =
-      let e : Event = record { job = claim.job; ask = a; reply = t.0 } in
+  by_talk : (m : Made) → IsTimely late b → is_shared b ≡ false → Talks ans mid xs b late given m job' xs' → new ≡ old → claim' ≡ claim → Goal m
+  by_talk made.Event timely unshared t same claims =
+      let e : Event = record { job = claim.job; ask = b; reply = t.0 } in
       let history : old.history ≡ old.history ++ shared_of (e ∷ []) =
       sym (append-nil old.history) ∙ sym (ap (λ c. old.history ++ (if c then e ∷ [] else [])) unshared) in
       let system : new ≡ record old { history = old.history ++ shared_of (e ∷ []) } = same ∙ ap (λ h. record old { history = h }) history in (
         (
-          a,
+          at,
           t.0,
-          makes_it a is,
+          waits,
           timely,
           live,
           record { fit = t.1; shared = λ h. absurd (let no : true ≡ false = sym h ∙ unshared in cc); in_time = λ h. t.2 },
-          log_on ans image opening old claim job mid job' xs xs' tied run log a t.0 t.3 t.4,
+          log_on ans image opening old claim job mid job' xs xs' tied run log b t.0 t.3 t.4,
           t.3.2,
           t.5 (state_of opening old.history),
           system,
-          here (λ l. ans.means.Told l given a late t.0 (Unit {0})) t.6,
+          here (λ l. ans.means.Told l given b late t.0 (Unit {0})) t.6,
+          shows_told t.0 t.3,
         ),
-        tied_talk ans image opening old claim job mid job' xs xs' tied run log a t.0 t.3 t.4 unshared new claim' same claims,
+        tied_talk ans image opening old claim job mid job' xs xs' tied run log b t.0 t.3 t.4 unshared new claim' same claims,
+        stands_told t.0 t.3 (ap (λ (c : Claimed). start_in c.job c.start) claims),
       )
-  by_talk (made.Busy holder held) a is timely unshared t same claims = absurd t
-  by_talk made.NotYet a is timely unshared t same claims = (
-    (a, makes_it a is, timely, here (λ l. ans.means.NotYet l a late (Unit {0})) t.0, same, still t.1 t.2),
+  by_talk (made.Busy holder held) timely unshared t same claims = absurd t
+  by_talk made.NotYet timely unshared t same claims = (
+    (at, waits, timely, here (λ l. ans.means.NotYet l b late (Unit {0})) t.0, same, still t.1 t.2, shows_still t.1),
     tied_same ans image opening old new claim claim' job mid job' xs xs' tied run log same claims t.1 t.2,
+    stands_still claims t.1,
   )
-  by_talk made.Unfit a is timely unshared t same claims =
+  by_talk made.Unfit timely unshared t same claims =
       let s = state_of opening old.history in (
-        (a, makes_it a is, timely, (λ has all. here (λ l. ans.means.Unfit s l has a late given (Unit {0})) (λ of. t.0 s has of all)), same, still t.1 t.2),
+        (at, waits, timely, (λ has all. here (λ l. ans.means.Unfit s l has b late given (Unit {0})) (λ of. t.0 s has of all)), same, still t.1 t.2, shows_still t.1),
         tied_same ans image opening old new claim claim' job mid job' xs xs' tied run log same claims t.1 t.2,
+        stands_still claims t.1,
       )
-  by_talk made.Ran a is timely unshared t same claims = absurd t
-  by_talk made.Ended a is timely unshared t same claims = absurd t
+  by_talk made.Ran timely unshared t same claims = absurd t
+  by_talk made.Ended timely unshared t same claims = absurd t
 
-  by_share : (m : Made) (a : Ask) → mid.run.pending ≡ Some a → IsTimely late a → is_shared a ≡ true → Shares ans opening old claim mid xs a late m new claim' job' xs' → Goal m
-  by_share made.Event a is timely shared t =
-      let e : Event = record { job = claim.job; ask = a; reply = t.0 } in
+  by_share : (m : Made) → IsTimely late b → is_shared b ≡ true → Shares ans opening old claim mid xs b late m new claim' job' xs' → Goal m
+  by_share made.Event timely shared t =
+      let e : Event = record { job = claim.job; ask = b; reply = t.0 } in
       let system : new ≡ record old { history = old.history ++ shared_of (e ∷ []) } =
       t.3 ∙ sym (ap (λ c. record old { history = old.history ++ (if c then e ∷ [] else []) }) shared) in (
         (
-          a,
+          at,
           t.0,
-          makes_it a is,
+          waits,
           timely,
           live,
           record { fit = t.1; shared = λ h. t.2; in_time = λ h. absurd (let no : true ≡ false = sym shared ∙ h in cc) },
-          log_on ans image opening old claim job mid job' xs xs' tied run log a t.0 t.5 t.6,
+          log_on ans image opening old claim job mid job' xs xs' tied run log b t.0 t.5 t.6,
           t.5.2,
           t.7,
           system,
-          ans.means.of_no_device job.run.log given a late t.0 (no_device a shared),
+          ans.means.of_no_device job.run.log given b late t.0 (no_device b shared),
+          shows_told t.0 t.5,
         ),
-        tied_share ans image opening old claim job mid job' xs xs' tied run log a t.0 t.5 t.6 shared new claim' t.3 t.4,
+        tied_share ans image opening old claim job mid job' xs xs' tied run log b t.0 t.5 t.6 shared new claim' t.3 t.4,
+        stands_told t.0 t.5 (ap (λ (c : Claimed). start_in c.job c.start) t.4),
       )
-  by_share (made.Busy holder held) a is timely shared t =
-      ((a, makes_it a is, timely, t.0, t.1, t.2, still t.4 t.5), tied_same ans image opening old new claim claim' job mid job' xs xs' tied run log t.2 t.3 t.4 t.5)
-  by_share made.NotYet a is timely shared t = absurd t
-  by_share made.Unfit a is timely shared t = (
-    (a, makes_it a is, timely, (λ has all. t.0 job.run.log has late given all), t.1, still t.3 t.4),
-    tied_same ans image opening old new claim claim' job mid job' xs xs' tied run log t.1 t.2 t.3 t.4,
+  by_share (made.Busy holder held) timely shared t = (
+    (at, waits, timely, t.0, t.1, t.2, still t.4 t.5, shows_still t.4),
+    tied_same ans image opening old new claim claim' job mid job' xs xs' tied run log t.2 t.3 t.4 t.5,
+    stands_still t.3 t.4,
   )
-  by_share made.Ran a is timely shared t = absurd t
-  by_share made.Ended a is timely shared t = absurd t
+  by_share made.NotYet timely shared t = absurd t
+  by_share made.Unfit timely shared t = (
+    (at, waits, timely, (λ has all. t.0 job.run.log has late given all), t.1, still t.3 t.4, shows_still t.3),
+    tied_same ans image opening old new claim claim' job mid job' xs xs' tied run log t.1 t.2 t.3 t.4,
+    stands_still t.2 t.3,
+  )
+  by_share made.Ran timely shared t = absurd t
+  by_share made.Ended timely shared t = absurd t
+
+  -- what is said of what it asks
+  abbrev Said : Made → Ask → Type 0
+  Said m a =
+      IsTimely late a
+      × (((is_shared a ≡ false) × Talks ans mid xs a late given m job' xs' × (new ≡ old) × (claim' ≡ claim))
+      ⊎ ((is_shared a ≡ true) × Shares ans opening old claim mid xs a late m new claim' job' xs'))
 
   pub stepped : (m : Made) → JobIsTold ans opening old claim mid xs late given m new claim' job' xs' → Goal m
-  stepped m tells = by tells.3 where
-    by : ((is_shared tells.0 ≡ false) × Talks ans mid xs tells.0 late given m job' xs' × (new ≡ old) × (claim' ≡ claim))
-        ⊎ ((is_shared tells.0 ≡ true) × Shares ans opening old claim mid xs tells.0 late m new claim' job' xs') → Goal m
-    by (inl t) = by_talk m tells.0 tells.1 tells.2 t.0 t.1 t.2 t.3
-    by (inr t) = by_share m tells.0 tells.1 tells.2 t.0 t.1
+  stepped m tells = by (subst (Said m) (same_ask mid.run.pending tells.0 b tells.1 pending) (tells.2, tells.3)) where
+    by : Said m b → Goal m
+    by (timely, inl t) = by_talk m timely t.0 t.1 t.2 t.3
+    by (timely, inr t) = by_share m timely t.0 t.1
 
-  -- the same of what a call of `ask` gives
-  pub stepped_ok : (r : Result Made Refusal) → IfOk r (λ m. JobIsTold ans opening old claim mid xs late given m new claim' job' xs')
-      → IfOk r (λ m. Steps ans (routines_of image) opening late given old slot m new slot')
-  stepped_ok (Ok m) tells = (stepped m tells).0
-  stepped_ok (Err why) tells = tt
+  muted : (why : Refusal) → IsMuted mid late why → job' ≡ mid → IsStepRefused (routines_of image) start job.run.log late why (stand_of slot')
+  muted refusals.NotTimed is jobs =
+      let T : Ask → Type 0 = λ a. timeout_of a ≡ None in
+      (is.0, (at, waits, subst T (same_ask mid.run.pending is.1.0 b is.1.1 pending) is.1.2, shows_still jobs))
+  muted refusals.Memory is jobs = inr (at, waits, shows_still jobs)
+  muted refusals.NoJob is jobs = absurd is
+  muted refusals.Ended is jobs = absurd is
+  muted refusals.Full is jobs = absurd is
 
-  muted : (why : Refusal) → IsMuted mid late why → IsStepRefused (routines_of image) start job.run.log late why
-  muted refusals.NotTimed is = (is.0, (is.1.0, makes_it is.1.0 is.1.1, is.1.2))
-  muted refusals.Memory is = tt
-  muted refusals.NoJob is = absurd is
-  muted refusals.Ended is = absurd is
-  muted refusals.Full is = absurd is
-
-  pub stepped_err : (r : Result Made Refusal) → IfErr r (λ why. IsMuted mid late why) → IfErr r (λ why. IsStepRefused (routines_of image) start job.run.log late why)
-  stepped_err (Ok m) is = tt
-  stepped_err (Err why) is = muted why is
-
-  pub stepped_still : (r : Result Made Refusal) → OnErr r ((new ≡ old) × (claim' ≡ claim) × (job' ≡ mid) × Stays ans xs xs') → OnErr r ((new ≡ old) × IsStill ans slot slot')
-  stepped_still (Ok m) kept = tt
-  stepped_still (Err why) kept = (kept.0, still kept.2 kept.3)
-
-  pub stepped_tied : (r : Result Made Refusal) → IfOk r (λ m. JobIsTold ans opening old claim mid xs late given m new claim' job' xs')
-      → OnErr r ((new ≡ old) × (claim' ≡ claim) × (job' ≡ mid) × Stays ans xs xs') → IsTied ans image opening new claim' job' xs'
-  stepped_tied (Ok m) tells kept = (stepped m tells).1
-  stepped_tied (Err why) tells kept = tied_same ans image opening old new claim claim' job mid job' xs xs' tied run log kept.0 kept.1 kept.2 kept.3
-
--- what a job's run needs
-pub needed : (image : Loaded) (from : Start) (run : Run) → AdvanceTells (routines_of image) from turns.Asks run → (a : Ask) × (run.pending ≡ Some a) × Makes (routines_of image) from run.log a
-needed image from run t = (t.0, t.1, (t.2.0, run.at.state.locals, places run.at.state, t.2.1))
+  -- by what a call of `ask` gives
+  pub is_stepped : (r : Result Made Refusal) → IfOk r (λ m. JobIsTold ans opening old claim mid xs late given m new claim' job' xs') → IfErr r (λ why. IsMuted mid late why)
+      → OnErr r ((new ≡ old) × (claim' ≡ claim) × (job' ≡ mid) × Stays ans xs xs') → IsStepped ans image opening late given old slot r new slot'
+  is_stepped (Ok m) tells mutes kept = let goal = stepped m tells in record { gives = goal.0; refused = tt; kept = tt; tied = goal.1; stands = goal.2 }
+  is_stepped (Err why) tells mutes kept = record {
+    gives = tt;
+    refused = muted why mutes kept.2;
+    kept = (kept.0, still kept.2 kept.3);
+    tied = tied_same ans image opening old new claim claim' job mid job' xs xs' tied run log kept.0 kept.1 kept.2 kept.3;
+    stands = stands_still kept.1 kept.2;
+  }

@@ -25,7 +25,7 @@ use Rattle.mj_steps.specs.declared.step.Refusal.TheVariants as refusals
 use Rattle.mj_steps.specs.declared.step.Step.{Step}
 use Rattle.mj_steps.specs.declared.step.Way.{Way}
 use Rattle.mj_steps.specs.declared.step.Way.TheVariants as ways
-use Rattle.mj_core.specs.Shown.{Shown, was_over, with_over, spent_by, with_spent}
+use Rattle.mj_core.specs.Shown.{AtAsk, Shown, was_over, with_over, spent_by, with_spent, with_stand}
 use Rattle.mj_core.specs.Having.{has_session}
 use Rattle.mj_core.specs.Meaning.{Means}
 use Rattle.mj_core.specs.Serving.{serving, calling}
@@ -43,6 +43,25 @@ spent_limit = 2 ^ 63
 abbrev pub Makes : List Routine → Start → Log → Ask → Type 0
 Makes image start log a = (n : ℕ) × (locals : Locals) × (at : List Place) × (next image start n (replies_of log) ≡ outcomes.Needs a locals at)
 
+-- after this log the job waits for a reply: this is what it asks, with its locals and the places of its frames there
+abbrev pub Waits : List Routine → Start → Log → AtAsk → Type 0
+Waits image start log at = ((n : ℕ) × (next image start n (replies_of log) ≡ outcomes.Needs at.ask at.locals at.places)) × (at.answered ≡ false)
+
+-- By this log the job stands at that ask: it waits for the reply behind the log; or the reply is the log's last, and it waited for it before.
+abbrev pub StandsAt : List Routine → Start → Log → AtAsk → Type 0
+StandsAt image start log at =
+    Waits image start log at
+    ⊎ ((earlier : Log) × (reply : Reply) × (log ≡ earlier ++ (at.ask, reply) ∷ []) × Waits image start earlier (record at { answered = false })
+    × (at.answered ≡ true))
+
+-- the job has its reply, and hasn't gone on
+abbrev pub answered : AtAsk → AtAsk
+answered at = record at { answered = true }
+
+-- a job stands so now, or at no ask; all else is as it was
+abbrev pub stands_so : Shown → ℕ → Option AtAsk → Shown
+stands_so old job stand = record old { stands = with_stand old.stands job stand }
+
 -- what is asked has a timeout where the step is late
 abbrev pub IsTimely : Bool → Ask → Type 0
 IsTimely late a = late ≡ true → timeout_of a ≡ None → ⊥
@@ -53,35 +72,43 @@ pub record IsReplyTold (s : Shared) (job : ℕ) (a : Ask) (late : Bool) (reply :
   pub shared : is_shared a ≡ true → served s job a late ≡ Some (reply, s')
   pub in_time : is_shared a ≡ false → reply ≡ replies.Late → is_timed_out (timeout_of a) late ≡ true
 
--- When a step of one job isn't made: it is late, and what the job asks has no timeout; or memory was refused.
-abbrev pub IsStepRefused : List Routine → Start → Log → Bool → Refusal → Type 0
-IsStepRefused image start log late refusals.NotTimed = (late ≡ true) × ((a : Ask) × Makes image start log a × (timeout_of a ≡ None))
-IsStepRefused image start log late refusals.Memory = Unit {0}
-IsStepRefused image start log late _ = ⊥
+-- When a step of one job isn't made, and how the job stands then: it is late, and the job waits with an ask that has no timeout; or memory was refused, on
+-- the job's way or where it waits.
+abbrev pub IsStepRefused : List Routine → Start → Log → Bool → Refusal → Option AtAsk → Type 0
+IsStepRefused image start log late refusals.NotTimed stand =
+    (late ≡ true) × ((at : AtAsk) × Waits image start log at × (timeout_of at.ask ≡ None) × (stand ≡ Some at))
+IsStepRefused image start log late refusals.Memory stand = (stand ≡ None) ⊎ ((at : AtAsk) × Waits image start log at × (stand ≡ Some at))
+IsStepRefused image start log late _ stand = ⊥
 
--- the job goes on for all turns of a step, and asks nothing
+-- the job goes on for all turns of a step, and asks nothing: so it stands at no ask
 abbrev pub RunsOn : List Routine → ℕ → Start → Shown → Shown → Type 0
 RunsOn image job start old new =
     (turns : ℕ) × (turns ≡ min (spent_by old.spent job + fuel) spent_limit) × GoesOn image start (log_of job old.history) turns
-    × (new ≡ record old { spent = with_spent old.spent job turns })
+    × (new ≡ record old { spent = with_spent old.spent job turns; stands = with_stand old.stands job None })
 
 -- What a step of a live job gives, for which this reply of a device is given or none: an event, of what the job asks after its events so far, which is
 -- told its reply; what keeps it busy; that there is nothing to read yet; that nobody can answer it; or that it goes on for all turns of the step.
 abbrev pub LiveStepGives : Means → List Routine → Shared → ℕ → Start → Bool → Option Reply → Shown → Seen → Shown → Type 0
-LiveStepGives means image opening job start late given old (seen.Event at) new =
-    (a : Ask) × (reply : Reply) × Makes image start (log_of job old.history) a × IsTimely late a
-    × IsReplyTold (state_of opening old.history) job a late reply (state_of opening new.history)
-    × means.Told (log_of job old.history) given a late reply ((at ≡ length old.history)
-    × (new ≡ record old { history = old.history ++ record { job = job; ask = a; reply = reply } ∷ []; spent = with_spent old.spent job 0 }))
+LiveStepGives means image opening job start late given old (seen.Event place) new =
+    (at : AtAsk) × (reply : Reply) × Waits image start (log_of job old.history) at × IsTimely late at.ask
+    × IsReplyTold (state_of opening old.history) job at.ask late reply (state_of opening new.history)
+    × means.Told (log_of job old.history) given at.ask late reply ((place ≡ length old.history)
+    × (new ≡ record old {
+      history = old.history ++ record { job = job; ask = at.ask; reply = reply } ∷ [];
+      spent = with_spent old.spent job 0;
+      stands = with_stand old.stands job (Some (answered at));
+    }))
 LiveStepGives means image opening job start late given old (seen.Busy holder held) new =
-    (a : Ask) × Makes image start (log_of job old.history) a × IsTimely late a
-    × (served (state_of opening old.history) job a late ≡ None) × KeepsBusy (state_of opening old.history) job a holder held
-    × (new ≡ old)
+    (at : AtAsk) × Waits image start (log_of job old.history) at × IsTimely late at.ask
+    × (served (state_of opening old.history) job at.ask late ≡ None) × KeepsBusy (state_of opening old.history) job at.ask holder held
+    × (new ≡ stands_so old job (Some at))
 LiveStepGives means image opening job start late given old seen.NotYet new =
-    (a : Ask) × Makes image start (log_of job old.history) a × IsTimely late a × means.NotYet (log_of job old.history) a late (new ≡ old)
+    (at : AtAsk) × Waits image start (log_of job old.history) at × IsTimely late at.ask
+    × means.NotYet (log_of job old.history) at.ask late (new ≡ stands_so old job (Some at))
 LiveStepGives means image opening job start late given old seen.Unfit new =
-    (a : Ask) × Makes image start (log_of job old.history) a × IsTimely late a
-    × means.Unfit (state_of opening old.history) (log_of job old.history) (λ name. has_session opening job name old.history) a late given (new ≡ old)
+    (at : AtAsk) × Waits image start (log_of job old.history) at × IsTimely late at.ask
+    × means.Unfit (state_of opening old.history) (log_of job old.history) (λ name. has_session opening job name old.history) at.ask late given
+    (new ≡ stands_so old job (Some at))
 LiveStepGives means image opening job start late given old seen.Ran new = RunsOn image job start old new
 LiveStepGives means image opening job start late given old seen.Ended new = ⊥
 
@@ -90,13 +117,15 @@ abbrev pub IsDone : Shared → Shown → ℕ → Type 0
 IsDone opening old job = IsLive (state_of opening old.history).rows job → ⊥
 
 -- What a step of a job gives that has a row, whose end wasn't seen, where the history has room: its job has halted, which is seen now, and no other
--- job's end is; or it goes on; or its step isn't made.
+-- job's end is; or it goes on; or its step isn't made, at once for want of memory, or behind some turns.
 abbrev pub JobStepGives : Means → Shared → Shown → ℕ → Row → Bool → Option Reply → Result Seen Refusal → Shown → Type 0
 JobStepGives means opening old job row late given (Ok seen.Ended) new = IsDone opening old job × (new ≡ record old { over = with_over old.over job })
 JobStepGives means opening old job row late given (Ok what) new =
     IsLive (state_of opening old.history).rows job × LiveStepGives means (routines_of old.image) opening job (start_in job row.start) late given old what new
 JobStepGives means opening old job row late given (Err why) new =
-    IsStepRefused (routines_of old.image) (start_in job row.start) (log_of job old.history) late why × (new ≡ old)
+    ((why ≡ refusals.Memory) × (new ≡ old))
+    ⊎ ((stand : Option AtAsk) × IsStepRefused (routines_of old.image) (start_in job row.start) (log_of job old.history) late why stand
+    × (new ≡ stands_so old job stand))
 
 -- whether a step is late
 abbrev pub is_late : Way → Bool
@@ -137,10 +166,10 @@ RunGives opening old (step ∷ steps) [] new = ⊥
 -- it has halted, which a step is to see yet.
 abbrev pub Readies : Shared → Shown → ℕ → Row → Result Turn Refusal → Shown → Type 0
 Readies opening old job row (Ok turns.Asks) new =
-    ((a : Ask) × Makes (routines_of old.image) (start_in job row.start) (log_of job old.history) a) × (new ≡ old)
+    (at : AtAsk) × Waits (routines_of old.image) (start_in job row.start) (log_of job old.history) at × (new ≡ stands_so old job (Some at))
 Readies opening old job row (Ok turns.Ran) new = RunsOn (routines_of old.image) job (start_in job row.start) old new
 Readies opening old job row (Ok turns.Ended) new = IsDone opening old job × (new ≡ old)
-Readies opening old job row (Err why) new = (why ≡ refusals.Memory) × (new ≡ old)
+Readies opening old job row (Err why) new = (why ≡ refusals.Memory) × ((new ≡ old) ⊎ (new ≡ stands_so old job None))
 
 -- What it gives to make a job ready. That there is no such job is tested first, then that its end was seen.
 abbrev pub GivesReady : Shared → Shown → ℕ → Result Turn Refusal → Shown → Type 0

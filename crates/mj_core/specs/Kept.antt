@@ -1,10 +1,11 @@
 -- What a core keeps.
-use Rattle.std.specs.Prelude.{◌≡◌, ℕ, zero, suc, ◌≤◌, List, [], ◌∷◌, length, map, slice_get, Bool, Option, Some, None}
+use Rattle.std.specs.Prelude.{◌≡◌, ℕ, zero, suc, ◌≤◌, List, [], ◌∷◌, length, map, slice_get, Bool, false, Option, Some, None, ◌⊎◌}
 use Rattle.std.specs.Borrow.{Bor}
 use Rattle.mj_ask.specs.declared.ask.Ask.{Ask}
 use Rattle.mj_ask.specs.declared.ask.Reply.{Reply}
-use Rattle.mj_load.specs.Image.{Loaded}
+use Rattle.mj_load.specs.Image.{Loaded, routines_of}
 use Rattle.mj_jobs.specs.Rows.{Row, row_at}
+use Rattle.mj_jobvm.specs.Jobs.{IsRunOf}
 use Rattle.mj_sys.specs.declared.event.Event.{Event}
 use Rattle.mj_sys.specs.Shared.{Shared}
 use Rattle.mj_sys.specs.History.{History, state_of, log_of}
@@ -13,23 +14,34 @@ use Rattle.mj_core.specs.declared.happened.Happened.{Happened}
 use Rattle.mj_core.specs.Happen.{AllHappen, shared_of}
 use Rattle.mj_core.specs.Woven.{Logs, woven, AreThere}
 use Rattle.mj_core.specs.Having.{has_session}
-use Rattle.mj_core.specs.Shown.{Shown}
+use Rattle.mj_core.specs.Shown.{AtAsk, Shown, stand_at}
+use Rattle.mj_core.specs.Runs.{start_in}
+use Rattle.mj_core.specs.Gives.{StandsAt}
 use Rattle.mj_core.specs.Answering.{Answering, HasAll}
-use Rattle.mj_core.specs.Ties.{Placed, IsPlaced}
+use Rattle.mj_core.specs.Ties.{Placed, IsPlaced, IsStanding, stand_of}
 
 -- the logs of jobs
 abbrev pub logs_of : {A : Type 0} → List (Placed A) → Logs
 logs_of slots = map (λ s. s.job.run.log) slots
 
+-- for so many jobs what there is of each by its slot, or this where it has none
+abbrev pub each_of : {A X : Type 0} → X → (Placed A → X) → ℕ → List (Placed A) → List X
+each_of none one zero slots = []
+each_of {A = A} none one (suc n) [] = none ∷ each_of {A = A} none one n []
+each_of none one (suc n) (slot ∷ slots) = one slot ∷ each_of none one n slots
+
 -- for so many jobs the turns that each was let go on for since its last reply: one without a slot for none
 abbrev pub turns_of : {A : Type 0} → ℕ → List (Placed A) → List ℕ
-turns_of zero slots = []
-turns_of {A = A} (suc n) [] = 0 ∷ turns_of {A = A} n []
-turns_of (suc n) (slot ∷ slots) = slot.job.run.spent ∷ turns_of n slots
+turns_of n slots = each_of 0 (λ s. s.job.run.spent) n slots
+
+-- for so many jobs how each stands, where it stands at an ask: one without a slot doesn't
+abbrev pub stands_of : {A : Type 0} → ℕ → List (Placed A) → List (Option AtAsk)
+stands_of n slots = each_of None (λ s. stand_of s) n slots
 
 -- what is seen of a core, for so many jobs
 abbrev pub shown : {A : Type 0} → Loaded → List (Placed A) → List Happened → List Bool → ℕ → Shown
-shown image slots order over n = record { image = image; history = woven (logs_of slots) order; over = over; spent = turns_of n slots }
+shown image slots order over n =
+    record { image = image; history = woven (logs_of slots) order; over = over; spent = turns_of n slots; stands = stands_of n slots }
 
 -- the claim of a row that waits for its slot
 abbrev pub claim_of : {C S : Type 0} → Option (C × S) → Option C
@@ -47,10 +59,11 @@ IsClaimed opening system n (Some claim) =
 abbrev pub AreHeld : {A : Type 0} → Answering A → Shared → ℕ → History → A → Type 0
 AreHeld by opening job history x = HasAll by x (λ name. has_session opening job name history)
 
--- a slot is that of this job, tied to the system, and the history of all jobs has its log, and says which sessions it has
+-- a slot is that of this job, tied to the system, which stands as its run does; and the history of all jobs has its log, and says which sessions it has
 pub record IsSlotOf {A : Type 0} (by : Answering A) (image : Loaded) (opening : Shared) (system : Recorded) (history : History) (job : ℕ) (slot : Placed A) : Type 0 where
   pub numbered : slot.claim.job ≡ job
   pub placed : IsPlaced by image opening system slot
+  pub stands : IsStanding image slot
   pub logged : log_of job history ≡ slot.job.run.log
   pub held : AreHeld by opening job history slot.answerer
 
@@ -64,6 +77,17 @@ pub record AreKept {A : Type 0} (by : Answering A) (image : Loaded) (opening : S
   pub there : AreThere (logs_of slots) order
   pub claimed : IsClaimed opening system (length slots) waiting
   pub within : length order ≤ history_limit
+
+-- The slot is that of this job, as what is seen of a core says: its job runs from its row's start, has the log that the history has of it, and stands at
+-- the ask that is shown, as its run does, or at none.
+pub record IsSeenSlot {A : Type 0} (opening : Shared) (seen : Shown) (job : ℕ) (slot : Placed A) : Type 0 where
+  pub row : Row
+  pub there : row_at (state_of opening seen.history).rows job ≡ Some row
+  pub run : IsRunOf seen.image (start_in job row.start) slot.job
+  pub log : slot.job.run.log ≡ log_of job seen.history
+  pub shown : stand_at seen.stands job ≡ stand_of slot
+  pub stands : (slot.at_ask ≡ false)
+      ⊎ ((at : AtAsk) × (stand_of slot ≡ Some at) × StandsAt (routines_of seen.image) (start_in job row.start) (log_of job seen.history) at)
 
 -- an event as it is shown: its job, what that asked, and what it was told
 abbrev pub shown_event : Option (ℕ × Bor Ask × Bor Reply) → Option Event

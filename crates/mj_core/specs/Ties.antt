@@ -1,15 +1,16 @@
 -- One job among many, and what a step of it gives.
-use Rattle.std.specs.Prelude.{◌≡◌, ℕ, ◌+◌, ◌≤◌, min, List, [], ◌∷◌, ◌++◌, Bool, true, false, Option, Some, None, ◌⊎◌, count_by}
+use Rattle.std.specs.Prelude.{◌≡◌, ℕ, ◌+◌, ◌≤◌, min, List, [], ◌∷◌, ◌++◌, Bool, true, false, Option, Some, None, ◌⊎◌, count_by, reverse, if◌then◌else◌}
 use Rattle.mj_ask.specs.declared.ask.Ask.{Ask}
 use Rattle.mj_ask.specs.declared.ask.Reply.{Reply}
 use Rattle.mj_ask.specs.declared.ask.Reply.TheVariants as replies
 use Rattle.mj_ask.specs.Fits.{fits, is_shared, timeout_of}
 use Rattle.mj_ast.specs.Syntax.{Routine}
+use Rattle.mj_semantics.specs.State.{State, places}
 use Rattle.mj_semantics.specs.Job.{Start}
-use Rattle.mj_load.specs.Image.{Loaded}
+use Rattle.mj_load.specs.Image.{Loaded, routines_of}
 use Rattle.mj_jobs.specs.Rows.{Row, row_at, IsLive}
 use Rattle.mj_dev.specs.Heard.{Heard, IsNew}
-use Rattle.mj_jobvm.specs.Run.{Log, GoesOn, HasEnded}
+use Rattle.mj_jobvm.specs.Run.{Log, Run, GoesOn, HasEnded}
 use Rattle.mj_jobvm.specs.Jobs.{Running, IsRunOf}
 use Rattle.mj_ask.specs.Late.{is_timed_out}
 use Rattle.mj_sys.specs.declared.served.Served.{Served}
@@ -23,17 +24,19 @@ use Rattle.mj_steps.specs.declared.step.Refusal.TheVariants as refusals
 use Rattle.mj_core.specs.declared.parts.Made.{Made}
 use Rattle.mj_core.specs.declared.parts.Made.TheVariants as made
 use Rattle.mj_core.specs.declared.parts.Place.{Place}
-use Rattle.mj_core.specs.declared.parts.Place.TheVariants as places
+use Rattle.mj_core.specs.declared.parts.Place.TheVariants as ready
 use Rattle.mj_core.specs.Happen.{shared_of}
 use Rattle.mj_core.specs.Runs.{start_in}
-use Rattle.mj_core.specs.Gives.{fuel, spent_limit, Makes, IsTimely, IsReplyTold}
+use Rattle.mj_core.specs.Shown.{AtAsk}
+use Rattle.mj_core.specs.Gives.{fuel, spent_limit, Waits, StandsAt, answered, IsTimely, IsReplyTold}
 use Rattle.mj_core.specs.Answering.{Answering, HasAll, HasStill, Stays, AreBehind, IsNobodys, IsRoomFor}
 
--- a job with its claim, and who answers for it what it asks a device
+-- a job with its claim, and who answers for it what it asks a device; and whether it stands at an ask
 pub record Placed (A : Type 0) : Type 0 where
   pub claim : Claimed
   pub job : Running
   pub answerer : A
+  pub at_ask : Bool
 
 -- how its job starts
 abbrev pub start_of : {A : Type 0} → Placed A → Start
@@ -65,6 +68,27 @@ pub record IsTied {A : Type 0} (by : Answering A) (image : Loaded) (opening : Sh
 abbrev pub IsPlaced : {A : Type 0} → Answering A → Loaded → Shared → Recorded → Placed A → Type 0
 IsPlaced by image opening system slot = IsTied by image opening system slot.claim slot.job slot.answerer
 
+-- a job in this state at the ask that it waits with, or else at the one that it was told last
+abbrev pub stand_by : Option Ask → Log → State → Option AtAsk
+stand_by (Some a) log s = Some (record { ask = a; locals = s.locals; places = places s; answered = false })
+stand_by None log s = elim (reverse log) [
+  | [] ↦ None
+  | e ∷ earlier ↦ Some (record { ask = e.0; locals = s.locals; places = places s; answered = true })
+]
+
+abbrev pub stand_in : Run → Option AtAsk
+stand_in run = stand_by run.pending run.log run.at.state
+
+-- how the job of a slot stands, where it stands at an ask
+abbrev pub stand_of : {A : Type 0} → Placed A → Option AtAsk
+stand_of slot = if slot.at_ask then stand_in slot.job.run else None
+
+-- it stands at no ask; or it stands at an ask as its private run does
+abbrev pub IsStanding : {A : Type 0} → Loaded → Placed A → Type 0
+IsStanding image slot =
+    (slot.at_ask ≡ false)
+    ⊎ ((at : AtAsk) × (stand_of slot ≡ Some at) × StandsAt (routines_of image) (start_of slot) slot.job.run.log at)
+
 -- nothing was asked or told: the log and the count of turns are as they were, and the job has each session that it had
 abbrev pub IsStill : {A : Type 0} → Answering A → Placed A → Placed A → Type 0
 IsStill by old new = (new.job.run.log ≡ old.job.run.log) × (new.job.run.spent ≡ old.job.run.spent) × HasStill by old.answerer new.answerer
@@ -73,35 +97,40 @@ IsStill by old new = (new.job.run.log ≡ old.job.run.log) × (new.job.run.spent
 -- the history of the system if that served it; or nothing is told, and both stay.
 abbrev pub Steps : {A : Type 0} → Answering A → List Routine → Shared → Bool → Option Reply → Recorded → Placed A → Made → Recorded → Placed A → Type 0
 Steps by image opening late given old slot made.Event new slot' =
-    (a : Ask) × (reply : Reply) × Makes image (start_of slot) slot.job.run.log a × IsTimely late a
+    (at : AtAsk) × (reply : Reply) × Waits image (start_of slot) slot.job.run.log at × IsTimely late at.ask
     × IsLive (state_of opening old.history).rows slot.claim.job
-    × IsReplyTold (state_of opening old.history) slot.claim.job a late reply (state_of opening new.history)
-    × (slot'.job.run.log ≡ slot.job.run.log ++ (a, reply) ∷ [])
+    × IsReplyTold (state_of opening old.history) slot.claim.job at.ask late reply (state_of opening new.history)
+    × (slot'.job.run.log ≡ slot.job.run.log ++ (at.ask, reply) ∷ [])
     × (slot'.job.run.spent ≡ 0)
-    × AreBehind by (state_of opening old.history) a slot.answerer slot'.answerer
-    × (new ≡ record old { history = old.history ++ shared_of (record { job = slot.claim.job; ask = a; reply = reply } ∷ []) })
-    × by.means.Told slot.job.run.log given a late reply (Unit {0})
+    × AreBehind by (state_of opening old.history) at.ask slot.answerer slot'.answerer
+    × (new ≡ record old { history = old.history ++ shared_of (record { job = slot.claim.job; ask = at.ask; reply = reply } ∷ []) })
+    × by.means.Told slot.job.run.log given at.ask late reply (Unit {0})
+    × (stand_of slot' ≡ Some (answered at))
 Steps by image opening late given old slot (made.Busy holder held) new slot' =
-    (a : Ask) × Makes image (start_of slot) slot.job.run.log a × IsTimely late a
-    × (served (state_of opening old.history) slot.claim.job a late ≡ None) × KeepsBusy (state_of opening old.history) slot.claim.job a holder held
-    × (new ≡ old) × IsStill by slot slot'
+    (at : AtAsk) × Waits image (start_of slot) slot.job.run.log at × IsTimely late at.ask
+    × (served (state_of opening old.history) slot.claim.job at.ask late ≡ None)
+    × KeepsBusy (state_of opening old.history) slot.claim.job at.ask holder held
+    × (new ≡ old) × IsStill by slot slot' × (stand_of slot' ≡ Some at)
 Steps by image opening late given old slot made.NotYet new slot' =
-    (a : Ask) × Makes image (start_of slot) slot.job.run.log a × IsTimely late a × by.means.NotYet slot.job.run.log a late (Unit {0})
-    × (new ≡ old) × IsStill by slot slot'
+    (at : AtAsk) × Waits image (start_of slot) slot.job.run.log at × IsTimely late at.ask
+    × by.means.NotYet slot.job.run.log at.ask late (Unit {0})
+    × (new ≡ old) × IsStill by slot slot' × (stand_of slot' ≡ Some at)
 Steps by image opening late given old slot made.Unfit new slot' =
-    (a : Ask) × Makes image (start_of slot) slot.job.run.log a × IsTimely late a
-    × ((has : List ℕ → Bool) → HasAll by slot.answerer has → by.means.Unfit (state_of opening old.history) slot.job.run.log has a late given (Unit {0}))
-    × (new ≡ old) × IsStill by slot slot'
+    (at : AtAsk) × Waits image (start_of slot) slot.job.run.log at × IsTimely late at.ask
+    × ((has : List ℕ → Bool) → HasAll by slot.answerer has
+    → by.means.Unfit (state_of opening old.history) slot.job.run.log has at.ask late given (Unit {0}))
+    × (new ≡ old) × IsStill by slot slot' × (stand_of slot' ≡ Some at)
 Steps by image opening late given old slot made.Ran new slot' =
     (slot'.job.run.spent ≡ min (slot.job.run.spent + fuel) spent_limit) × GoesOn image (start_of slot) slot.job.run.log slot'.job.run.spent
-    × (new ≡ old) × (slot'.job.run.log ≡ slot.job.run.log) × HasStill by slot.answerer slot'.answerer
-Steps by image opening late given old slot made.Ended new slot' = HasEnded image (start_of slot) slot.job.run.log × (new ≡ old) × IsStill by slot slot'
+    × (new ≡ old) × (slot'.job.run.log ≡ slot.job.run.log) × HasStill by slot.answerer slot'.answerer × (stand_of slot' ≡ None)
+Steps by image opening late given old slot made.Ended new slot' =
+    HasEnded image (start_of slot) slot.job.run.log × (new ≡ old) × IsStill by slot slot' × (stand_of slot' ≡ None)
 
--- the job goes on by a reply to what it asks
+-- the job goes on by a reply to what it asks, and stands where it stood
 abbrev pub GoesOnBy : Running → Ask → Reply → Running → Type 0
 GoesOnBy old a reply new =
     (new.run.log ≡ old.run.log ++ (a, reply) ∷ []) × ((image : Loaded) (start : Start) → IsRunOf image start old → IsRunOf image start new)
-    × (new.run.spent ≡ 0)
+    × (new.run.spent ≡ 0) × (new.run.pending ≡ None) × (new.run.at.state ≡ old.run.at.state)
 
 -- what a job is told that asks a device or a rest, or isn't
 abbrev pub Talks : {A : Type 0} → Answering A → Running → A → Ask → Bool → Option Reply → Made → Running → A → Type 0
@@ -120,9 +149,9 @@ Talks by old x a late given _ new x' = ⊥
 -- with that device, it serves nothing.
 abbrev pub IsServedAt : Shared → Recorded → Claimed → Ask → Place → Bool → Option (Served Heard) → Recorded → Claimed → Type 0
 IsServedAt opening old claim a place late None new claim' =
-    (place ≡ places.Taken) × (takes_session (state_of opening old.history) a ≡ true) × (new ≡ old) × (claim' ≡ claim)
+    (place ≡ ready.Taken) × (takes_session (state_of opening old.history) a ≡ true) × (new ≡ old) × (claim' ≡ claim)
 IsServedAt opening old claim a place late (Some told) new claim' =
-    Serves opening old claim a late told new claim' × (place ≡ places.Taken → takes_session (state_of opening old.history) a ≡ false)
+    Serves opening old claim a late told new claim' × (place ≡ ready.Taken → takes_session (state_of opening old.history) a ≡ false)
 
 -- What was served can be told to a job that asks this: the reply fits; and a session that goes to it is new, and has its place.
 abbrev pub CanBeTold : {A : Type 0} → Answering A → A → Ask → Place → Served Heard → Type 0

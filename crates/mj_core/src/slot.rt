@@ -10,7 +10,7 @@ ghost use Rattle.mj_sys.specs.System.{history_limit};
 ghost use Rattle.mj_sys.specs.Told.{IsTurn};
 ghost use Rattle.mj_core.specs.Answering.{Stays};
 ghost use Rattle.mj_core.specs.Gives.{IsStepRefused};
-ghost use Rattle.mj_core.specs.Ties.{IsPlaced, start_of, Steps, IsStill, JobIsTold, Shares, IsMuted};
+ghost use Rattle.mj_core.specs.Ties.{IsPlaced, IsStanding, start_of, stand_of, Steps, IsStill, JobIsTold, Shares, IsMuted};
 
 use crate::answerer::{Answerer, Fresh};
 use crate::parts::{Made, make_place, serve_at, take_up, talk};
@@ -34,6 +34,8 @@ pub struct Slot<A> {
     pub job: Job,
     /// who answers for it
     pub answerer: A,
+    /// whether the job stands at an ask: it waits for the reply, or has it, and hasn't gone on
+    pub at_ask: bool,
 }
 
 impl<A> Model for Slot<A> {
@@ -41,7 +43,7 @@ impl<A> Model for Slot<A> {
 
     ghost Value = { Placed A };
 
-    ghost view = { λ s. record { claim = s.claim; job = s.job; answerer = s.answerer } };
+    ghost view = { λ s. record { claim = s.claim; job = s.job; answerer = s.answerer; at_ask = s.at_ask } };
 }
 
 /// Makes a step of one job: it goes on to its next ask, which is served. A reply of a device is given with it, or none.
@@ -57,23 +59,28 @@ pub fn step_slot<D: Device, A: Answerer<Fresh<D>>, O: Opening>(
     requires room { length system.old.history < history_limit }
     ensures gives { IfOk result
         (λ made. Steps A.answering (routines_of image.now) O.opening late (option_copied given.entry) system.old slot.old made system.new slot.new) }
-    ensures refused { IfErr result (λ why. IsStepRefused (routines_of image.now) (start_of slot.old) slot.old.job.run.log late why) }
+    ensures refused { IfErr result (λ why. IsStepRefused (routines_of image.now) (start_of slot.old) slot.old.job.run.log late why (stand_of slot.new)) }
     ensures kept { OnErr result ((system.new ≡ system.old) × IsStill A.answering slot.old slot.new) }
     ensures tied { IsPlaced A.answering image.now O.opening system.new slot.new }
+    ensures stands { IsStanding image.now slot.new }
     ensures claim { (slot.new.claim.job ≡ slot.old.claim.job) × (slot.new.claim.start ≡ slot.old.claim.start) }
 {
+    slot.at_ask = false;
     match slot.job.advance(image, FUEL) {
         Err(_) => Err(Refusal::Memory),
         Ok(Turn::Ran) => Ok(Made::Ran),
         Ok(Turn::Ended) => Ok(Made::Ended),
-        Ok(Turn::Asks) => ask(
-            system,
-            &mut slot.claim,
-            &mut slot.job,
-            &mut slot.answerer,
-            late,
-            given,
-        ),
+        Ok(Turn::Asks) => {
+            slot.at_ask = true;
+            ask(
+                system,
+                &mut slot.claim,
+                &mut slot.job,
+                &mut slot.answerer,
+                late,
+                given,
+            )
+        }
     }
 }
 

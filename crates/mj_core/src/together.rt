@@ -13,10 +13,10 @@ ghost use Rattle.mj_sys.specs.Shared.{are_global};
 ghost use Rattle.mj_sys.specs.System.{Claimed, history_limit};
 ghost use Rattle.mj_core.specs.Woven.{woven};
 ghost use Rattle.mj_core.specs.Runs.{IsRun, start_in, out_of};
-ghost use Rattle.mj_core.specs.Gives.{StepGivesBy, JobStepGives, Readies, GivesReady};
-ghost use Rattle.mj_core.specs.Asking.{turn_of, IfAsks, IsAtAsk};
-ghost use Rattle.mj_core.specs.Shown.{begun};
-ghost use Rattle.mj_core.specs.Kept.{AreKept, logs_of, turns_of, claim_of, shown, shown_event};
+ghost use Rattle.mj_core.specs.Gives.{StepGivesBy, JobStepGives, Readies, GivesReady, StandsAt};
+ghost use Rattle.mj_core.specs.Asking.{turn_of, IfAsks, IsAtAsk, IsSeenAt};
+ghost use Rattle.mj_core.specs.Shown.{AtAsk, begun, stand_at};
+ghost use Rattle.mj_core.specs.Kept.{AreKept, IsSeenSlot, logs_of, turns_of, stands_of, claim_of, shown, shown_event};
 ghost use Rattle.std.specs.Fn.{FnOnceReturnsAt};
 
 use crate::answerer::{Answerer, Fresh};
@@ -61,7 +61,7 @@ impl<D: Device, A: Answerer<Fresh<D>>, O: Opening> Model for Core<D, A, O> {
     ghost use Rattle.mj_pcode.specs.contracts.instr.Unit as unit;
     ghost use Rattle.mj_core.specs.Woven.{woven};
     ghost use Rattle.mj_core.specs.Shown.{Shown};
-    ghost use Rattle.mj_core.specs.Kept.{AreKept, logs_of, turns_of, claim_of};
+    ghost use Rattle.mj_core.specs.Kept.{AreKept, logs_of, turns_of, stands_of, claim_of};
 
     ghost Value = { Shown };
 
@@ -72,6 +72,7 @@ impl<D: Device, A: Answerer<Fresh<D>>, O: Opening> Model for Core<D, A, O> {
       history = woven (logs_of c.slots.items) c.order.items;
       over = c.over.items;
       spent = turns_of 255 c.slots.items;
+      stands = stands_of 255 c.slots.items;
     } };
 
     ghost invariant = { λ c.
@@ -272,20 +273,36 @@ impl<D: Device, A: Answerer<Fresh<D>>, O: Opening> Core<D, A, O> {
         self.system.rows()
     }
 
-    /// A job that was stepped or made ready, or one before it. It runs the routines from its row's start, and its log is what the history has of
-    /// it: so what it shows of itself, its locals, its frames, its place and what it asks, is what stands there in its private run.
+    /// A job that stands at an ask, and so as it is shown: it waits for the reply, or has it, and hasn't gone on. It runs the routines from its row's
+    /// start, and its log is what the history has of it: so what it shows of itself, its locals, its frames, its place and what it asks, is what stands in
+    /// its private run beside that ask. None stands for one that stands at no ask.
     pub fn job(&self, job: u32) -> Option<&Job>
-        ensures none { IfNone result (log_of job self.now.history ≡ []) }
+        ensures none { IfNone result (stand_at self.now.stands job ≡ None) }
+        ensures shown { IfSome result (λ found. (at : AtAsk) × (stand_at self.now.stands job ≡ Some at) × IsSeenAt found.now.run at) }
+        ensures beside { IfSome result (λ found. (at : AtAsk) (row : Row) → stand_at self.now.stands job ≡ Some at
+            → row_at (state_of O.opening self.now.history).rows job ≡ Some row
+            → StandsAt (routines_of self.now.image) (start_in job row.start) (log_of job self.now.history) at) }
         ensures log { IfSome result (λ found. found.now.run.log ≡ log_of job self.now.history) }
         ensures run { IfSome result
             (λ found. (row : Row) × (row_at (state_of O.opening self.now.history).rows job ≡ Some row)
             × IsRunOf self.now.image (start_in job row.start) found.now) }
     {
+        let slot = self.slot_of(job)?;
+        if slot.at_ask { Some(&slot.job) } else { None }
+    }
+
+    // The slot of a job, if it has one yet.
+    fn slot_of(&self, job: u32) -> Option<&Slot<A>>
+        ensures none { IfNone result ((log_of job self.now.history ≡ []) × (stand_at self.now.stands job ≡ None)) }
+        ensures some { IfSome result (λ slot. IsSeenSlot O.opening self.now job slot.now) }
+    {
+        // there are few of them
+        let _rows = self.system.rows();
         match (job as usize).checked_sub(1) {
             None => None,
             Some(at) => match self.slots.get(at) {
                 None => None,
-                Some(slot) => Some(&slot.job),
+                Some(slot) => Some(slot),
             },
         }
     }
@@ -294,9 +311,9 @@ impl<D: Device, A: Answerer<Fresh<D>>, O: Opening> Core<D, A, O> {
     pub fn out(&self, job: u32, name: &Text, session: u32) -> Result<Vec<u8>, AllocError>
         ensures { IfOk result (λ bytes. bytes.items ≡ out_of self.now.history job name.now session) }
     {
-        match self.job(job) {
+        match self.slot_of(job) {
             None => Ok(Vec::new(self.alloc)),
-            Some(found) => output(self.alloc, found.log(), name, session),
+            Some(slot) => output(self.alloc, slot.job.log(), name, session),
         }
     }
 
@@ -331,6 +348,7 @@ fn admit<D: Device, A: Answerer<Fresh<D>>, O: Opening>(
     ensures history { system.new.history ≡ system.old.history }
     ensures woven { woven (logs_of slots.new.items) order.now ≡ woven (logs_of slots.old.items) order.now }
     ensures turns { (n : ℕ) → turns_of n slots.new.items ≡ turns_of n slots.old.items }
+    ensures stands { (n : ℕ) → stands_of n slots.new.items ≡ stands_of n slots.old.items }
     ensures there { OnOk result (at < length slots.new.items) }
 {
     for _ in slots.len()..at + 1 {
@@ -377,6 +395,7 @@ fn start_next<D: Device, A: Answerer<Fresh<D>>, O: Opening>(
     ensures kept { AreKept A.answering image.now O.opening system.now slots.new.items (claim_of waiting.new) order.now }
     ensures woven { woven (logs_of slots.new.items) order.now ≡ woven (logs_of slots.old.items) order.now }
     ensures turns { (n : ℕ) → turns_of n slots.new.items ≡ turns_of n slots.old.items }
+    ensures stands { (n : ℕ) → stands_of n slots.new.items ≡ stands_of n slots.old.items }
     ensures more { OnOk result (length slots.new.items ≡ suc (length slots.old.items)) }
     ensures same { OnErr result (length slots.new.items ≡ length slots.old.items) }
 {
@@ -400,6 +419,7 @@ fn start_next<D: Device, A: Answerer<Fresh<D>>, O: Opening>(
         claim,
         job,
         answerer,
+        at_ask: false,
     });
     Ok(())
 }
@@ -462,6 +482,7 @@ fn go_ready<D: Device, A: Answerer<Fresh<D>>, O: Opening, R, F: FnOnce(&Job) -> 
     requires few { at < 255 }
     requires there { at < length slots.old }
     requires kept { (waiting : Option Claimed) × AreKept A.answering image.now O.opening system.now slots.old waiting order.now }
+    requires live { IsLive (state_of O.opening system.now.history).rows (suc at) }
     requires callable { F.IsAlwaysCallable look }
     ensures kept { (waiting : Option Claimed) → AreKept A.answering image.now O.opening system.now slots.old waiting order.now
         → AreKept A.answering image.now O.opening system.now slots.new waiting order.now }
@@ -471,8 +492,12 @@ fn go_ready<D: Device, A: Answerer<Fresh<D>>, O: Opening, R, F: FnOnce(&Job) -> 
         × FnOnceReturnsAt F.FnOnce look found seen) }
 {
     let slot = &mut slots[at];
+    slot.at_ask = false;
     match slot.job.advance(image, FUEL) {
-        Ok(Turn::Asks) => Ok(Ready::Asks(look(&slot.job))),
+        Ok(Turn::Asks) => {
+            slot.at_ask = true;
+            Ok(Ready::Asks(look(&slot.job)))
+        }
         Ok(Turn::Ran) => Ok(Ready::Ran),
         Ok(Turn::Ended) => Ok(Ready::Ended),
         Err(_) => Err(Refusal::Memory),

@@ -1,5 +1,5 @@
 -- A step leaves the routines as they are, and the record grows at its end.
-use Rattle.std.specs.Prelude.{Result, Ok, Err, take}
+use Rattle.std.specs.Prelude.{None, Result, Ok, Err, take, ◌⊎◌}
 use Rattle.std.proofs.Common.{◌≡◌, ℕ, ◌<◌, ◌≤◌, [], ◌∷◌, ◌++◌, length, Bool, sym, ap, ◌∙◌, subst, inl, inr, append-nil, length-append, arith}
 use Rattle.std.proofs.lemmas.List.{take-append-le}
 use Rattle.mj_load.specs.Image.{Loaded}
@@ -15,7 +15,7 @@ use Rattle.mj_core.specs.declared.seen.Seen.TheVariants as seen
 use Rattle.mj_steps.specs.declared.step.Refusal.{Refusal}
 use Rattle.mj_steps.specs.declared.step.Step.{Step}
 use Rattle.mj_core.specs.Shown.{Shown}
-use Rattle.mj_core.specs.Gives.{is_late, CoreStepGives, Made, GivesReady, Readies}
+use Rattle.mj_core.specs.Gives.{is_late, stands_so, CoreStepGives, Made, GivesReady, Readies}
 use Rattle.mj_debug.specs.Playing.{AreStaged}
 use Rattle.mj_debug.specs.Replicas.{Replayed, IsReplica}
 
@@ -59,12 +59,13 @@ module _ (opening : Shared) (old new : Shown) (room : length old.history < histo
   made_grows (Ok (seen.Event at)) made =
       let goes = made.1 in
       let is = goes.5.1 in
-      one old new (record { job = job; ask = goes.0; reply = goes.1 }) (ap image_of is) (ap history_of is) room
-  made_grows (Ok (seen.Busy holder held)) made = same old new made.1.5
-  made_grows (Ok seen.NotYet) made = same old new made.1.3.3
-  made_grows (Ok seen.Unfit) made = same old new made.1.3.1
+      one old new (record { job = job; ask = goes.0.ask; reply = goes.1 }) (ap image_of is) (ap history_of is) room
+  made_grows (Ok (seen.Busy holder held)) made = still old new (ap image_of made.1.5) (ap history_of made.1.5)
+  made_grows (Ok seen.NotYet) made = still old new (ap image_of made.1.3.3) (ap history_of made.1.3.3)
+  made_grows (Ok seen.Unfit) made = still old new (ap image_of made.1.3.1) (ap history_of made.1.3.1)
   made_grows (Ok seen.Ran) made = still old new (ap image_of made.1.3) (ap history_of made.1.3)
-  made_grows (Err why) made = same old new made.1
+  made_grows (Err why) (inl made) = same old new made.1
+  made_grows (Err why) (inr made) = still old new (ap image_of made.2) (ap history_of made.2)
 
 -- by a step
 pub step_grows : (opening : Shared) (old new : Shown) (step : Step) (answer : Result Seen Refusal) → CoreStepGives opening old step answer new → Grows old new
@@ -75,10 +76,13 @@ step_grows opening old new step answer (inr (row, is, inr (inr goes))) = made_gr
 
 module _ (opening : Shared) (old new : Shown) (job : ℕ) (row : Row) where
   ready_same : (answer : Result Turn Refusal) → Readies opening old job row answer new → (new.image ≡ old.image) × (new.history ≡ old.history)
-  ready_same (Ok turns.Asks) r = (ap image_of r.1, ap history_of r.1)
+  ready_same (Ok turns.Asks) r = (ap image_of r.2, ap history_of r.2)
   ready_same (Ok turns.Ran) r = (ap image_of r.3, ap history_of r.3)
   ready_same (Ok turns.Ended) r = (ap image_of r.1, ap history_of r.1)
-  ready_same (Err why) r = (ap image_of r.1, ap history_of r.1)
+  ready_same (Err why) r = by r.1 where
+    by : (new ≡ old) ⊎ (new ≡ stands_so old job None) → (new.image ≡ old.image) × (new.history ≡ old.history)
+    by (inl is) = (ap image_of is, ap history_of is)
+    by (inr is) = (ap image_of is, ap history_of is)
 
 -- where a job is made ready, nothing happens
 pub ready_keeps : (opening : Shared) (old new : Shown) (job : ℕ) (answer : Result Turn Refusal) → GivesReady opening old job answer new
@@ -86,12 +90,6 @@ pub ready_keeps : (opening : Shared) (old new : Shown) (job : ℕ) (answer : Res
 ready_keeps opening old new job answer (inl none) = (ap image_of none.2, ap history_of none.2)
 ready_keeps opening old new job answer (inr (row, is, inl over)) = (ap image_of over.2, ap history_of over.2)
 ready_keeps opening old new job answer (inr (row, is, inr goes)) = ready_same opening old new job row answer goes.1
-
--- one that asks then is as it was
-pub asks_same : (opening : Shared) (old new : Shown) (job : ℕ) → GivesReady opening old job (Ok turns.Asks) new → new ≡ old
-asks_same opening old new job (inl none) = none.2
-asks_same opening old new job (inr (row, is, inl over)) = over.2
-asks_same opening old new job (inr (row, is, inr goes)) = goes.1.1
 
 pub ready_grows : (opening : Shared) (old new : Shown) (job : ℕ) (answer : Result Turn Refusal) → GivesReady opening old job answer new → Grows old new
 ready_grows opening old new job answer gives = let kept = ready_keeps opening old new job answer gives in still old new kept.0 kept.1

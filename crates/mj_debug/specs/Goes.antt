@@ -21,6 +21,8 @@ use Rattle.mj_core.specs.Shown.{Shown}
 use Rattle.mj_core.specs.Gives.{CoreStepGives, GivesReady}
 use Rattle.mj_debug.specs.declared.debugger.Gone.{Gone}
 use Rattle.mj_debug.specs.declared.debugger.Gone.TheVariants as gones
+use Rattle.mj_debug.specs.declared.replica.Unshown.{Unshown}
+use Rattle.mj_debug.specs.declared.replica.Unshown.TheVariants as unshown
 use Rattle.mj_debug.specs.Breaks.{stops}
 use Rattle.mj_debug.specs.Shows.{HasStood}
 use Rattle.mj_debug.specs.Walks.{Walk}
@@ -72,7 +74,8 @@ IsUnasked (Err why) answer = answer ≡ Err why
 abbrev pub Passes : Shared → Walk → Bool → ℕ → Result Seen Refusal → Shown → Type 0
 Passes opening old true job answer new = CoreStepGives opening old.core (record { job = job; way = ways.Go }) answer new
 Passes opening old false job answer new =
-    ((places : List Place) × IsStop opening old job places false × CoreStepGives opening old.core (record { job = job; way = ways.Go }) answer new)
+    ((places : List Place) × IsStop opening old job places false
+    × ((ready : Shown) × GivesReady opening old.core job (Ok turns.Asks) ready × CoreStepGives opening ready (record { job = job; way = ways.Go }) answer new))
     ⊎ ((turn : Result Turn Refusal) × IsUnasked turn answer × GivesReady opening old.core job turn new)
 
 -- What comes of the next step of a `go`: that the place isn't the record's end; that all jobs have ended; that the job whose turn it is stops at a
@@ -83,7 +86,8 @@ GoGives opening old first gones.Over new = (old.place ≡ length old.core.histor
 GoGives opening old first (gones.At job routine line) new =
     (old.place ≡ length old.core.history) × (first ≡ false) × IsTurnOf (state_of opening old.core.history).rows old.turn job
     × ((outer : List Place) × IsStop opening old job (record { routine = routine; line = line } ∷ outer) true)
-    × (new ≡ record old { ready = true; turn = job })
+    × GivesReady opening old.core job (Ok turns.Asks) new.core
+    × (new ≡ record old { core = new.core; ready = true; turn = job })
 GoGives opening old first (gones.Step job answer) new =
     (old.place ≡ length old.core.history) × IsTurnOf (state_of opening old.core.history).rows old.turn job
     × Passes opening old first job answer new.core
@@ -94,3 +98,12 @@ abbrev pub IsPassed : Shared → Walk → ℕ → Gone → Walk → Type 0
 IsPassed opening old job gone new =
     (answer : Result Seen Refusal) × (gone ≡ gones.Step job answer) × CoreStepGives opening old.core (record { job = job; way = ways.Go }) answer new.core
     × (new ≡ record old { core = new.core; place = length new.core.history; ready = new.ready; turn = suc job })
+
+-- What is left where no step of a `go` is made. For want of memory the job whose turn it is may have come to its next ask; else nothing changes but what is
+-- at hand.
+abbrev pub IsUnmade : Shared → Walk → Unshown → Walk → Type 0
+IsUnmade opening old unshown.Memory new =
+    (new ≡ record old { core = new.core; ready = new.ready })
+    × ((new.core ≡ old.core)
+    ⊎ ((job : ℕ) × IsTurnOf (state_of opening old.core.history).rows old.turn job × GivesReady opening old.core job (Ok turns.Asks) new.core))
+IsUnmade opening old unshown.Long new = new ≡ record old { ready = new.ready }

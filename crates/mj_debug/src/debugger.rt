@@ -7,6 +7,7 @@ ghost use Rattle.mj_frames.specs.Frames.{frames_of, place_at};
 ghost use Rattle.mj_jobs.specs.Rows.{row_at, rows_limit};
 ghost use Rattle.mj_core.specs.Asking.{IsAtAsk, IfAsks, turn_of};
 ghost use Rattle.mj_jobvm.specs.Jobs.{Running};
+ghost use Rattle.mj_jobvm.specs.declared.job.Turn.TheVariants as turns;
 ghost use Rattle.mj_core.specs.declared.seen.Ready.TheVariants as readies;
 ghost use Rattle.mj_load.specs.Image.{routines_of};
 ghost use Rattle.mj_semantics.specs.State as states;
@@ -18,7 +19,7 @@ ghost use Rattle.mj_sys.specs.System.{history_limit};
 ghost use Rattle.mj_core.specs.Gives.{CoreStepGives, GivesReady};
 ghost use Rattle.mj_core.specs.Shown.{begun};
 ghost use Rattle.mj_debug.specs.Breaks.{AreMarked, is_there};
-ghost use Rattle.mj_debug.specs.Goes.{GoGives, IsTurnOf, IsStop, IsUnasked, IsPassed, line_in};
+ghost use Rattle.mj_debug.specs.Goes.{GoGives, IsTurnOf, IsStop, IsUnasked, IsPassed, IsUnmade, line_in};
 ghost use Rattle.mj_debug.specs.Replicas.{Replayed, IsReplica, IsFull, IsUnshown};
 ghost use Rattle.mj_debug.specs.Shows.{HasStood};
 ghost use Rattle.mj_debug.specs.Views.{view_of, IsView, AreViews};
@@ -337,7 +338,7 @@ impl<D: Device, O: Opening> Debugger<D, Sessions<D>, O> {
     /// that out it is let go on as `Core::ready` does, and where it comes to no ask by that, this is its step.
     pub fn go(&mut self, first: bool) -> Result<Gone, Unshown>
         ensures ok { IfOk result (λ gone. GoGives O.opening self.old first gone self.new) }
-        ensures err { OnErr result (self.new ≡ record self.old { ready = self.new.ready }) }
+        ensures err { IfErr result (λ why. IsUnmade O.opening self.old why self.new) }
         ensures why { IfErr result (λ why. IsUnshown self.old.core.image O.opening self.old.core.history self.old.place why) }
     {
         if self.place < self.core.len() {
@@ -363,7 +364,8 @@ impl<D: Device, O: Opening> Debugger<D, Sessions<D>, O> {
         requires turn { IsTurnOf (state_of O.opening self.old.core.history).rows self.old.turn job }
         requires few { job ≤ rows_limit }
         ensures ok { IfOk result (λ gone. GoGives O.opening self.old false gone self.new) }
-        ensures err { OnErr result (self.new ≡ self.old) }
+        ensures err { OnErr result
+            ((self.new ≡ record self.old { core = self.new.core }) × GivesReady O.opening self.old.core job (Ok turns.Asks) self.new.core) }
     {
         let line = match asked(ready_on(&mut self.core, job)) {
             Ok(line) => line?,

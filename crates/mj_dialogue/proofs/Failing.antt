@@ -1,5 +1,5 @@
 -- Commands that aren't answered.
-use Rattle.std.proofs.Common.{◌≡◌, ℕ, List, [], Bool, true, Option, Result, Ok, Err, IfErr, OnErr, IsErrAnd, sym, subst, inl}
+use Rattle.std.proofs.Common.{◌≡◌, ℕ, List, [], Bool, true, Option, Result, Ok, Err, IfErr, OnErr, IsErrAnd, sym, subst}
 use Rattle.std.proofs.lemmas.Result.{IfErr-weaker}
 use Rattle.std.specs.Io.KnownBytes.{Appends}
 use Rattle.mj_sys.specs.Shared.{Shared}
@@ -9,7 +9,7 @@ use Rattle.mj_debug.specs.Walks.{Walk}
 use Rattle.mj_dialogue.specs.declared.command.Command.{Command}
 use Rattle.mj_dialogue.specs.declared.answering.Trouble.{Trouble}
 use Rattle.mj_dialogue.specs.declared.answering.Trouble.TheVariants as troubles
-use Rattle.mj_dialogue.specs.Fails.{Fails, IsHidden, IsCut, IsDone, IsUnanswered, IsOutputWritten, is_show, trouble_of}
+use Rattle.mj_dialogue.specs.Fails.{Fails, IsHidden, IsDone, IsUnanswered, IsOutputWritten, is_show, trouble_of}
 use Rattle.mj_dialogue.proofs.Going.{appends_none}
 
 -- what holds of an error holds of what the exit of a `?` gives
@@ -33,11 +33,6 @@ pub hidden : (opening : Shared) (old new : Walk) (command : Command) (why : Unsh
     → is_show command ≡ true → IsDone opening old command new → IsHidden opening old why new → IsUnanswered opening old command (trouble_of why) new
 hidden opening old new command unshown.Memory show done hides = done
 hidden opening old new command unshown.Long show done hides = (show, hides)
-
--- a step of many that isn't made, since what stands at the place isn't shown
-pub cut : (opening : Shared) (old new : Walk) (first : Bool) (why : Unshown) → IsHidden opening old why new → IsCut opening old first (trouble_of why) new
-cut opening old new first unshown.Memory hides = inl hides.0
-cut opening old new first unshown.Long hides = hides
 
 -- a command of which nothing was told
 pub untold : (opening : Shared) (old new : Walk) (given command : Command) (why : Trouble) (r : Result Bool Trouble) (out : Option (List ℕ))

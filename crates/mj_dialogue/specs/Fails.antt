@@ -9,7 +9,7 @@ use Rattle.mj_debug.specs.declared.debugger.Gone.{Gone}
 use Rattle.mj_debug.specs.declared.replica.Unshown.{Unshown}
 use Rattle.mj_debug.specs.declared.replica.Unshown.TheVariants as unshown
 use Rattle.mj_debug.specs.Breaks.{AreMarked}
-use Rattle.mj_debug.specs.Goes.{GoGives}
+use Rattle.mj_debug.specs.Goes.{GoGives, IsUnmade}
 use Rattle.mj_debug.specs.Replicas.{IsUnshown}
 use Rattle.mj_debug.specs.Walks.{Walk, StepGives, GoesBack, GoesForth}
 use Rattle.mj_dialogue.specs.declared.command.Command.{Command}
@@ -28,10 +28,10 @@ trouble_of unshown.Long = troubles.Long
 abbrev pub IsHidden : Shared → Walk → Unshown → Walk → Type 0
 IsHidden opening old why new = ChangesNothing old new × IsUnshown old.core.image opening old.core.history old.place why
 
--- The next of many steps in turn isn't told, or not written: memory was wanting, before the step or behind it; what stands at the place isn't shown,
--- and no step is made; or what is told of it isn't written.
+-- The next of many steps in turn isn't told, or not written: memory was wanting, before the step, of which its job may have come to its ask, or behind
+-- it; what stands at the place isn't shown, and no step is made; or what is told of it isn't written.
 abbrev pub IsCut : Shared → Walk → Bool → Trouble → Walk → Type 0
-IsCut opening old first troubles.Memory new = ChangesNothing old new ⊎ ((gone : Gone) × GoGives opening old first gone new)
+IsCut opening old first troubles.Memory new = IsUnmade opening old unshown.Memory new ⊎ ((gone : Gone) × GoGives opening old first gone new)
 IsCut opening old first troubles.Long new = IsHidden opening old unshown.Long new
 IsCut opening old first troubles.Unwritten new = (gone : Gone) × (line : List ℕ) × GoTells opening old first gone line new
 

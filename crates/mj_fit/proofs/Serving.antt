@@ -94,7 +94,8 @@ no_step_is_unfit opening old new step free run (inr found) = by found.2
     by (inl over) = let no : ◌≡◌ {A = Result Seen Refusal} (Ok seen.Unfit) (Err refusals.Ended) = over.1 in cc
     by (inr (inl full)) = let no : ◌≡◌ {A = Result Seen Refusal} (Ok seen.Unfit) (Err refusals.Full) = full.2 in cc
     by (inr (inr made)) =
-        let one = made.2.1 in all_are_served (routines_of old.image) opening old.history step.job found.0 one.0 free run found.1 one.1 one.3.0
+        let one = made.2.1 in
+        all_are_served (routines_of old.image) opening old.history step.job found.0 one.0.ask free run found.1 (one.1.0.0, one.0.locals, one.0.places, one.1.0.1) one.3.0
 
 -- Openings.
 

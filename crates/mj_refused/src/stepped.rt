@@ -6,7 +6,7 @@ ghost use Rattle.mj_jobs.specs.Rows.{rows_limit};
 ghost use Rattle.mj_sys.specs.Opening.{opening_of, are_bare};
 ghost use Rattle.mj_sys.specs.Shared.{are_global};
 
-use crate::histories::{put_count, put_log};
+use crate::histories::put_count;
 use crate::listening::{may_not_refuse, may_refuse};
 use crate::told::Told;
 use mj_ask::Start;
@@ -264,7 +264,7 @@ fn judge<D: Device, O: Opening>(
     told.hold(b"step", b"once more, it isn't an event", done)
 }
 
-// How all stands: the globals and the locks, the history, the logs of all jobs, and how many devices were dropped.
+// How all stands: the globals and the locks, the history, in which the logs of all jobs lie, and how many devices were dropped.
 fn standing<D: Device, O: Opening>(
     alloc: Global,
     core: &Core<D, Sessions<D>, O>,
@@ -290,11 +290,6 @@ fn put_rest<D: Device, O: Opening>(
     for at in 0..core.len() {
         if let Some((job, ask, reply)) = core.event(at) {
             put_event(alloc, text, job, ask, reply)?;
-        }
-    }
-    for done in 0..core.jobs() as u32 {
-        if let Some(job) = core.job(done + 1) {
-            put_log(alloc, text, done + 1, job.log())?;
         }
     }
     let (named, principal) = drops.counts();

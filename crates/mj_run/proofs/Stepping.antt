@@ -1,9 +1,11 @@
 -- Stepping by a list and in turn, as lists of steps of the core.
-use Rattle.std.proofs.Common.{◌≡◌, ℕ, zero, suc, ◌+◌, List, [], ◌∷◌, take, Bool, Result, Ok, Err, ◌⊎◌, Option, Some, None, inl, inr, ap, refl, ◌∙◌}
-use Rattle.std.specs.Prelude.{IfNone}
+use Rattle.std.proofs.Common.{◌≡◌, ℕ, zero, suc, ◌+◌, List, [], ◌∷◌, take, Bool, Result, Ok, Err, Option, Some, None, true, false, inl, inr, ap, sym, refl, ◌∙◌}
+use Rattle.std.specs.Prelude.{IfNone, not, ◌&&◌, if◌then◌else◌}
+use Rattle.std.specs.Option.{is_some}
+use Rattle.mj_ask.specs.declared.ask.Ask.{Ask}
+use Rattle.mj_ask.specs.Fits.{timeout_of}
 use Rattle.mj_sys.specs.Shared.{Shared}
-use Rattle.mj_sys.specs.History.{History}
-use Rattle.mj_core.specs.Shown.{Shown}
+use Rattle.mj_core.specs.Shown.{AtAsk, Shown}
 use Rattle.mj_jobs.specs.Rows.{Row}
 use Rattle.mj_load.specs.Image.{Loaded}
 use Rattle.mj_core.specs.Gives.{CoreStepGives, RunGives, Made, is_late}
@@ -17,19 +19,19 @@ use Rattle.mj_steps.specs.declared.round.Next.TheVariants as nexts
 use Rattle.mj_steps.specs.declared.step.Refusal.{Refusal}
 use Rattle.mj_steps.specs.declared.drive.Ending.{Ending}
 use Rattle.mj_steps.specs.Rounds.{next_step, after_step}
-use Rattle.mj_steps.specs.Driven.{ByList, InTurn, NextIsDone, StopsAt, stand}
-use Rattle.mj_run.specs.Stepping.{StepsAs, StandsSo, IsServed, AreSteps, jobs_of}
+use Rattle.mj_steps.specs.Driven.{ByList, InTurn, NextIsDone, stand}
+use Rattle.mj_run.specs.Stepping.{StepsAs, StandsSo, IsFitting, AreSteps, jobs_of, is_timed}
 
 -- a step behind which its job stands somewhere isn't unfit
-is_served : (history : History) (what : Seen) (standing : Standing) → StandsSo history what standing → IsServed (Ok what)
-is_served history seen.Unfit standing stands = absurd stands
-is_served history _ standing stands = tt
+is_fitting : (core : Shown) (job : ℕ) (what : Seen) (standing : Standing) → StandsSo core job what standing → IsFitting (Ok what)
+is_fitting core job seen.Unfit standing stands = absurd stands
+is_fitting core job _ standing stands = tt
 
 -- one step more, in front
 more : (opening : Shared) (old mid new : Shown) (step : Step) (standing : Standing)
     → StepsAs opening old step (Ok standing) mid → AreSteps opening mid new → AreSteps opening old new
 more opening old mid new step standing (what, gives, stands) (steps, answers, run, served) =
-    (step ∷ steps, Ok what ∷ answers, (mid, gives, run), (is_served mid.history what standing stands, served))
+    (step ∷ steps, Ok what ∷ answers, (mid, gives, run), (is_fitting mid step.job what standing stands, served))
 
 -- the last one, which is refused
 last : (opening : Shared) (old new : Shown) (step : Step) (why : Refusal) → StepsAs opening old step (Err why) new → AreSteps opening old new
@@ -79,7 +81,8 @@ module _ (opening : Shared) (old new : Shown) (job : ℕ) (row : Row) (late : Bo
   made_image (Ok seen.NotYet) made = ap image_of made.1.3.3
   made_image (Ok seen.Unfit) made = ap image_of made.1.3.1
   made_image (Ok seen.Ran) made = ap image_of made.1.3
-  made_image (Err why) made = ap image_of made.1
+  made_image (Err why) (inl made) = ap image_of made.1
+  made_image (Err why) (inr made) = ap image_of made.2
 
 step_image : (opening : Shared) (old new : Shown) (step : Step) (answer : Result Seen Refusal) → CoreStepGives opening old step answer new
     → new.image ≡ old.image
@@ -100,11 +103,20 @@ pub steps_image : (opening : Shared) (old new : Shown) → AreSteps opening old 
 steps_image opening old new (steps, answers, run, served) = run_image opening old steps answers new run
 
 -- what was seen that can't be unfit
-pub seen_served : (what : Seen) → ((what ≡ seen.Unfit) → ⊥) → IsServed (Ok what)
-seen_served seen.Unfit none = absurd (none refl)
-seen_served _ none = tt
+pub seen_fitting : (what : Seen) → ((what ≡ seen.Unfit) → ⊥) → IsFitting (Ok what)
+seen_fitting seen.Unfit none = absurd (none refl)
+seen_fitting _ none = tt
 
 -- what holds is so where there is none
 pub if_none : {A P : Type 0} (r : Option A) → P → IfNone r P
 if_none None p = p
 if_none (Some a) p = tt
+
+-- whether a job that is shown so waits with a timeout, by what it waits with
+pub timed_as : (pending : Option Ask) (at : AtAsk) → pending ≡ (if at.answered then None else Some at.ask)
+    → is_timed (Some at) ≡ (elim pending as (λ _. Bool) [ None ↦ false | Some a ↦ is_some (timeout_of a) ])
+timed_as pending at is = by at.answered is where
+  by : (b : Bool) → pending ≡ (if b then None else Some at.ask)
+      → (not b && is_some (timeout_of at.ask)) ≡ (elim pending as (λ _. Bool) [ None ↦ false | Some a ↦ is_some (timeout_of a) ])
+  by true e = ap (λ (o : Option Ask). elim o as (λ _. Bool) [ None ↦ false | Some a ↦ is_some (timeout_of a) ]) (sym e)
+  by false e = ap (λ (o : Option Ask). elim o as (λ _. Bool) [ None ↦ false | Some a ↦ is_some (timeout_of a) ]) (sym e)

@@ -1,12 +1,14 @@
 -- What a step of the program comes to, by what the core gives for it.
-use Rattle.std.specs.Prelude.{◌≡◌, ℕ, List, [], ◌∷◌, length, slice_get, Bool, true, false, Option, Some, None, Result, Ok, Err, ◌⊎◌, if◌then◌else◌}
+use Rattle.std.specs.Prelude.{◌≡◌, ℕ, List, [], ◌∷◌, length, slice_get, Bool, true, false, not, ◌&&◌, Option, Some, None, Result, Ok, Err, if◌then◌else◌}
+use Rattle.std.specs.Option.{is_some}
 use Rattle.mj_ask.specs.declared.ask.Ask.{Ask}
 use Rattle.mj_ask.specs.declared.ask.Ask.TheVariants as asks
 use Rattle.mj_ask.specs.declared.ask.SharedAsk.TheVariants as shared_asks
+use Rattle.mj_ask.specs.Fits.{timeout_of}
 use Rattle.mj_sys.specs.declared.event.Event.{Event}
 use Rattle.mj_sys.specs.Shared.{Shared}
-use Rattle.mj_sys.specs.History.{History, state_of}
-use Rattle.mj_core.specs.Shown.{Shown}
+use Rattle.mj_sys.specs.History.{state_of}
+use Rattle.mj_core.specs.Shown.{AtAsk, Shown, stand_at}
 use Rattle.mj_core.specs.Gives.{CoreStepGives, RunGives}
 use Rattle.mj_core.specs.declared.seen.Seen.{Seen}
 use Rattle.mj_core.specs.declared.seen.Seen.TheVariants as seen
@@ -17,9 +19,14 @@ use Rattle.mj_steps.specs.declared.drive.Ending.{Ending}
 use Rattle.mj_steps.specs.declared.step.Refusal.{Refusal}
 use Rattle.mj_steps.specs.Driven.{InTurn, new_round, fresh}
 
--- the job waits, with a timeout or without one
-abbrev pub Waits : Standing → Type 0
-Waits standing = (standing ≡ standings.Waits) ⊎ (standing ≡ standings.WaitsTimed)
+-- the job waits at an ask with a timeout
+abbrev pub is_timed : Option AtAsk → Bool
+is_timed None = false
+is_timed (Some at) = not at.answered && is_some (timeout_of at.ask)
+
+-- it waits, with a timeout or without one
+abbrev pub waits_at : Option AtAsk → Standing
+waits_at stand = if is_timed stand then standings.WaitsTimed else standings.Waits
 
 -- what is asked is the job's end
 abbrev pub is_halt : Ask → Bool
@@ -31,18 +38,19 @@ abbrev pub ends_its_job : Option Event → Bool
 ends_its_job None = false
 ends_its_job (Some event) = is_halt event.ask
 
--- where a job stands behind a step of which this was seen, and which left this history. No step is unfit
-abbrev pub StandsSo : History → Seen → Standing → Type 0
-StandsSo history (seen.Event at) standing = standing ≡ (if ends_its_job (slice_get history at) then standings.Ended else standings.Goes)
-StandsSo history (seen.Busy holder held) standing = Waits standing
-StandsSo history seen.NotYet standing = Waits standing
-StandsSo history seen.Unfit standing = ⊥
-StandsSo history seen.Ran standing = standing ≡ standings.Goes
-StandsSo history seen.Ended standing = standing ≡ standings.Ended
+-- Where a job stands behind a step of which this was seen, and which left the core so. One that is busy, or has nothing to read yet, waits: with a timeout
+-- exactly where its ask has one. No step is unfit.
+abbrev pub StandsSo : Shown → ℕ → Seen → Standing → Type 0
+StandsSo core job (seen.Event at) standing = standing ≡ (if ends_its_job (slice_get core.history at) then standings.Ended else standings.Goes)
+StandsSo core job (seen.Busy holder held) standing = standing ≡ waits_at (stand_at core.stands job)
+StandsSo core job seen.NotYet standing = standing ≡ waits_at (stand_at core.stands job)
+StandsSo core job seen.Unfit standing = ⊥
+StandsSo core job seen.Ran standing = standing ≡ standings.Goes
+StandsSo core job seen.Ended standing = standing ≡ standings.Ended
 
 -- What a step comes to: what the core gives for it, and where its job stands then.
 abbrev pub StepsAs : Shared → Shown → Step → Result Standing Refusal → Shown → Type 0
-StepsAs opening old step (Ok standing) new = (what : Seen) × CoreStepGives opening old step (Ok what) new × StandsSo new.history what standing
+StepsAs opening old step (Ok standing) new = (what : Seen) × CoreStepGives opening old step (Ok what) new × StandsSo new step.job what standing
 StepsAs opening old step (Err why) new = CoreStepGives opening old step (Err why) new
 
 -- how many jobs there are, ended ones among them
@@ -54,16 +62,16 @@ pub record IsInTurn (opening : Shared) (most : ℕ) (old : Shown) (ending : Endi
   pub turns : InTurn (jobs_of opening) (StepsAs opening) most 0 new_round fresh old ending new
 
 -- what a step gave is another thing than that nobody can serve what the job asks
-abbrev pub IsServed : Result Seen Refusal → Type 0
-IsServed (Ok seen.Unfit) = ⊥
-IsServed _ = Unit {0}
+abbrev pub IsFitting : Result Seen Refusal → Type 0
+IsFitting (Ok seen.Unfit) = ⊥
+IsFitting _ = Unit {0}
 
 -- and so of each step
-abbrev pub AreServed : List (Result Seen Refusal) → Type 0
-AreServed [] = Unit {0}
-AreServed (answer ∷ answers) = IsServed answer × AreServed answers
+abbrev pub AreFitting : List (Result Seen Refusal) → Type 0
+AreFitting [] = Unit {0}
+AreFitting (answer ∷ answers) = IsFitting answer × AreFitting answers
 
 -- a list of steps of the core leads from the one to the other, of which none is unfit
 abbrev pub AreSteps : Shared → Shown → Shown → Type 0
 AreSteps opening old new =
-    (steps : List Step) × (answers : List (Result Seen Refusal)) × RunGives opening old steps answers new × AreServed answers
+    (steps : List Step) × (answers : List (Result Seen Refusal)) × RunGives opening old steps answers new × AreFitting answers

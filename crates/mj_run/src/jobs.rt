@@ -3,7 +3,8 @@
 ghost use Rattle.std.specs.Prelude.{◌≡◌, slice_get, Ok, IfSome, IfNone};
 ghost use Rattle.mj_sys.specs.History.{state_of};
 ghost use Rattle.mj_steps.specs.Driven.{ByList};
-ghost use Rattle.mj_run.specs.Stepping.{StepsAs, StandsSo, IsServed, IsInTurn, AreSteps, jobs_of, ends_its_job};
+ghost use Rattle.mj_core.specs.Shown.{stand_at};
+ghost use Rattle.mj_run.specs.Stepping.{StepsAs, StandsSo, IsFitting, IsInTurn, AreSteps, jobs_of, ends_its_job, is_timed};
 
 use mj_ask::{Ask, SharedAsk};
 use mj_core::{Answerer, Core, Fresh, Seen};
@@ -91,8 +92,8 @@ impl<D: Device, O: Opening> Jobs<D, Sessions<D>, O> {
 
     // Where a job stands of whose step this was seen.
     fn standing(&self, job: u32, seen: &Seen) -> Standing
-        requires { IsServed (Ok seen.now) }
-        ensures { StandsSo self.now.history seen.now result }
+        requires { IsFitting (Ok seen.now) }
+        ensures { StandsSo self.now job seen.now result }
     {
         match seen {
             Seen::Event(at) => {
@@ -125,8 +126,10 @@ impl<D: Device, O: Opening> Jobs<D, Sessions<D>, O> {
         }
     }
 
-    // Whether the job asks with a timeout.
-    fn is_timed(&self, job: u32) -> bool {
+    // Whether the job waits at an ask with a timeout.
+    fn is_timed(&self, job: u32) -> bool
+        ensures { result ≡ is_timed (stand_at self.now.stands job) }
+    {
         let Some(found) = self.core.job(job) else {
             return false;
         };

@@ -20,7 +20,7 @@ returns-in-Told-clause-ok g c =
         c.in-Told.reply,
         told.0,
         told.1,
-        (c.answer-in-Told.ensures.log ask pending, c.answer-in-Told.ensures.run, c.answer-in-Told.ensures.spent),
+        (c.answer-in-Told.ensures.log ask pending, c.answer-in-Told.ensures.run, c.answer-in-Told.ensures.spent, c.answer-in-Told.ensures.pending, c.answer-in-Told.ensures.state),
         told.2 c.args.job.now.run.log,
         told.3,
         told.4 c.args.job.now.run.log,

@@ -23,7 +23,7 @@ returns-in-Rest-clause-ok g c =
         replies.Done,
         refl,
         (λ is. (let no : replies.Done ≡ replies.Late = is in cc)),
-        (c.answer.ensures.log rest pending, c.answer.ensures.run, c.answer.ensures.spent),
+        (c.answer.ensures.log rest pending, c.answer.ensures.run, c.answer.ensures.spent, c.answer.ensures.pending, c.answer.ensures.state),
         (λ of. ans.silent c.args.answerer.now log rest replies.Done refl of),
         (λ s name has held. held),
         (λ of. ans.means.of_no_device log (option_copied c.args.given) rest c.args.late replies.Done refl),
@@ -36,4 +36,5 @@ returns-in-Rest-clause-own g c = λ image claim own.
     let rest = asks.Rest c.in-Rest.field-0 in
     let pending : c.args.job.now.run.pending ≡ Some rest = sym c.in-Some.ensures ∙ ap Some c.in-Rest.is in
     own_talk ans image claim c.args.job.now c.args.answerer.now own c.answer.new.self c.args.answerer.now rest replies.Done
-    (c.answer.ensures.log rest pending, c.answer.ensures.run, c.answer.ensures.spent) (λ of. ans.silent c.args.answerer.now c.args.job.now.run.log rest replies.Done refl of) refl
+    (c.answer.ensures.log rest pending, c.answer.ensures.run, c.answer.ensures.spent, c.answer.ensures.pending, c.answer.ensures.state)
+    (λ of. ans.silent c.args.answerer.now c.args.job.now.run.log rest replies.Done refl of) refl

@@ -1,9 +1,13 @@
-use Rattle.std.proofs.Common.{◌≡◌, ◌∙◌, ap, subst}
+use Rattle.std.proofs.Common.{◌≡◌, ◌∙◌, sym, ap, subst, IfSome, IfNone}
 use Rattle.mj_load.specs.Image.{Loaded, routines_of}
 use Rattle.mj_sys.specs.Shared.{Shared}
 use Rattle.mj_core.specs.Runs.{IsRun}
+use Rattle.mj_core.specs.Shown.{Shown}
+use Rattle.mj_steps.specs.Driven.{ByList}
 use Rattle.mj_fit.specs.Laws.{NoneIsHeld}
 use Rattle.mj_serial.specs.Laws.{IsAsAlone, AllMustClash}
+use Rattle.mj_run.specs.declared.jobs.TheConstants.{STEPS_LIMIT}
+use Rattle.mj_run.specs.Stepping.{StepsAs, IsInTurn, AreSteps}
 use Rattle.mj_run.proofs.Stepping.{image_of, steps_image}
 use Rattle.mj_run.proofs.running.run_jobs.Goals as goal
 
@@ -17,6 +21,27 @@ returns-clause-image g c =
     ap image_of c.jobs.view_is
     ∙ steps_image g.O.Opening.opening c.in_ok-core.core c.go-ending.new.self c.go-ending.ensures.run
     ∙ ap image_of c.in_ok-core.ensures.ok
+
+pub returns-clause-listed : goal.returns-clause-listed
+returns-clause-listed g c =
+    let opening = g.O.Opening.opening in
+    let P : Shown → Type 0 = λ old. IfSome c.args.steps (λ list. ByList (StepsAs opening) 0 list.now old c.go-ending.result c.jobs.inside.core) in
+    let Q : Shown → Type 0 = λ new. IfSome c.args.steps (λ list. ByList (StepsAs opening) 0 list.now c.in_ok-core.core c.go-ending.result new) in
+    subst P c.in_ok-core.ensures.ok (subst Q (sym c.jobs.view_is) c.go-ending.ensures.listed)
+
+pub returns-clause-in_turn : goal.returns-clause-in_turn
+returns-clause-in_turn g c =
+    let opening = g.O.Opening.opening in
+    let P : Shown → Type 0 = λ old. IfNone c.args.steps (IsInTurn opening STEPS_LIMIT old c.go-ending.result c.jobs.inside.core) in
+    let Q : Shown → Type 0 = λ new. IfNone c.args.steps (IsInTurn opening STEPS_LIMIT c.in_ok-core.core c.go-ending.result new) in
+    subst P c.in_ok-core.ensures.ok (subst Q (sym c.jobs.view_is) c.go-ending.ensures.in_turn)
+
+pub returns-clause-gives : goal.returns-clause-gives
+returns-clause-gives g c =
+    let opening = g.O.Opening.opening in
+    let P : Shown → Type 0 = λ old. AreSteps opening old c.jobs.inside.core in
+    let Q : Shown → Type 0 = λ new. AreSteps opening c.in_ok-core.core new in
+    subst P c.in_ok-core.ensures.ok (subst Q (sym c.jobs.view_is) c.go-ending.ensures.run)
 
 pub returns-clause-run : goal.returns-clause-run
 returns-clause-run g c =

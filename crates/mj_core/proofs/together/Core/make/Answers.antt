@@ -97,7 +97,7 @@ returns-in_default-admit g c =
     let admitted : shown i.image c.admit.new.slots.items c.reserve.new.self.items i.over.items 255 ≡ c.args.self.now =
     shown_same i.image i.slots.items c.admit.new.slots.items c.reserve.new.self.items i.over.items 255
     (let W : List Happened → Type 0 = λ o. woven (logs_of c.admit.new.slots.items) o ≡ woven (logs_of i.slots.items) o in subst W c.deref.ensures.value c.admit.ensures.woven)
-    (c.admit.ensures.turns 255) ∙ reserved in
+    (c.admit.ensures.turns 255) (c.admit.ensures.stands 255) ∙ reserved in
     let P : Shown → Type 0 = λ s. StepGivesBy means opening c.args.self.now c.args.step given (Err refusals.Memory) s in
     subst P (sym admitted) (is_short means given opening c.args.self.now c.args.step c.in-Some.at there.0 there.2 going room)
 
@@ -119,7 +119,7 @@ returns g c =
     let admitted : shown i.image c.admit.new.slots.items c.reserve.new.self.items i.over.items 255 ≡ c.args.self.now =
     shown_same i.image i.slots.items c.admit.new.slots.items c.reserve.new.self.items i.over.items 255
     (let W : List Happened → Type 0 = λ o. woven (logs_of c.admit.new.slots.items) o ≡ woven (logs_of i.slots.items) o in subst W c.deref.ensures.value c.admit.ensures.woven)
-    (c.admit.ensures.turns 255) ∙ reserved in
+    (c.admit.ensures.turns 255) (c.admit.ensures.stands 255) ∙ reserved in
     let late : c.eq.result ≡ is_late c.args.step.way = c.eq.ensures ∙ late_is c.args.step.way in
     let slots_are : (with_items c.admit.new.slots c.go.new.slots).items ≡ c.go.new.slots =
     with_items_is c.admit.new.slots c.go.new.slots (c.go.auto.slots ∙ ap (λ l. length l) c.deref_mut.ensures.value ∙ sym c.admit.new.slots.ok.0) in

@@ -36,7 +36,7 @@ returns-in_default-admit-clause-gives g c =
     readied_short ans i.image opening i.system i.slots.items (claim_of i.waiting) i.order.items c.self.invariant.0 i.over.items c.args.self.now c.self.view_is c.args.job c.in-Some.at
     c.in-Some.ensures.some.0 c.in-Some.ensures.some.2
     c.index.result.now c.self.invariant.1 c.in-Some.ensures.some.1 c.index.ensures c.if-index.false
-    c.admit.new.slots.items c.deref.result.now c.deref.ensures.value c.admit.ensures.woven c.admit.ensures.turns
+    c.admit.new.slots.items c.deref.result.now c.deref.ensures.value c.admit.ensures.woven c.admit.ensures.turns c.admit.ensures.stands
 
 pub returns-clause-gives : goal.returns-clause-gives
 returns-clause-gives g c =
@@ -49,7 +49,7 @@ returns-clause-gives g c =
     readied ans i.image opening i.system i.slots.items (claim_of i.waiting) i.order.items c.self.invariant.0 i.over.items c.args.self.now c.self.view_is c.args.job c.in-Some.at
     c.in-Some.ensures.some.0 c.in-Some.ensures.some.2
     c.index.result.now c.self.invariant.1 c.in-Some.ensures.some.1 c.index.ensures c.if-index.false
-    c.admit.new.slots.items c.deref.result.now c.deref.ensures.value c.admit.ensures.woven c.admit.ensures.turns
+    c.admit.new.slots.items c.deref.result.now c.deref.ensures.value c.admit.ensures.woven c.admit.ensures.turns c.admit.ensures.stands
     c.deref_mut.result.now c.go_ready.new.slots c.deref-2.result.now c.deref_mut.ensures.value c.deref-2.ensures.value (turn_of c.go_ready.result) c.go_ready.ensures.readies)
 
 pub returns-clause-looked : goal.returns-clause-looked
@@ -63,6 +63,6 @@ returns-clause-looked g c =
     readied_at ans i.image opening i.system i.slots.items (claim_of i.waiting) i.order.items c.self.invariant.0 i.over.items c.args.self.now c.self.view_is c.args.job c.in-Some.at
     c.in-Some.ensures.some.0 c.in-Some.ensures.some.2
     c.index.result.now c.self.invariant.1 c.in-Some.ensures.some.1 c.index.ensures c.if-index.false
-    c.admit.new.slots.items c.deref.result.now c.deref.ensures.value c.admit.ensures.woven c.admit.ensures.turns
+    c.admit.new.slots.items c.deref.result.now c.deref.ensures.value c.admit.ensures.woven c.admit.ensures.turns c.admit.ensures.stands
     c.deref_mut.result.now c.deref-2.result.now c.deref_mut.ensures.value c.deref-2.ensures.value found asks in
     asks_as _ _ c.go_ready.result (λ seen looked. (looked.0, at looked.0 looked.1, looked.2)) c.go_ready.ensures.looked

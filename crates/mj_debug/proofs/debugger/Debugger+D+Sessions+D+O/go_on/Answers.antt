@@ -1,4 +1,5 @@
-use Rattle.std.proofs.Common.{◌≡◌, ℕ, ◌≤◌, length, refl, sym, ap, ◌∙◌, subst, inr}
+use Rattle.std.proofs.Common.{◌≡◌, ℕ, ◌≤◌, length, refl, sym, ap, subst}
+use Rattle.std.proofs.lemmas.Result.{err_from_is_err_and}
 use Rattle.mj_sys.specs.History.{History}
 use Rattle.mj_sys.specs.System.{history_limit}
 use Rattle.mj_core.specs.Shown.{Shown}
@@ -6,14 +7,33 @@ use Rattle.mj_core.specs.Asking.{turn_of}
 use Rattle.mj_debug.specs.Walks.{Walk}
 use Rattle.mj_debug.specs.Views.{is_ready}
 use Rattle.mj_debug.proofs.Viewing.{keeps_on}
-use Rattle.mj_debug.proofs.Turning.{asks_core, passed_so, stopped}
+use Rattle.mj_debug.proofs.Turning.{came, rest_so, passed_on, stopped}
 use Rattle.mj_debug.proofs.debugger.Debugger+D+Sessions+D+O.go_on.Goals as goal
+
+-- there was no memory for the line
+pub returns-in_err-line-in-Ok-clause-err : goal.returns-in_err-line-in-Ok-clause-err
+returns-in_err-line-in-Ok-clause-err g c =
+    let on = c.ready_on.ensures in
+    let W : Shown → Walk =
+    λ k. record {
+      core = k;
+      place = c.self.inside.place;
+      ready = is_ready c.self.inside.place c.self.inside.views c.self.inside.replica;
+      marks = c.self.inside.marks.items;
+      turn = c.self.inside.turn;
+    } in
+    let opening = g.O.Opening.opening in
+    let answer = turn_of c.ready_on.result in
+    let asks = ap turn_of c.in-Ok.ensures.asks in
+    let p = err_from_is_err_and c.from_residual.result c.from_residual.ensures.1 in
+    rw p.1 (
+      rest_so opening (W c.self.inside.core) (W c.ready_on.new.core) c.args.self.now c.args.job answer c.self.view_is asks on.gives refl,
+      came opening (W c.self.inside.core) (W c.ready_on.new.core) c.args.self.now c.args.job answer c.self.view_is asks on.gives refl,
+    )
 
 pub returns-in-Some-clause-ok : goal.returns-in-Some-clause-ok
 returns-in-Some-clause-ok g c =
-    let opening = g.O.Opening.opening in
-    let core : c.ready_on.new.core ≡ c.self.inside.core =
-    asks_core opening c.self.inside.core c.ready_on.new.core c.args.job (turn_of c.ready_on.result) (ap turn_of c.in-Ok.ensures.asks) c.ready_on.ensures.gives in
+    let on = c.ready_on.ensures in
     let W : Shown → Walk =
     λ k. record {
       core = k;
@@ -22,15 +42,12 @@ returns-in-Some-clause-ok g c =
       marks = c.self.inside.marks.items;
       turn = c.self.inside.turn;
     } in
-    let same : W c.ready_on.new.core ≡ c.args.self.now = ap W core ∙ c.self.view_is in
-    stopped opening (W c.ready_on.new.core) c.args.self.now _ c.args.job c.in-Some.routine c.in-Some.line same c.requires.end c.requires.ready c.requires.turn
-    c.in-Some.ensures.some refl
+    stopped g.O.Opening.opening (W c.self.inside.core) (W c.ready_on.new.core) c.args.self.now c.args.job (turn_of c.ready_on.result) c.self.view_is (ap turn_of c.in-Ok.ensures.asks) on.gives refl
+    c.in-Some.routine c.in-Some.line c.requires.end c.requires.ready c.requires.turn c.in-Some.ensures.some
 
 pub returns-clause-ok : goal.returns-clause-ok
 returns-clause-ok g c =
-    let opening = g.O.Opening.opening in
-    let core : c.ready_on.new.core ≡ c.self.inside.core =
-    asks_core opening c.self.inside.core c.ready_on.new.core c.args.job (turn_of c.ready_on.result) (ap turn_of c.in-Ok.ensures.asks) c.ready_on.ensures.gives in
+    let on = c.ready_on.ensures in
     let W : Shown → Walk =
     λ k. record {
       core = k;
@@ -39,9 +56,8 @@ returns-clause-ok g c =
       marks = c.self.inside.marks.items;
       turn = c.self.inside.turn;
     } in
-    let same : W c.ready_on.new.core ≡ c.args.self.now = ap W core ∙ c.self.view_is in
-    passed_so opening (W c.ready_on.new.core) c.args.self.now _ c.args.job c.pass.result c.pass.new.self same c.requires.end c.requires.turn
-    (inr (refl, c.in_default.ensures.none)) c.pass.ensures
+    passed_on g.O.Opening.opening (W c.self.inside.core) (W c.ready_on.new.core) c.args.self.now c.args.job (turn_of c.ready_on.result) c.self.view_is (ap turn_of c.in-Ok.ensures.asks) on.gives refl
+    c.pass.result c.pass.new.self c.requires.end c.requires.turn c.in_default.ensures.none c.pass.ensures
 
 pub invariant_of-self : goal.invariant_of-self
 invariant_of-self g c =

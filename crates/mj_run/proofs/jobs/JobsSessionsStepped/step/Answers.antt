@@ -2,13 +2,13 @@ use Rattle.std.proofs.Common.{Ok, Err, subst}
 use Rattle.mj_core.specs.Shown.{Shown}
 use Rattle.mj_core.specs.Gives.{CoreStepGives}
 use Rattle.mj_core.specs.declared.seen.Seen.{Seen}
-use Rattle.mj_run.proofs.Stepping.{seen_served}
+use Rattle.mj_run.proofs.Stepping.{seen_fitting}
 use Rattle.mj_run.proofs.jobs.JobsSessionsStepped.step.Goals as goal
 
 pub standing-requires : goal.standing-requires
 standing-requires g c =
     let P : Seen → Type 0 = λ what. CoreStepGives g.O.Opening.opening c.self.inside.core c.args.step (Ok what) c.step.new.self in
-    seen_served c.in-Ok.seen (λ is.
+    seen_fitting c.in-Ok.seen (λ is.
     c.no_step_is_unfit.ensures g.O.Opening.opening c.self.inside.core c.step.new.self c.args.step c.self.invariant c.len-run.ensures.run (subst P is c.in-Ok.ensures.gives))
 
 pub returns-in-Ok : goal.returns-in-Ok
