@@ -14,24 +14,19 @@ fn main(rt: HostRuntime) -> ExitCode {
         Ok(words) => words,
         Err(error) => return ExitCode::from(unread(&rt, error.kind())),
     };
-    let begun = Builder::new()
-        .stack_size(STACK)
-        .spawn(&rt, move || run(&rt, &words));
+    let begun = Builder::new().stack_size(STACK).spawn(&rt, move || {
+        mj_main::run(
+            &rt,
+            &words,
+            &mut rt.stdin(),
+            &mut rt.stdout(),
+            &mut rt.stderr(),
+        )
+    });
     match begun {
         Ok(thread) => ExitCode::from(thread.join(&rt)),
         Err(_) => ExitCode::from(unread(&rt, ErrorKind::OutOfMemory)),
     }
-}
-
-// Does what the words ask for, and gives the exit status.
-fn run(rt: &HostRuntime, words: &[String]) -> u8 {
-    mj_main::run(
-        rt,
-        words,
-        &mut rt.stdin(),
-        &mut rt.stdout(),
-        &mut rt.stderr(),
-    )
 }
 
 // Says why the words can't be had, and gives the exit status: where one of them isn't UTF-8 they are wrong, else memory was refused.

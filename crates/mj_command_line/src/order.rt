@@ -2,11 +2,18 @@
 
 use std::alloc::AllocError;
 
+/// The most workers that the words may ask for: as many as `mj_work` runs.
+pub const WORKERS_LIMIT: u32 = 64;
+/// How many workers there are, where the words don't say.
+pub const WORKERS: u32 = 8;
+
 /// What the words ask for.
 #[derive(Drop)]
 pub enum Order<'a> {
-    /// to run jobs
-    Run(Run<'a>),
+    /// to run jobs at the same time, by so many workers
+    Run { run: Run<'a>, workers: u32 },
+    /// to step jobs, as a file says or in turn
+    Step(Run<'a>),
     /// to step jobs by the commands of a debugger
     Debug(Debug<'a>),
     /// to load the routines of these files, and to say how many there are
@@ -32,7 +39,7 @@ pub struct Run<'a> {
     pub stdin: bool,
     /// the devices that there are beside the principal ones, each as `NAME=in:FILE` or `NAME=out:FILE`
     pub devices: Vec<&'a str>,
-    /// the file of the steps; without one the jobs are stepped in turn
+    /// the file of the steps; without one, jobs that are stepped are so in turn
     pub steps: Option<&'a str>,
     /// whether to say, where all jobs wait, what each waits for
     pub why: bool,

@@ -1,6 +1,6 @@
 // The words of the command line.
 
-use crate::order::{Debug, NoOrder, Order, Replay, Run};
+use crate::order::{Debug, NoOrder, Order, Replay, Run, WORKERS};
 use crate::words::command;
 use clap::error::ErrorKind;
 use clap::{ArgMatches, Command, Error};
@@ -41,7 +41,8 @@ fn order_of<'a>(
         return no_order(command);
     };
     match name {
-        "run" | "step" => run_order(alloc, found),
+        "run" => run_order(alloc, found),
+        "step" => step_order(alloc, found),
         "debug" => debug_order(alloc, found),
         "check" => check_order(alloc, found),
         "replay" => replay_order(alloc, found),
@@ -80,7 +81,18 @@ fn run_of<'a>(alloc: Global, found: &ArgMatches<'a>) -> Result<Run<'a>, AllocErr
 }
 
 fn run_order<'a>(alloc: Global, found: &ArgMatches<'a>) -> Result<Order<'a>, Error> {
-    Ok(Order::Run(run_of(alloc, found)?))
+    let workers = match found.get_one::<u32>("workers") {
+        Some(workers) => workers,
+        None => WORKERS,
+    };
+    Ok(Order::Run {
+        run: run_of(alloc, found)?,
+        workers,
+    })
+}
+
+fn step_order<'a>(alloc: Global, found: &ArgMatches<'a>) -> Result<Order<'a>, Error> {
+    Ok(Order::Step(run_of(alloc, found)?))
 }
 
 fn debug_order<'a>(alloc: Global, found: &ArgMatches<'a>) -> Result<Order<'a>, Error> {

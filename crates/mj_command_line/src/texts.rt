@@ -10,6 +10,7 @@ Examples:
   mj run --stdin --start ^HELLO HELLO.m < NAMES
   mj run --device LIST=in:NAMES --device OUT=out:LETTER --start ^R R.m
   mj run --trace TRACE --globals DATA --save DATA --start ^R R.m
+  mj run --workers 2 --start A^R --start B^R R.m
   mj step --steps STEPS --start A^R --start B^R R.m
   mj debug --start ^R R.m
   mj check R.m _TOOL.m
@@ -24,9 +25,9 @@ Exit statuses:
 
 /// What stands below the help of `run`.
 pub const RUN_EXAMPLE: &str = "\
-Examples, from the label LATER of the routine in R.m, two jobs, and one over globals that are kept in a file:
+Examples, from the label LATER of the routine in R.m, two jobs by two threads, and one job over globals that are kept in a file:
   mj run --start LATER^R R.m _TOOL.m
-  mj run --start A^R --start B^R R.m
+  mj run --workers 2 --start A^R --start B^R R.m
   mj run --start ^R --globals DATA --save DATA R.m
 
 A job that reads the lines of standard input, one that opens LIST and OUT, and one whose events are written down, a line each:

@@ -1,9 +1,10 @@
 // The commands, and what can be given to each: rows, of which the command line is built.
 
+use crate::order::WORKERS_LIMIT;
 use crate::texts::{
     CHECK_EXAMPLE, DEBUG_EXAMPLE, EXAMPLES, REPLAY_EXAMPLE, RUN_EXAMPLE, STEP_EXAMPLE, VERSION,
 };
-use clap::{Arg, ArgAction, Command};
+use clap::{Arg, ArgAction, Command, value_parser};
 use std::alloc::{AllocError, Global};
 
 // A command. Beside its options each has the files of the routines.
@@ -22,14 +23,16 @@ struct Choice {
     help: &'static str,
     action: ArgAction,
     required: bool,
+    // the greatest number that the value may be, where it is one; the least is 1
+    most: Option<u32>,
 }
 
 const COMMANDS: [Row; 5] = [
     Row {
         name: "run",
-        about: "Runs jobs, and prints what they write",
+        about: "Runs jobs at the same time, by threads, and prints what they write",
         example: RUN_EXAMPLE,
-        options: &[START, GLOBALS, SAVE, TRACE, STDIN, DEVICE],
+        options: &[WORKERS, START, GLOBALS, SAVE, TRACE, STDIN, DEVICE],
     },
     Row {
         name: "step",
@@ -57,12 +60,22 @@ const COMMANDS: [Row; 5] = [
     },
 ];
 
+const WORKERS: Choice = Choice {
+    name: "workers",
+    value: Some("N"),
+    help: "How many threads run jobs: 1 to 64, or 8 where it isn't said; a thread keeps a job to its end",
+    action: ArgAction::Set,
+    required: false,
+    most: Some(WORKERS_LIMIT),
+};
+
 const START: Choice = Choice {
     name: "start",
     value: Some("ENTRY"),
     help: "Where a job starts: label^ROUTINE or ^ROUTINE; once for each of 1 to 255 jobs",
     action: ArgAction::Append,
     required: true,
+    most: None,
 };
 
 const STEPS: Choice = Choice {
@@ -71,6 +84,7 @@ const STEPS: Choice = Choice {
     help: "The steps, one a line: the number of a job, and `late` behind it where its timeout is over",
     action: ArgAction::Set,
     required: false,
+    most: None,
 };
 
 const WHY: Choice = Choice {
@@ -79,6 +93,7 @@ const WHY: Choice = Choice {
     help: "Says, where all jobs wait, what each waits for",
     action: ArgAction::SetTrue,
     required: false,
+    most: None,
 };
 
 const PROMPT: Choice = Choice {
@@ -87,6 +102,7 @@ const PROMPT: Choice = Choice {
     help: "Shows, on standard error, where a job stands and a prompt before each command; at a terminal it is shown anyway",
     action: ArgAction::SetTrue,
     required: false,
+    most: None,
 };
 
 const GLOBALS: Choice = Choice {
@@ -95,6 +111,7 @@ const GLOBALS: Choice = Choice {
     help: "The listing of the globals that are there at first",
     action: ArgAction::Set,
     required: false,
+    most: None,
 };
 
 const SAVE: Choice = Choice {
@@ -103,6 +120,7 @@ const SAVE: Choice = Choice {
     help: "Where the listing of the globals that are left is written",
     action: ArgAction::Set,
     required: false,
+    most: None,
 };
 
 const TRACE: Choice = Choice {
@@ -111,6 +129,7 @@ const TRACE: Choice = Choice {
     help: "Where the trace of the run is written: each event, a line",
     action: ArgAction::Set,
     required: false,
+    most: None,
 };
 
 const RECORDED: Choice = Choice {
@@ -119,6 +138,7 @@ const RECORDED: Choice = Choice {
     help: "The trace, as `mj run --trace` or `mj step --trace` writes it",
     action: ArgAction::Set,
     required: true,
+    most: None,
 };
 
 const STDIN: Choice = Choice {
@@ -127,6 +147,7 @@ const STDIN: Choice = Choice {
     help: "Lets the first job read standard input, which is read whole before it starts",
     action: ArgAction::SetTrue,
     required: false,
+    most: None,
 };
 
 const DEVICE: Choice = Choice {
@@ -135,6 +156,7 @@ const DEVICE: Choice = Choice {
     help: "One more session of the device NAME, which reads the lines of FILE or writes it; once for each",
     action: ArgAction::Append,
     required: false,
+    most: None,
 };
 
 /// The command line. Its parts are built by functions that hand them on finished, since each way out of a function drops the commands that it has.
@@ -180,8 +202,12 @@ fn option<'a>(alloc: Global, row: &Choice) -> Arg<'a> {
         .help(row.help)
         .action(row.action)
         .required(row.required);
-    match row.value {
+    let option = match row.value {
         Some(value) => option.value_name(value),
+        None => option,
+    };
+    match row.most {
+        Some(most) => option.value_parser(value_parser!(u32).range(1..=i64::from(most))),
         None => option,
     }
 }

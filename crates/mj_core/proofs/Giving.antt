@@ -19,9 +19,10 @@ use Rattle.mj_steps.specs.declared.step.Refusal.{Refusal}
 use Rattle.mj_steps.specs.declared.step.Step.{Step}
 use Rattle.mj_core.specs.declared.parts.Made.TheVariants as made
 use Rattle.mj_core.specs.Runs.{start_in}
-use Rattle.mj_core.specs.Shown.{AtAsk, Shown, with_spent, with_stand}
+use Rattle.mj_core.specs.Shown.{AtAsk, Shown, with_spent, stand_at, with_stand}
 use Rattle.mj_core.specs.Having.{has_session}
-use Rattle.mj_core.specs.Gives.{fuel, spent_limit, Waits, answered, stands_so, IsTimely, IsReplyTold, IsStepRefused, LiveStepGives, CoreStepGives, RunGives}
+use Rattle.mj_core.specs.Gives.{fuel, spent_limit, Waits, answered, stands_so, MayGoOn, IsTimely, IsReplyTold, IsStepRefused, LiveStepGives, StepGivesBy, RunGivesBy}
+use Rattle.mj_core.specs.Meaning.{Means}
 use Rattle.mj_core.specs.Answering.{Answering, HasStill}
 use Rattle.mj_core.specs.Ties.{Placed, IsPlaced, IsStanding, start_of, stand_of, Steps}
 use Rattle.mj_core.specs.Kept.{AreKept, IsSlotOf, logs_of, each_of, turns_of, stands_of, shown}
@@ -69,6 +70,21 @@ module _ {A X : Type 0} (none : X) (one : Placed A → X) where
   each_more zero slots slot is = refl
   each_more (suc n) [] slot is = ap (λ t. t ∷ each_of none one n []) is
   each_more (suc n) (s ∷ slots) slot is = ap (λ l. one s ∷ l) (each_more n slots slot is)
+
+  -- as many as there may be
+  pub each_long : (n : ℕ) (slots : List (Placed A)) → length (each_of none one n slots) ≡ n
+  each_long zero slots = refl
+  each_long (suc n) [] = ap (λ l. suc l) (each_long n [])
+  each_long (suc n) (s ∷ slots) = ap (λ l. suc l) (each_long n slots)
+
+-- a job is shown to stand as its slot does
+pub stands_shown : {A : Type 0} (n k : ℕ) (slots : List (Placed A)) (slot : Placed A) → k < n → slice_get slots k ≡ Some slot
+    → stand_at (stands_of n slots) (suc k) ≡ stand_of slot
+stands_shown {A = A} n k slots slot few here = each_at None (λ (s : Placed A). stand_of s) n k slots slot few here
+
+pub may_go_shown : {A : Type 0} (n k : ℕ) (slots : List (Placed A)) (slot : Placed A) → k < n → slice_get slots k ≡ Some slot → MayGoOn (stand_of slot)
+    → MayGoOn (stand_at (stands_of n slots) (suc k))
+may_go_shown n k slots slot few here may at is = may at (sym (stands_shown n k slots slot few here) ∙ is)
 
 -- ---- what a step of one slot gives
 
@@ -174,13 +190,14 @@ module _ {A : Type 0} (ans : Answering A) (image : Loaded) (opening : Shared) (s
   -- it goes on for all turns
   pub gives_ran : (log : slot'.job.run.log ≡ slot.job.run.log) (stays : HasStill ans slot.answerer slot'.answerer) → IsPlaced ans image opening system slot' → IsStanding image slot'
       → slot'.job.run.spent ≡ min (slot.job.run.spent + fuel) spent_limit → GoesOn (routines_of image) (start_of slot) slot.job.run.log slot'.job.run.spent
-      → stand_of slot' ≡ None
+      → stand_of slot' ≡ None → MayGoOn (stand_of slot)
       → LiveStepGives ans.means (routines_of image) opening (suc k) start late given old seen.Ran (shown image slots' order over n)
-  gives_ran log sessions placed standing counts goes none =
+  gives_ran log sessions placed standing counts goes none may =
       let F : ℕ → Start → Log → Shared → Type 0 = λ j st l s. GoesOn (routines_of image) st l slot'.job.run.spent in (
         slot'.job.run.spent,
         counts ∙ ap (λ t. min (t + fuel) spent_limit) (sym (each_at 0 (λ (s : Placed A). s.job.run.spent) n k slots slot few here)),
         move F goes,
+        may_go_shown n k slots slot few here may,
         shown_spent log sessions placed standing
             ∙ ap (λ d. record old { spent = with_spent old.spent (suc k) slot'.job.run.spent; stands = with_stand old.stands (suc k) d }) none,
       )
@@ -224,18 +241,21 @@ module _ {A : Type 0} (ans : Answering A) (image : Loaded) (opening : Shared) (s
         )
 
   -- it isn't made
-  pub refuses : (why : Refusal) → IsStepRefused (routines_of image) (start_of slot) slot.job.run.log late why (stand_of slot')
-      → IsStepRefused (routines_of image) start (log_of (suc k) old.history) late why (stand_of slot')
+  pub refuses : (why : Refusal) → IsStepRefused (routines_of image) (start_of slot) slot.job.run.log (stand_of slot) late why (stand_of slot')
+      → IsStepRefused (routines_of image) start (log_of (suc k) old.history) (stand_at old.stands (suc k)) late why (stand_of slot')
   refuses why is_refused =
-      let F : ℕ → Start → Log → Shared → Type 0 = λ j st l s. IsStepRefused (routines_of image) st l late why (stand_of slot') in
-      move F is_refused
+      let F : ℕ → Start → Log → Shared → Type 0 = λ j st l s. IsStepRefused (routines_of image) st l (stand_of slot) late why (stand_of slot') in
+      let S : Option AtAsk → Type 0 = λ stood. IsStepRefused (routines_of image) start (log_of (suc k) old.history) stood late why (stand_of slot') in
+      subst S (sym (stands_shown n k slots slot few here)) (move F is_refused)
 
 -- ---- lists of steps
 
 -- one step more
-pub run_on : (opening : Shared) (before mid behind : Shown) (steps : List Step) (answers : List (Result Seen Refusal)) (step : Step) (answer : Result Seen Refusal)
-    → RunGives opening before steps answers mid → CoreStepGives opening mid step answer behind → RunGives opening before (steps ++ step ∷ []) (answers ++ answer ∷ []) behind
-run_on opening before mid behind [] [] step answer run gives = (behind, subst (λ m. CoreStepGives opening m step answer behind) run gives, refl)
-run_on opening before mid behind (first ∷ steps) (told ∷ answers) step answer run gives = (run.0, run.1, run_on opening run.0 mid behind steps answers step answer run.2 gives)
-run_on opening before mid behind [] (told ∷ answers) step answer run gives = absurd run
-run_on opening before mid behind (first ∷ steps) [] step answer run gives = absurd run
+pub run_on : (means : Means) (opening : Shared) (before mid behind : Shown) (steps : List Step) (answers : List (Result Seen Refusal)) (step : Step)
+    (answer : Result Seen Refusal) → RunGivesBy means opening before steps answers mid → StepGivesBy means opening mid step None answer behind
+    → RunGivesBy means opening before (steps ++ step ∷ []) (answers ++ answer ∷ []) behind
+run_on means opening before mid behind [] [] step answer run gives = (behind, subst (λ m. StepGivesBy means opening m step None answer behind) run gives, refl)
+run_on means opening before mid behind (first ∷ steps) (told ∷ answers) step answer run gives =
+    (run.0, run.1, run_on means opening run.0 mid behind steps answers step answer run.2 gives)
+run_on means opening before mid behind [] (told ∷ answers) step answer run gives = absurd run
+run_on means opening before mid behind (first ∷ steps) [] step answer run gives = absurd run

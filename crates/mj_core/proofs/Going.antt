@@ -125,14 +125,15 @@ module _ {A : Type 0} (ans : Answering A) (image : Loaded) (opening : Shared) (s
       )
       by made.Ran t = (
         live_there,
-        gives_ran ans image opening system slots waiting order kept over n k few slot slot' here numbered row is late given t.3 t.4 (placed_as t.2) standing t.0 t.1 t.5,
+        gives_ran ans image opening system slots waiting order kept over n k few slot slot' here numbered row is late given t.3 t.4 (placed_as t.2) standing t.0 t.1 t.5 t.6,
       )
       by made.Ended t =
           let over_now = gives_ended ans image opening system slots waiting order kept over n k few slot slot' here numbered row is late given system' t in
           absurd ((has_halted (routines_of image) opening (woven (logs_of slots) order) (is_run ans image opening system slots waiting order kept) (suc k) row is over_now).1 live_there)
 
     -- and where it isn't made, nothing changes but how the job stands
-    pub makes_none : (why : Refusal) → IsStepRefused (routines_of image) (start_of slot) slot.job.run.log late why (stand_of slot') → (system' ≡ system) × IsStill ans slot slot'
+    pub makes_none : (why : Refusal) → IsStepRefused (routines_of image) (start_of slot) slot.job.run.log (stand_of slot) late why (stand_of slot')
+        → (system' ≡ system) × IsStill ans slot slot'
         → gives.JobStepGives ans.means opening (shown image slots order over n) (suc k) row late given (Err why) (shown image slots' order over n)
     makes_none why refused t = inr (
       stand_of slot',

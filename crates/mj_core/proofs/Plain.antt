@@ -1,6 +1,6 @@
 -- What a step gives where it is said of which call to a device it comes, it gives where that isn't said.
 use Rattle.std.specs.Prelude.{Result, Ok, Err, ◌⊎◌}
-use Rattle.std.proofs.Common.{◌≡◌, ◌<◌, ◌≤◌, ℕ, List, Bool, true, false, Option, Some, None, inl, inr, length}
+use Rattle.std.proofs.Common.{◌≡◌, ◌<◌, ◌≤◌, ℕ, List, [], ◌∷◌, Bool, true, false, Option, Some, None, inl, inr, length}
 use Rattle.mj_ask.specs.declared.ask.Reply.{Reply}
 use Rattle.mj_ast.specs.Syntax.{Routine}
 use Rattle.mj_semantics.specs.Job.{Start}
@@ -16,7 +16,7 @@ use Rattle.mj_core.specs.declared.seen.Seen.{Seen}
 use Rattle.mj_core.specs.declared.seen.Seen.TheVariants as seen
 use Rattle.mj_core.specs.Shown.{Shown, was_over}
 use Rattle.mj_core.specs.Runs.{start_in}
-use Rattle.mj_core.specs.Gives.{is_late, LiveStepGives, JobStepGives, CoreStepGives, DeviceStepGives}
+use Rattle.mj_core.specs.Gives.{is_late, LiveStepGives, JobStepGives, CoreStepGives, DeviceStepGives, RunGives, DeviceRunGives}
 use Rattle.mj_core.specs.Serving.{serving, calling}
 
 module _ (tells : Tells) (opening : Shared) (old new : Shown) where
@@ -53,3 +53,12 @@ module _ (tells : Tells) (opening : Shared) (old new : Shown) where
     by (inl over) = inl over
     by (inr (inl full)) = inr (inl full)
     by (inr (inr made)) = inr (inr (made.0, made.1, job_plain step.job t.0 (is_late step.way) answer made.2))
+
+-- and so of a list of steps
+pub all_plainly : (tells : Tells) (opening : Shared) (old : Shown) (steps : List Step) (answers : List (Result Seen Refusal)) (new : Shown)
+    → DeviceRunGives tells opening old steps answers new → RunGives opening old steps answers new
+all_plainly tells opening old [] [] new run = run
+all_plainly tells opening old (step ∷ steps) (answer ∷ answers) new (mid, gives, rest) =
+    (mid, plainly tells opening old mid step answer gives, all_plainly tells opening mid steps answers new rest)
+all_plainly tells opening old [] (answer ∷ answers) new run = absurd run
+all_plainly tells opening old (step ∷ steps) [] new run = absurd run

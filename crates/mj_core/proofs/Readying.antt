@@ -1,5 +1,5 @@
 -- A job among all that is let go on, and isn't served.
-use Rattle.std.specs.Prelude.{slice_get, slice_set, Result, Ok, Err, IfOk}
+use Rattle.std.specs.Prelude.{IsSome, slice_get, slice_set, Result, Ok, Err, IfOk}
 use Rattle.std.proofs.Common.{◌≡◌, ℕ, suc, ◌<◌, List, Bool, true, false, Option, Some, None, refl, sym, ap, ◌∙◌, subst, inl, inr}
 use Rattle.std.specs.declared.alloc.AllocError.{AllocError}
 use Rattle.mj_load.specs.Image.{Loaded, routines_of}
@@ -21,7 +21,7 @@ use Rattle.mj_steps.specs.declared.step.Refusal.{Refusal}
 use Rattle.mj_steps.specs.declared.step.Refusal.TheVariants as refusals
 use Rattle.mj_core.specs.Runs.{start_in}
 use Rattle.mj_core.specs.Shown.{AtAsk, Shown}
-use Rattle.mj_core.specs.Gives.{Waits, stands_so, Readies}
+use Rattle.mj_core.specs.Gives.{Waits, stands_so, MayGoOn, Readies}
 use Rattle.mj_core.specs.Asking.{IsAtAsk}
 use Rattle.mj_core.specs.Answering.{Answering}
 use Rattle.mj_core.specs.Ties.{Placed, IsPlaced, IsStanding, start_of, stand_by, stand_of}
@@ -30,7 +30,8 @@ use Rattle.mj_core.proofs.Histories.{is_run, same_state}
 use Rattle.mj_core.proofs.Keeping.{keeps_still}
 use Rattle.mj_core.proofs.Owning.{own_still}
 use Rattle.mj_core.proofs.Ended.{has_halted}
-use Rattle.mj_core.proofs.Giving.{shown_still, gives_ran, move}
+use Rattle.mj_core.proofs.Giving.{shown_still, may_go_shown, gives_ran, move}
+use Rattle.mj_core.proofs.Stepping.{unasked, may_go}
 use Rattle.mj_core.proofs.Views.{shown_run}
 
 -- whether a job that was let go on stands at an ask then
@@ -110,13 +111,17 @@ module _ {A : Type 0} (ans : Answering A) (image : Loaded) (opening : Shared) (s
     abbrev new : Shown
     new = shown image (slice_set slots k (slot_at false)) order over n
 
+    -- it didn't wait
+    goes : (IsSome slot.job.run.pending → ⊥) → MayGoOn (stand_of slot)
+    goes nothing = may_go slot.job.run.pending slot.job.run.log slot.job.run.at.state slot.at_ask (unasked slot.job.run.pending nothing)
+
     -- it went on for all turns
     readies_ran : AdvanceTells (routines_of image) (start_of slot) turns.Ran job.run → job.run.spent ≡ spent_after {E = AllocError} (Ok turns.Ran) 10000 slot.job.run.spent
-        → Readies opening (shown image slots order over n) (suc k) row (Ok turns.Ran) new
-    readies_ran told spent =
+        → MayGoOn (stand_of slot) → Readies opening (shown image slots order over n) (suc k) row (Ok turns.Ran) new
+    readies_ran told spent may =
         let L : Log → Type 0 = λ l. GoesOn (routines_of image) (start_of slot) l job.run.spent in
         gives_ran ans image opening system slots waiting order kept over n k few slot (slot_at false) here refl row is false None log (λ name has h. h) (placed_on false) (inl refl)
-        spent (subst L log told) refl
+        spent (subst L log told) refl may
 
     -- one that goes on hasn't ended
     readies_ended : AdvanceTells (routines_of image) (start_of slot) turns.Ended job.run
@@ -131,20 +136,24 @@ module _ {A : Type 0} (ans : Answering A) (image : Loaded) (opening : Shared) (s
         absurd ((has_halted (routines_of image) opening (woven (logs_of slots) order) run_is (suc k) row is over_now).1 live_there)
 
     -- memory was refused
-    readies_none : job.run.spent ≡ slot.job.run.spent → Readies opening (shown image slots order over n) (suc k) row (Err refusals.Memory) new
-    readies_none spent = (
+    readies_none : job.run.spent ≡ slot.job.run.spent → MayGoOn (stand_of slot) → Readies opening (shown image slots order over n) (suc k) row (Err refusals.Memory) new
+    readies_none spent may = (
       refl,
-      inr (shown_still ans image opening system slots waiting order kept over n k few slot (slot_at false) here refl row is false None log (λ name has h. h) (placed_on false) (inl refl)
-          spent),
+      inr (
+        may_go_shown n k slots slot few here may,
+        shown_still ans image opening system slots waiting order kept over n k few slot (slot_at false) here refl row is false None log (λ name has h. h) (placed_on false) (inl refl)
+            spent,
+      ),
     )
 
     -- what it gives, however it went
     pub readies : (went : Result Turn AllocError) → Told went → job.run.spent ≡ spent_after went 10000 slot.job.run.spent
+        → (IsSome slot.job.run.pending → went ≡ Ok turns.Asks)
         → Readies opening (shown image slots order over n) (suc k) row (turn_told went) (shown image (slice_set slots k (slot_at (is_at_ask went))) order over n)
-    readies (Ok turns.Asks) told spent = readies_asks told over n few row is spent
-    readies (Ok turns.Ran) told spent = readies_ran told spent
-    readies (Ok turns.Ended) told spent = readies_ended told
-    readies (Err e) told spent = readies_none spent
+    readies (Ok turns.Asks) told spent again = readies_asks told over n few row is spent
+    readies (Ok turns.Ran) told spent again = readies_ran told spent (goes (λ some. (let no : Ok turns.Ran ≡ Ok turns.Asks = again some in cc)))
+    readies (Ok turns.Ended) told spent again = readies_ended told
+    readies (Err e) told spent again = readies_none spent (goes (λ some. (let no : Err e ≡ Ok turns.Asks = again some in cc)))
 
   -- where it asks, it stands at its ask
   pub at_ask : (went : Result Turn AllocError) → went ≡ Ok turns.Asks

@@ -1,6 +1,7 @@
 -- One job goes on.
-use Rattle.std.specs.Prelude.{◌⊎◌, if◌then◌else◌, Result, Ok, Err, IfOk, IfErr, OnErr, reverse}
+use Rattle.std.specs.Prelude.{◌⊎◌, if◌then◌else◌, IsSome, Result, Ok, Err, IfOk, IfErr, OnErr, reverse}
 use Rattle.std.proofs.lemmas.List.{reverse-append}
+use Rattle.std.proofs.lemmas.Option.{none-some}
 use Rattle.std.proofs.Common.{◌≡◌, ℕ, ◌+◌, [], ◌∷◌, ◌++◌, Bool, true, false, Option, Some, None, refl, sym, ap, ◌∙◌, subst, append-nil, eq-eqb, inl, inr, cond}
 use Rattle.mj_ask.specs.declared.ask.Ask.{Ask}
 use Rattle.mj_ask.specs.declared.ask.Ask.TheVariants as asks
@@ -27,7 +28,7 @@ use Rattle.mj_core.specs.Runs.{start_in}
 use Rattle.mj_steps.specs.declared.step.Refusal.{Refusal}
 use Rattle.mj_steps.specs.declared.step.Refusal.TheVariants as refusals
 use Rattle.mj_core.specs.Shown.{AtAsk}
-use Rattle.mj_core.specs.Gives.{Waits, StandsAt, answered, IsTimely, IsStepRefused}
+use Rattle.mj_core.specs.Gives.{Waits, StandsAt, answered, MayGoOn, IsTimely, IsStepRefused}
 use Rattle.mj_core.specs.Answering.{Answering, Stays}
 use Rattle.mj_core.specs.Meaning.{IsOfDevice}
 use Rattle.mj_core.specs.Ties.{Placed, IsJobOf, IsClaimIn, IsTied, IsStanding, start_of, stand_by, stand_in, stand_of, Steps, IsStill, JobIsTold, Talks, Shares, IsMuted, GoesOnBy}
@@ -121,11 +122,28 @@ stand_told pending log earlier a reply s t none is same =
     (last_of earlier (a, reply))
     ∙ ap (λ (u : State). let at : AtAsk = record { ask = a; locals = u.locals; places = places u; answered = true } in Some at) same
 
+-- what asks nothing
+pub unasked : (pending : Option Ask) → (IsSome pending → ⊥) → pending ≡ None
+unasked None nothing = refl
+unasked (Some a) nothing = absurd (nothing refl)
+
+-- so it may go on, whether it stands at an ask or not
+pub may_go : (pending : Option Ask) (log : Log) (s : State) (asks : Bool) → pending ≡ None → MayGoOn (if asks then stand_by pending log s else None)
+may_go pending log s false none at is = absurd (none-some at is)
+may_go pending log s true none at is = by (reverse log) (ap (λ p. stand_by p log s) (sym none) ∙ is) where
+  by : (r : Log) → (elim r as (λ _. Option AtAsk) [ [] ↦ None | e ∷ rest ↦ Some (record { ask = e.0; locals = s.locals; places = places s; answered = true }) ]) ≡ Some at
+      → at.answered ≡ true
+  by [] is' = absurd (none-some at is')
+  by (e ∷ rest) one =
+      let some : Some (record { ask = e.0; locals = s.locals; places = places s; answered = true }) ≡ Some at = one in
+      let same : record { ask = e.0; locals = s.locals; places = places s; answered = true } ≡ at = cc in
+      sym (ap (λ (t : AtAsk). t.answered) same)
+
 -- what is said of the slot of a job whose ask was served or not, and of the system: what a step ensures
 pub record IsStepped {A : Type 0} (ans : Answering A) (image : Loaded) (opening : Shared) (late : Bool) (given : Option Reply) (old : Recorded) (slot : Placed A)
     (r : Result Made Refusal) (new : Recorded) (slot' : Placed A) : Type 0 where
   pub gives : IfOk r (λ m. Steps ans (routines_of image) opening late given old slot m new slot')
-  pub refused : IfErr r (λ why. IsStepRefused (routines_of image) (start_of slot) slot.job.run.log late why (stand_of slot'))
+  pub refused : IfErr r (λ why. IsStepRefused (routines_of image) (start_of slot) slot.job.run.log (stand_of slot) late why (stand_of slot'))
   pub kept : OnErr r ((new ≡ old) × IsStill ans slot slot')
   pub tied : IsTied ans image opening new slot'.claim slot'.job slot'.answerer
   pub stands : IsStanding image slot'
@@ -279,7 +297,7 @@ module _ {A : Type 0} (ans : Answering A) (image : Loaded) (opening : Shared) (o
     by (timely, inl t) = by_talk m timely t.0 t.1 t.2 t.3
     by (timely, inr t) = by_share m timely t.0 t.1
 
-  muted : (why : Refusal) → IsMuted mid late why → job' ≡ mid → IsStepRefused (routines_of image) start job.run.log late why (stand_of slot')
+  muted : (why : Refusal) → IsMuted mid late why → job' ≡ mid → IsStepRefused (routines_of image) start job.run.log (stand_of slot) late why (stand_of slot')
   muted refusals.NotTimed is jobs =
       let T : Ask → Type 0 = λ a. timeout_of a ≡ None in
       (is.0, (at, waits, subst T (same_ask mid.run.pending is.1.0 b is.1.1 pending) is.1.2, shows_still jobs))

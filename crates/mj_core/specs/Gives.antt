@@ -25,7 +25,7 @@ use Rattle.mj_steps.specs.declared.step.Refusal.TheVariants as refusals
 use Rattle.mj_steps.specs.declared.step.Step.{Step}
 use Rattle.mj_steps.specs.declared.step.Way.{Way}
 use Rattle.mj_steps.specs.declared.step.Way.TheVariants as ways
-use Rattle.mj_core.specs.Shown.{AtAsk, Shown, was_over, with_over, spent_by, with_spent, with_stand}
+use Rattle.mj_core.specs.Shown.{AtAsk, Shown, was_over, with_over, spent_by, with_spent, stand_at, with_stand}
 use Rattle.mj_core.specs.Having.{has_session}
 use Rattle.mj_core.specs.Meaning.{Means}
 use Rattle.mj_core.specs.Serving.{serving, calling}
@@ -62,6 +62,10 @@ answered at = record at { answered = true }
 abbrev pub stands_so : Shown → ℕ → Option AtAsk → Shown
 stands_so old job stand = record old { stands = with_stand old.stands job stand }
 
+-- A job that stands so may go on: it stands at no ask, or has its reply. One that waits may not.
+abbrev pub MayGoOn : Option AtAsk → Type 0
+MayGoOn stand = (at : AtAsk) → stand ≡ Some at → at.answered ≡ true
+
 -- what is asked has a timeout where the step is late
 abbrev pub IsTimely : Bool → Ask → Type 0
 IsTimely late a = late ≡ true → timeout_of a ≡ None → ⊥
@@ -72,19 +76,20 @@ pub record IsReplyTold (s : Shared) (job : ℕ) (a : Ask) (late : Bool) (reply :
   pub shared : is_shared a ≡ true → served s job a late ≡ Some (reply, s')
   pub in_time : is_shared a ≡ false → reply ≡ replies.Late → is_timed_out (timeout_of a) late ≡ true
 
--- When a step of one job isn't made, and how the job stands then: it is late, and the job waits with an ask that has no timeout; or memory was refused, on
--- the job's way or where it waits.
-abbrev pub IsStepRefused : List Routine → Start → Log → Bool → Refusal → Option AtAsk → Type 0
-IsStepRefused image start log late refusals.NotTimed stand =
+-- When a step of a job isn't made that stood so, and how the job stands then: the step is late, and the job waits with an ask that has no timeout; or memory
+-- was refused to a job that could go on, on its way, and it stands at no ask; or where it waits, and there it stands. So a job that waits stays shown.
+abbrev pub IsStepRefused : List Routine → Start → Log → Option AtAsk → Bool → Refusal → Option AtAsk → Type 0
+IsStepRefused image start log stood late refusals.NotTimed stand =
     (late ≡ true) × ((at : AtAsk) × Waits image start log at × (timeout_of at.ask ≡ None) × (stand ≡ Some at))
-IsStepRefused image start log late refusals.Memory stand = (stand ≡ None) ⊎ ((at : AtAsk) × Waits image start log at × (stand ≡ Some at))
-IsStepRefused image start log late _ stand = ⊥
+IsStepRefused image start log stood late refusals.Memory stand =
+    (MayGoOn stood × (stand ≡ None)) ⊎ ((at : AtAsk) × Waits image start log at × (stand ≡ Some at))
+IsStepRefused image start log stood late _ stand = ⊥
 
--- the job goes on for all turns of a step, and asks nothing: so it stands at no ask
+-- a job that could go on does so for all turns of a step, and asks nothing: so it stands at no ask
 abbrev pub RunsOn : List Routine → ℕ → Start → Shown → Shown → Type 0
 RunsOn image job start old new =
     (turns : ℕ) × (turns ≡ min (spent_by old.spent job + fuel) spent_limit) × GoesOn image start (log_of job old.history) turns
-    × (new ≡ record old { spent = with_spent old.spent job turns; stands = with_stand old.stands job None })
+    × MayGoOn (stand_at old.stands job) × (new ≡ record old { spent = with_spent old.spent job turns; stands = with_stand old.stands job None })
 
 -- What a step of a live job gives, for which this reply of a device is given or none: an event, of what the job asks after its events so far, which is
 -- told its reply; what keeps it busy; that there is nothing to read yet; that nobody can answer it; or that it goes on for all turns of the step.
@@ -124,7 +129,8 @@ JobStepGives means opening old job row late given (Ok what) new =
     IsLive (state_of opening old.history).rows job × LiveStepGives means (routines_of old.image) opening job (start_in job row.start) late given old what new
 JobStepGives means opening old job row late given (Err why) new =
     ((why ≡ refusals.Memory) × (new ≡ old))
-    ⊎ ((stand : Option AtAsk) × IsStepRefused (routines_of old.image) (start_in job row.start) (log_of job old.history) late why stand
+    ⊎ ((stand : Option AtAsk)
+    × IsStepRefused (routines_of old.image) (start_in job row.start) (log_of job old.history) (stand_at old.stands job) late why stand
     × (new ≡ stands_so old job stand))
 
 -- whether a step is late
@@ -156,22 +162,32 @@ abbrev pub Made : Shared → Shown → ℕ → Row → Bool → Result Seen Refu
 Made opening old job row late answer new = JobStepGives serving opening old job row late None answer new
 
 -- these steps give these answers, one for each, one after the other
-abbrev pub RunGives : Shared → Shown → List Step → List (Result Seen Refusal) → Shown → Type 0
-RunGives opening old [] [] new = new ≡ old
-RunGives opening old (step ∷ steps) (answer ∷ answers) new = (mid : Shown) × CoreStepGives opening old step answer mid × RunGives opening mid steps answers new
-RunGives opening old [] (answer ∷ answers) new = ⊥
-RunGives opening old (step ∷ steps) [] new = ⊥
+abbrev pub RunGivesBy : Means → Shared → Shown → List Step → List (Result Seen Refusal) → Shown → Type 0
+RunGivesBy means opening old [] [] new = new ≡ old
+RunGivesBy means opening old (step ∷ steps) (answer ∷ answers) new =
+    (mid : Shown) × StepGivesBy means opening old step None answer mid × RunGivesBy means opening mid steps answers new
+RunGivesBy means opening old [] (answer ∷ answers) new = ⊥
+RunGivesBy means opening old (step ∷ steps) [] new = ⊥
 
--- What it gives to make a job ready that has a row, and whose end wasn't seen: it asks, and isn't told; or it goes on for all turns of a step; or
--- it has halted, which a step is to see yet.
+-- They do where a job's own sessions serve what it asks a device.
+abbrev pub RunGives : Shared → Shown → List Step → List (Result Seen Refusal) → Shown → Type 0
+RunGives opening old steps answers new = RunGivesBy serving opening old steps answers new
+
+-- They do, and it is said of each which call to a device its reply comes from.
+abbrev pub DeviceRunGives : Answering → Shared → Shown → List Step → List (Result Seen Refusal) → Shown → Type 0
+DeviceRunGives tells opening old steps answers new = RunGivesBy (calling tells) opening old steps answers new
+
+-- What comes of making a job ready that has a row, and whose end wasn't seen. It asks, and waits there, as it isn't told; or it goes on for all turns of a
+-- step; or it has halted, which no step has seen yet; or memory was refused, before it went on, or on its way: so of a job that could go on.
 abbrev pub Readies : Shared → Shown → ℕ → Row → Result Turn Refusal → Shown → Type 0
 Readies opening old job row (Ok turns.Asks) new =
     (at : AtAsk) × Waits (routines_of old.image) (start_in job row.start) (log_of job old.history) at × (new ≡ stands_so old job (Some at))
 Readies opening old job row (Ok turns.Ran) new = RunsOn (routines_of old.image) job (start_in job row.start) old new
 Readies opening old job row (Ok turns.Ended) new = IsDone opening old job × (new ≡ old)
-Readies opening old job row (Err why) new = (why ≡ refusals.Memory) × ((new ≡ old) ⊎ (new ≡ stands_so old job None))
+Readies opening old job row (Err why) new =
+    (why ≡ refusals.Memory) × ((new ≡ old) ⊎ (MayGoOn (stand_at old.stands job) × (new ≡ stands_so old job None)))
 
--- What it gives to make a job ready. That there is no such job is tested first, then that its end was seen.
+-- What comes of making a job ready, whichever it is. That there is no such job is tested first, and then that its end was seen.
 abbrev pub GivesReady : Shared → Shown → ℕ → Result Turn Refusal → Shown → Type 0
 GivesReady opening old job answer new =
     ((row_at (state_of opening old.history).rows job ≡ None) × (answer ≡ Err refusals.NoJob) × (new ≡ old))

@@ -30,16 +30,18 @@ serving = record {
   of_no_device = λ log given a late reply none. tt;
 }
 
--- Sessions of which the log tells were asked this, and it came to that: what the session of the device says, with the last call to the device itself, and
--- what that answered.
+-- Sessions were asked this, and it came to that: what the session of the device says, with the last call to the device itself, and what that answered. No
+-- core shows its sessions, so they are some; the job's log before the ask ties them (`AreTold`). By it the session under each name stands, took and came of the
+-- calls as the log's talk with that device says, and there is one wherever a talk isn't ended. The log leaves open what else a device keeps, and whether a
+-- session is there that wasn't asked yet.
 abbrev pub WereAsked : Answering → Log → Ask → Bool → Answer → List Named → Type 0
 WereAsked tells log a late answer new = (old : List Named) × AreTold log old × Answers old a late answer new × AreAsked tells old a late answer new
 
--- a device was asked and answered, and that is what its job was told; behind it the log tells of the sessions that are left
+-- A device was asked and answered, and that is what its job was told. The sessions behind it are those of the log then, which has this event too.
 abbrev pub DeviceTells : Answering → Log → Ask → Bool → Reply → Type 0
 DeviceTells tells log a late reply = (new : List Named) × WereAsked tells log a late (answers.Told reply) new × AreTold (log ++ (a, reply) ∷ []) new
 
--- a device was asked, and answered that nothing is there to read yet
+-- A device was asked, and answered that nothing is there to read yet. The sessions behind it are still those of the log.
 abbrev pub DeviceWaits : Answering → Log → Ask → Bool → Type 0
 DeviceWaits tells log a late = (new : List Named) × WereAsked tells log a late answers.NotYet new × AreTold log new
 

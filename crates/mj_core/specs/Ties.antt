@@ -28,7 +28,7 @@ use Rattle.mj_core.specs.declared.parts.Place.TheVariants as ready
 use Rattle.mj_core.specs.Happen.{shared_of}
 use Rattle.mj_core.specs.Runs.{start_in}
 use Rattle.mj_core.specs.Shown.{AtAsk}
-use Rattle.mj_core.specs.Gives.{fuel, spent_limit, Waits, StandsAt, answered, IsTimely, IsReplyTold}
+use Rattle.mj_core.specs.Gives.{fuel, spent_limit, Waits, StandsAt, answered, MayGoOn, IsTimely, IsReplyTold}
 use Rattle.mj_core.specs.Answering.{Answering, HasAll, HasStill, Stays, AreBehind, IsNobodys, IsRoomFor}
 
 -- a job with its claim, and who answers for it what it asks a device; and whether it stands at an ask
@@ -61,7 +61,8 @@ pub record IsClaimIn (opening : Shared) (system : Recorded) (claim : Claimed) : 
   pub counted : claim.events ≡ events_of claim.job system.history
 
 -- the job is that of a claim of the system
-pub record IsTied {A : Type 0} (by : Answering A) (image : Loaded) (opening : Shared) (system : Recorded) (claim : Claimed) (job : Running) (x : A) : Type 0 where
+pub record IsTied {A : Type 0} (by : Answering A) (image : Loaded) (opening : Shared) (system : Recorded) (claim : Claimed) (job : Running) (x : A)
+    : Type 0 where
   pub own : IsJobOf by image claim job x
   pub entered : IsClaimIn opening system claim
 
@@ -76,6 +77,7 @@ stand_by None log s = elim (reverse log) [
   | e ∷ earlier ↦ Some (record { ask = e.0; locals = s.locals; places = places s; answered = true })
 ]
 
+-- a job at its ask, as its run has it there
 abbrev pub stand_in : Run → Option AtAsk
 stand_in run = stand_by run.pending run.log run.at.state
 
@@ -123,6 +125,7 @@ Steps by image opening late given old slot made.Unfit new slot' =
 Steps by image opening late given old slot made.Ran new slot' =
     (slot'.job.run.spent ≡ min (slot.job.run.spent + fuel) spent_limit) × GoesOn image (start_of slot) slot.job.run.log slot'.job.run.spent
     × (new ≡ old) × (slot'.job.run.log ≡ slot.job.run.log) × HasStill by slot.answerer slot'.answerer × (stand_of slot' ≡ None)
+    × MayGoOn (stand_of slot)
 Steps by image opening late given old slot made.Ended new slot' =
     HasEnded image (start_of slot) slot.job.run.log × (new ≡ old) × IsStill by slot slot' × (stand_of slot' ≡ None)
 

@@ -7,7 +7,7 @@ ghost use Rattle.mj_load.specs.Image.{routines_of};
 ghost use Rattle.mj_locktab.specs.Locks.{LocksApart};
 ghost use Rattle.mj_sessions.specs.Events.{Log};
 ghost use Rattle.mj_sys.specs.History.{state_of};
-ghost use Rattle.mj_core.specs.Gives.{CoreStepGives, DeviceStepGives, RunGives};
+ghost use Rattle.mj_core.specs.Gives.{CoreStepGives, DeviceStepGives, RunGives, DeviceRunGives};
 ghost use Rattle.mj_core.specs.Runs.{IsRun};
 
 use crate::answerer::{Answerer, Fresh, Unplaced};
@@ -68,6 +68,8 @@ impl<D: Device, O: Opening> Core<D, Sessions<D>, O> {
     /// Makes every step in order, and gives one answer for each. Room for the answers is taken first.
     pub fn run(&mut self, steps: &[Step]) -> Result<Vec<Result<Seen, Refusal>>, AllocError>
         ensures gives { IfOk result (λ answers. RunGives O.opening self.old steps.now answers.items self.new) }
+        ensures called { IfOk result (λ answers.
+            DeviceRunGives (IsToldBy D.inside D.failures D.taken D.given D.IsTold) O.opening self.old steps.now answers.items self.new) }
         ensures run { IsRun (routines_of self.new.image) O.opening self.new.history }
         ensures apart { LocksApart (state_of O.opening self.new.history).locks }
         ensures err { OnErr result (self.new ≡ self.old) }
@@ -81,7 +83,8 @@ impl<D: Device, O: Opening> Core<D, Sessions<D>, O> {
 
     // Makes every step in order.
     fn answers(&mut self, steps: &[Step]) -> Result<Vec<Result<Seen, Refusal>>, AllocError>
-        ensures gives { IfOk result (λ answers. RunGives O.opening self.old steps.now answers.items self.new) }
+        ensures called { IfOk result (λ answers.
+            DeviceRunGives (IsToldBy D.inside D.failures D.taken D.given D.IsTold) O.opening self.old steps.now answers.items self.new) }
         ensures err { OnErr result (self.new ≡ self.old) }
     {
         let mut answers = Vec::with_capacity(self.alloc(), steps.len())?;

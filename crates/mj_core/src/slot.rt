@@ -25,7 +25,7 @@ use std::marker::Model;
 /// The turns that a step lets a job go on for.
 pub const FUEL: u64 = 10_000;
 
-/// A job with its claim, and who answers what it asks devices.
+/// One job of many: the claim of its row, how it goes, who answers what it asks devices, and whether it stands at an ask.
 #[derive(Drop)]
 pub struct Slot<A> {
     /// the claim of its row
@@ -59,7 +59,8 @@ pub fn step_slot<D: Device, A: Answerer<Fresh<D>>, O: Opening>(
     requires room { length system.old.history < history_limit }
     ensures gives { IfOk result
         (λ made. Steps A.answering (routines_of image.now) O.opening late (option_copied given.entry) system.old slot.old made system.new slot.new) }
-    ensures refused { IfErr result (λ why. IsStepRefused (routines_of image.now) (start_of slot.old) slot.old.job.run.log late why (stand_of slot.new)) }
+    ensures refused { IfErr result
+        (λ why. IsStepRefused (routines_of image.now) (start_of slot.old) slot.old.job.run.log (stand_of slot.old) late why (stand_of slot.new)) }
     ensures kept { OnErr result ((system.new ≡ system.old) × IsStill A.answering slot.old slot.new) }
     ensures tied { IsPlaced A.answering image.now O.opening system.new slot.new }
     ensures stands { IsStanding image.now slot.new }

@@ -229,12 +229,15 @@ impl<D: Device, A: Answerer<Fresh<D>>, O: Opening> Core<D, A, O> {
     }
 
     /// How many events there are. The history is a run, whatever steps were made, from an opening at which no transaction is open, and no longer
-    /// than it may be.
+    /// than it may be. What is shown of jobs is shown of each that there may be.
     pub fn len(&self) -> usize
         ensures value { result ≡ length self.now.history }
         ensures within { length self.now.history ≤ history_limit }
         ensures run { IsRun (routines_of self.now.image) O.opening self.now.history }
         ensures none_open { NoneIsOpen O.opening }
+        ensures over { length self.now.over ≡ rows_limit }
+        ensures spent { length self.now.spent ≡ rows_limit }
+        ensures stands { length self.now.stands ≡ rows_limit }
     {
         let _rows = self.system.rows(); // for the proof
         self.order.len()
@@ -273,9 +276,9 @@ impl<D: Device, A: Answerer<Fresh<D>>, O: Opening> Core<D, A, O> {
         self.system.rows()
     }
 
-    /// A job that stands at an ask, and so as it is shown: it waits for the reply, or has it, and hasn't gone on. It runs the routines from its row's
-    /// start, and its log is what the history has of it: so what it shows of itself, its locals, its frames, its place and what it asks, is what stands in
-    /// its private run beside that ask. None stands for one that stands at no ask.
+    /// A job that stands at an ask, as it is shown: it waits for the reply, or has it, and hasn't gone on. It runs the routines from its row's start, and
+    /// its log is what the history has of it. So its locals, its frames and its place are those of its private run beside that ask. One that waits asks
+    /// just that. One that has its reply asks nothing, and the ask is the last of its log. There is none for a job that stands at no ask.
     pub fn job(&self, job: u32) -> Option<&Job>
         ensures none { IfNone result (stand_at self.now.stands job ≡ None) }
         ensures shown { IfSome result (λ found. (at : AtAsk) × (stand_at self.now.stands job ≡ Some at) × IsSeenAt found.now.run at) }

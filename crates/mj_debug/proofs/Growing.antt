@@ -14,10 +14,10 @@ use Rattle.mj_core.specs.declared.seen.Seen.{Seen}
 use Rattle.mj_core.specs.declared.seen.Seen.TheVariants as seen
 use Rattle.mj_steps.specs.declared.step.Refusal.{Refusal}
 use Rattle.mj_steps.specs.declared.step.Step.{Step}
-use Rattle.mj_core.specs.Shown.{Shown}
-use Rattle.mj_core.specs.Gives.{is_late, stands_so, CoreStepGives, Made, GivesReady, Readies}
-use Rattle.mj_debug.specs.Playing.{AreStaged}
-use Rattle.mj_debug.specs.Replicas.{Replayed, IsReplica}
+use Rattle.mj_core.specs.Shown.{Shown, stand_at}
+use Rattle.mj_core.specs.Gives.{is_late, stands_so, MayGoOn, CoreStepGives, Made, GivesReady, Readies}
+use Rattle.mj_replica.specs.Playing.{AreStaged}
+use Rattle.mj_replica.specs.Replicas.{Replayed, IsReplica}
 
 -- the routines stay, and there are as many events or more, but no more than there may be
 pub record Grows (old new : Shown) : Type 0 where
@@ -63,7 +63,7 @@ module _ (opening : Shared) (old new : Shown) (room : length old.history < histo
   made_grows (Ok (seen.Busy holder held)) made = still old new (ap image_of made.1.5) (ap history_of made.1.5)
   made_grows (Ok seen.NotYet) made = still old new (ap image_of made.1.3.3) (ap history_of made.1.3.3)
   made_grows (Ok seen.Unfit) made = still old new (ap image_of made.1.3.1) (ap history_of made.1.3.1)
-  made_grows (Ok seen.Ran) made = still old new (ap image_of made.1.3) (ap history_of made.1.3)
+  made_grows (Ok seen.Ran) made = still old new (ap image_of made.1.4) (ap history_of made.1.4)
   made_grows (Err why) (inl made) = same old new made.1
   made_grows (Err why) (inr made) = still old new (ap image_of made.2) (ap history_of made.2)
 
@@ -77,12 +77,12 @@ step_grows opening old new step answer (inr (row, is, inr (inr goes))) = made_gr
 module _ (opening : Shared) (old new : Shown) (job : ℕ) (row : Row) where
   ready_same : (answer : Result Turn Refusal) → Readies opening old job row answer new → (new.image ≡ old.image) × (new.history ≡ old.history)
   ready_same (Ok turns.Asks) r = (ap image_of r.2, ap history_of r.2)
-  ready_same (Ok turns.Ran) r = (ap image_of r.3, ap history_of r.3)
+  ready_same (Ok turns.Ran) r = (ap image_of r.4, ap history_of r.4)
   ready_same (Ok turns.Ended) r = (ap image_of r.1, ap history_of r.1)
   ready_same (Err why) r = by r.1 where
-    by : (new ≡ old) ⊎ (new ≡ stands_so old job None) → (new.image ≡ old.image) × (new.history ≡ old.history)
+    by : (new ≡ old) ⊎ (MayGoOn (stand_at old.stands job) × (new ≡ stands_so old job None)) → (new.image ≡ old.image) × (new.history ≡ old.history)
     by (inl is) = (ap image_of is, ap history_of is)
-    by (inr is) = (ap image_of is, ap history_of is)
+    by (inr is) = (ap image_of is.1, ap history_of is.1)
 
 -- where a job is made ready, nothing happens
 pub ready_keeps : (opening : Shared) (old new : Shown) (job : ℕ) (answer : Result Turn Refusal) → GivesReady opening old job answer new

@@ -1,15 +1,5 @@
-pub mod Asking
-pub mod Serving
-pub mod Staging
-pub mod Fronts
-pub mod Admitting
-pub mod Rounds
-pub mod Telling
 pub mod Growing
-pub mod Standing
-pub mod Viewing
-pub mod Whole
-pub mod Pools
+pub mod Showing
 pub mod Marking
 pub mod Turning
 pub mod Stopping

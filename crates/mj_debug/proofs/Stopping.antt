@@ -8,8 +8,8 @@ use Rattle.mj_jobvm.specs.Jobs.{Running}
 use Rattle.mj_sys.specs.Shared.{Shared}
 use Rattle.mj_sys.specs.History.{History}
 use Rattle.mj_core.specs.Asking.{IsAtAsk}
+use Rattle.mj_replica.specs.Shows.{HasStood}
 use Rattle.mj_debug.specs.Breaks.{stops, is_breakpoint, is_there}
-use Rattle.mj_debug.specs.Shows.{HasStood}
 use Rattle.mj_debug.specs.Goes.{innermost, ComesToAsk, IsStop}
 use Rattle.mj_debug.specs.Walks.{Walk}
 

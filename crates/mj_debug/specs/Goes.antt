@@ -1,12 +1,12 @@
 -- Jobs that go on in turn, up to a breakpoint.
-use Rattle.std.specs.Prelude.{◌≡◌, ℕ, suc, ◌<◌, ◌≤◌, List, [], ◌∷◌, length, Bool, true, false, Option, Some, None, option_map, Result, Ok, Err, ◌⊎◌}
+use Rattle.std.specs.Prelude.{◌≡◌, ℕ, suc, ◌<◌, List, [], ◌∷◌, length, Bool, true, false, Option, Some, None, option_map, Result, Ok, Err, ◌⊎◌}
 use Rattle.mj_ask.specs.declared.ask.Ask.{Ask}
 use Rattle.mj_ast.specs.Syntax.{Routine}
 use Rattle.mj_semantics.specs.State.{Locals, Place}
 use Rattle.mj_semantics.specs.Outcome as outcomes
 use Rattle.mj_semantics.specs.Job.{next}
 use Rattle.mj_load.specs.Image.{routines_of}
-use Rattle.mj_jobs.specs.Rows.{Row, row_at, IsLive}
+use Rattle.mj_jobs.specs.Rows.{Row, row_at}
 use Rattle.mj_jobvm.specs.declared.job.Turn.{Turn}
 use Rattle.mj_jobvm.specs.declared.job.Turn.TheVariants as turns
 use Rattle.mj_jobvm.specs.Run.{replies_of}
@@ -19,25 +19,14 @@ use Rattle.mj_steps.specs.declared.step.Way.TheVariants as ways
 use Rattle.mj_core.specs.Runs.{start_in}
 use Rattle.mj_core.specs.Shown.{Shown}
 use Rattle.mj_core.specs.Gives.{CoreStepGives, GivesReady}
+use Rattle.mj_replica.specs.declared.replica.Unshown.{Unshown}
+use Rattle.mj_replica.specs.declared.replica.Unshown.TheVariants as unshown
+use Rattle.mj_replica.specs.InTurn.{AreOver, IsTurnOf}
+use Rattle.mj_replica.specs.Shows.{HasStood}
 use Rattle.mj_debug.specs.declared.debugger.Gone.{Gone}
 use Rattle.mj_debug.specs.declared.debugger.Gone.TheVariants as gones
-use Rattle.mj_debug.specs.declared.replica.Unshown.{Unshown}
-use Rattle.mj_debug.specs.declared.replica.Unshown.TheVariants as unshown
 use Rattle.mj_debug.specs.Breaks.{stops}
-use Rattle.mj_debug.specs.Shows.{HasStood}
 use Rattle.mj_debug.specs.Walks.{Walk}
-
--- no job from this number on goes on
-abbrev pub AreOver : List Row → ℕ → Type 0
-AreOver rows first = (job : ℕ) → first ≤ job → IsLive rows job → ⊥
-
--- of the jobs from this number on that go on, this is the lowest
-abbrev pub IsLowest : List Row → ℕ → ℕ → Type 0
-IsLowest rows first job = (first ≤ job) × IsLive rows job × ((other : ℕ) → first ≤ other → other < job → IsLive rows other → ⊥)
-
--- whose turn it is: that of the lowest from this number on, or where none from there on goes on, of the lowest of all
-abbrev pub IsTurnOf : List Row → ℕ → ℕ → Type 0
-IsTurnOf rows turn job = IsLowest rows turn job ⊎ (AreOver rows turn × IsLowest rows 0 job)
 
 -- with its frames at these lines, the innermost first, the job comes to its next ask
 abbrev pub ComesToAsk : List Routine → Shared → Shown → ℕ → List Place → Type 0
@@ -82,7 +71,8 @@ Passes opening old false job answer new =
 -- line; or what its step gives, behind which it is the next job's turn. `first` says that it is the first step of that `go`.
 abbrev pub GoGives : Shared → Walk → Bool → Gone → Walk → Type 0
 GoGives opening old first gones.NotAtEnd new = (old.place < length old.core.history) × (new ≡ old)
-GoGives opening old first gones.Over new = (old.place ≡ length old.core.history) × AreOver (state_of opening old.core.history).rows 0 × (new ≡ record old { ready = true })
+GoGives opening old first gones.Over new =
+    (old.place ≡ length old.core.history) × AreOver (state_of opening old.core.history).rows 0 × (new ≡ record old { ready = true })
 GoGives opening old first (gones.At job routine line) new =
     (old.place ≡ length old.core.history) × (first ≡ false) × IsTurnOf (state_of opening old.core.history).rows old.turn job
     × ((outer : List Place) × IsStop opening old job (record { routine = routine; line = line } ∷ outer) true)
@@ -99,11 +89,13 @@ IsPassed opening old job gone new =
     (answer : Result Seen Refusal) × (gone ≡ gones.Step job answer) × CoreStepGives opening old.core (record { job = job; way = ways.Go }) answer new.core
     × (new ≡ record old { core = new.core; place = length new.core.history; ready = new.ready; turn = suc job })
 
--- What is left where no step of a `go` is made. For want of memory the job whose turn it is may have come to its next ask; else nothing changes but what is
--- at hand.
-abbrev pub IsUnmade : Shared → Walk → Unshown → Walk → Type 0
-IsUnmade opening old unshown.Memory new =
-    (new ≡ record old { core = new.core; ready = new.ready })
-    × ((new.core ≡ old.core)
-    ⊎ ((job : ℕ) × IsTurnOf (state_of opening old.core.history).rows old.turn job × GivesReady opening old.core job (Ok turns.Asks) new.core))
-IsUnmade opening old unshown.Long new = new ≡ record old { ready = new.ready }
+-- What is left where no step of a `go` is made. For want of memory, at the record's end: what stands there isn't at hand; or it is, and the job whose
+-- turn it is came to its next ask, which the first step of a `go` doesn't wait for. Where a job went on for too long, what was at hand may have gone.
+abbrev pub IsLeftUnmade : Shared → Walk → Bool → Unshown → Walk → Type 0
+IsLeftUnmade opening old first unshown.Memory new =
+    (old.place ≡ length old.core.history)
+    × ((new ≡ record old { ready = false })
+    ⊎ ((first ≡ false)
+    × ((job : ℕ) × IsTurnOf (state_of opening old.core.history).rows old.turn job × GivesReady opening old.core job (Ok turns.Asks) new.core
+    × (new ≡ record old { core = new.core; ready = true }))))
+IsLeftUnmade opening old first unshown.Long new = new ≡ record old { ready = new.ready }

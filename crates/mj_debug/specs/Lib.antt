@@ -1,9 +1,3 @@
-pub mod Replays
-pub mod Playing
-pub mod Shows
-pub mod Replicas
-pub mod Views
 pub mod Breaks
 pub mod Walks
 pub mod Goes
-pub mod Laws

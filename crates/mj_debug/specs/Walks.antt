@@ -1,6 +1,5 @@
 -- A run that is walked back and forth.
-use Rattle.std.specs.Prelude.{◌≡◌, ℕ, suc, ◌<◌, ◌≤◌, List, [], ◌∷◌, length, take, Bool, Option, Some, None, Result, Ok, Err, ◌⊎◌}
-use Rattle.mj_dev.specs.Shelves.{Shelf}
+use Rattle.std.specs.Prelude.{◌≡◌, ℕ, suc, ◌==◌, ◌<◌, List, length, take, Bool, false, ◌||◌, Option, Some, None, is_some, Result, Ok, Err, ◌⊎◌}
 use Rattle.mj_sys.specs.Shared.{Shared}
 use Rattle.mj_sys.specs.History.{History}
 use Rattle.mj_core.specs.declared.seen.Seen.{Seen}
@@ -8,6 +7,8 @@ use Rattle.mj_steps.specs.declared.step.Refusal.{Refusal}
 use Rattle.mj_steps.specs.declared.step.Step.{Step}
 use Rattle.mj_core.specs.Shown.{Shown}
 use Rattle.mj_core.specs.Gives.{CoreStepGives}
+use Rattle.mj_views.specs.Views.{Window, view_at}
+use Rattle.mj_replica.specs.Replicas.{Replayed}
 use Rattle.mj_debug.specs.declared.breaks.BreakMark.{BreakMark}
 use Rattle.mj_debug.specs.declared.debugger.WalkRefusal.{WalkRefusal}
 use Rattle.mj_debug.specs.declared.debugger.WalkRefusal.TheVariants as refusals
@@ -25,10 +26,14 @@ pub record Walk : Type 0 where
 abbrev pub front : Walk → History
 front walk = take walk.place walk.core.history
 
--- each name has devices, of which none was taken
-abbrev pub AreWhole : List Shelf → Type 0
-AreWhole [] = Unit {0}
-AreWhole (shelf ∷ shelves) = (1 ≤ shelf.left) × (shelf.taken ≡ 0) × AreWhole shelves
+-- a run was played again up to this place
+abbrev pub is_at : ℕ → Option Replayed → Bool
+is_at place None = false
+is_at place (Some replica) = replica.made == place
+
+-- what stands at a place is at hand: there is a view of it, or a run was played again up to it
+abbrev pub is_ready : ℕ → Window → Option Replayed → Bool
+is_ready place views replica = is_some (view_at views place) || is_at place replica
 
 -- what a step of the jobs answers, as an answer of the debugger
 abbrev pub walk_answer : Result Seen Refusal → Result Seen WalkRefusal

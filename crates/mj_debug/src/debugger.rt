@@ -18,16 +18,16 @@ ghost use Rattle.mj_sys.specs.Shared.{are_global};
 ghost use Rattle.mj_sys.specs.System.{history_limit};
 ghost use Rattle.mj_core.specs.Gives.{CoreStepGives, GivesReady};
 ghost use Rattle.mj_core.specs.Shown.{begun};
-ghost use Rattle.mj_debug.specs.Breaks.{AreMarked, is_there};
-ghost use Rattle.mj_debug.specs.Goes.{GoGives, IsTurnOf, IsStop, IsUnasked, IsPassed, IsUnmade, line_in};
-ghost use Rattle.mj_debug.specs.Replicas.{Replayed, IsReplica, IsFull, IsUnshown};
-ghost use Rattle.mj_debug.specs.Shows.{HasStood};
-ghost use Rattle.mj_debug.specs.Views.{view_of, IsView, AreViews};
-ghost use Rattle.mj_debug.specs.Walks.{front, AreWhole, StepGives, IsOn, GoesBack, GoesForth};
 ghost use Rattle.mj_views.specs.Views.{Window};
+ghost use Rattle.mj_replica.specs.InTurn.{IsTurnOf};
+ghost use Rattle.mj_replica.specs.Replicas.{AreWhole, Replayed, IsReplica, IsFull, IsUnshown};
+ghost use Rattle.mj_replica.specs.Shows.{HasStood};
+ghost use Rattle.mj_replica.specs.Views.{view_of, IsView, AreViews};
+ghost use Rattle.mj_debug.specs.Breaks.{AreMarked, is_there};
+ghost use Rattle.mj_debug.specs.Goes.{GoGives, IsStop, IsUnasked, IsPassed, IsLeftUnmade, line_in};
+ghost use Rattle.mj_debug.specs.Walks.{front, StepGives, IsOn, GoesBack, GoesForth};
 
 use crate::breaks::{BreakMark, is_breakpoint, put_mark};
-use crate::replica::{Kept, Replica, Unshown, bring, keep};
 use mj_ask::Start;
 use mj_core::{Answerer, Core, Fresh, Ready, Refusal, Seen, Step, Way};
 use mj_dev::{Device, Pool};
@@ -37,6 +37,7 @@ use mj_jobvm::Job;
 use mj_load::Image;
 use mj_locals::Locals;
 use mj_locktab::LockTable;
+use mj_replica::{Kept, Replica, Unshown, bring, keep};
 use mj_sessions::Sessions;
 use mj_sys::{Opening, Unmade};
 use mj_text::Text;
@@ -99,9 +100,9 @@ impl<D: Device, A: Answerer<Fresh<D>>, O: Opening> Model for Debugger<D, A, O> {
     ghost use Rattle.mj_ast.specs.contracts.routine.Routine as routine;
     ghost use Rattle.mj_pcode.specs.contracts.instr.Unit as unit;
     ghost use Rattle.mj_sys.specs.System.{history_limit};
-    ghost use Rattle.mj_debug.specs.Replicas.{BeginsRun, IsReplica, IsFull};
-    ghost use Rattle.mj_debug.specs.Views.{AreViews, is_ready};
-    ghost use Rattle.mj_debug.specs.Walks.{Walk};
+    ghost use Rattle.mj_replica.specs.Replicas.{BeginsRun, IsReplica, IsFull};
+    ghost use Rattle.mj_replica.specs.Views.{AreViews};
+    ghost use Rattle.mj_debug.specs.Walks.{Walk, is_ready};
 
     ghost Value = { Walk };
 
@@ -338,7 +339,7 @@ impl<D: Device, O: Opening> Debugger<D, Sessions<D>, O> {
     /// that out it is let go on as `Core::ready` does, and where it comes to no ask by that, this is its step.
     pub fn go(&mut self, first: bool) -> Result<Gone, Unshown>
         ensures ok { IfOk result (λ gone. GoGives O.opening self.old first gone self.new) }
-        ensures err { IfErr result (λ why. IsUnmade O.opening self.old why self.new) }
+        ensures err { IfErr result (λ why. IsLeftUnmade O.opening self.old first why self.new) }
         ensures why { IfErr result (λ why. IsUnshown self.old.core.image O.opening self.old.core.history self.old.place why) }
     {
         if self.place < self.core.len() {

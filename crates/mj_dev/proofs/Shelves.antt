@@ -13,7 +13,8 @@ use Rattle.std.proofs.lemmas.List.Quantifiers.{position-Some}
 use Rattle.std.specs.Option.{IfSome, IfNone}
 use Rattle.std.specs.Result.{OnOk, OnErr}
 use Rattle.mj_dev.proofs.Places.{position_or_len-none, position_or_len-some}
-use Rattle.mj_dev.specs.Shelves.{Shelf, with_first, is_named, is_behind, left_of, taken_of, IsThere, Belongs, new_shelf, one_more, one_taken, added, after_take, IsBelow, AreRising}
+use Rattle.mj_dev.specs.Shelves.{Shelf, with_first, is_named, is_behind, left_of, taken_of, IsThere, Belongs, after_take, IsBelow, AreRising}
+use Rattle.mj_dev.specs.Shelves.{new_shelf, one_more, one_taken, shelf_of, more_by, added, grown}
 
 -- where the search for the place of a name ends
 abbrev pub place_for : List ℕ → List Shelf → ℕ
@@ -47,44 +48,50 @@ with_first-at p f (x ∷ xs) zero d within here before = ap (λ b. cond b (f x �
 with_first-at p f (x ∷ xs) (suc i) d within here before =
     ap (λ b. cond b (f x ∷ xs) (x ∷ with_first p f xs)) (before 0 (omega arith)) ∙ ap (λ ys. x ∷ ys) (with_first-at p f xs i d (omega arith) here (λ k below. before (suc k) (omega arith)))
 
--- a device more of a name that is there, at the place that the search for it gives
-pub added-same : (name : List ℕ) (shelves : List Shelf) (i : ℕ) (d : Shelf) → i ≡ place_for name shelves → i < length shelves → bytes_eq (get_or shelves i d).name name ≡ true
-    → added name shelves ≡ set shelves i (one_more (get_or shelves i d))
-added-same name [] i d at within named = absurd (omega arith)
-added-same name (s ∷ ss) zero d at within named =
+-- devices more of a name that is there, at the place that the search for it gives
+pub grown-same : (count : ℕ) (name : List ℕ) (shelves : List Shelf) (i : ℕ) (d : Shelf) → i ≡ place_for name shelves → i < length shelves → bytes_eq (get_or shelves i d).name name ≡ true
+    → grown count name shelves ≡ set shelves i (more_by count (get_or shelves i d))
+grown-same count name [] i d at within named = absurd (omega arith)
+grown-same count name (s ∷ ss) zero d at within named =
     elim (slice_cmp nat_cmp s.name name) as (λ r. slice_cmp nat_cmp s.name name ≡ r → 0 ≡ cond (not (not (is_lt r))) (1 + place_for name ss) 0
-    → match_ordering r (s ∷ added name ss) (one_more s ∷ ss) (new_shelf name ∷ s ∷ ss) ≡ one_more s ∷ ss) [
+    → match_ordering r (s ∷ grown count name ss) (more_by count s ∷ ss) (shelf_of count name ∷ s ∷ ss) ≡ more_by count s ∷ ss) [
       | Less ↦ λ r e. absurd (omega arith)
       | Equal ↦ λ r e. refl
       | Greater ↦ λ r e. absurd (other_name s.name name named (ap is_eq r))
     ] refl at
-added-same name (s ∷ ss) (suc i) d at within named =
+grown-same count name (s ∷ ss) (suc i) d at within named =
     elim (slice_cmp nat_cmp s.name name) as (λ r. slice_cmp nat_cmp s.name name ≡ r → suc i ≡ cond (not (not (is_lt r))) (1 + place_for name ss) 0
-    → match_ordering r (s ∷ added name ss) (one_more s ∷ ss) (new_shelf name ∷ s ∷ ss) ≡ s ∷ set ss i (one_more (get_or ss i d))) [
-      | Less ↦ λ r e. ap (λ ys. s ∷ ys) (added-same name ss i d (omega arith) (omega arith) named)
+    → match_ordering r (s ∷ grown count name ss) (more_by count s ∷ ss) (shelf_of count name ∷ s ∷ ss) ≡ s ∷ set ss i (more_by count (get_or ss i d))) [
+      | Less ↦ λ r e. ap (λ ys. s ∷ ys) (grown-same count name ss i d (omega arith) (omega arith) named)
       | Equal ↦ λ r e. absurd (omega arith)
       | Greater ↦ λ r e. absurd (omega arith)
     ] refl at
 
--- the first device of a name, at the place that the search for it gives
-pub added-new : (name : List ℕ) (shelves : List Shelf) (i : ℕ) (d : Shelf) → i ≡ place_for name shelves → (i < length shelves → bytes_eq (get_or shelves i d).name name ≡ false)
-    → added name shelves ≡ insert shelves i (new_shelf name)
-added-new name [] zero d at other = refl
-added-new name [] (suc i) d at other = absurd (omega arith)
-added-new name (s ∷ ss) zero d at other =
+-- the first devices of a name, at the place that the search for it gives
+pub grown-new : (count : ℕ) (name : List ℕ) (shelves : List Shelf) (i : ℕ) (d : Shelf) → i ≡ place_for name shelves → (i < length shelves → bytes_eq (get_or shelves i d).name name ≡ false)
+    → grown count name shelves ≡ insert shelves i (shelf_of count name)
+grown-new count name [] zero d at other = refl
+grown-new count name [] (suc i) d at other = absurd (omega arith)
+grown-new count name (s ∷ ss) zero d at other =
     elim (slice_cmp nat_cmp s.name name) as (λ r. slice_cmp nat_cmp s.name name ≡ r → 0 ≡ cond (not (not (is_lt r))) (1 + place_for name ss) 0
-    → match_ordering r (s ∷ added name ss) (one_more s ∷ ss) (new_shelf name ∷ s ∷ ss) ≡ new_shelf name ∷ s ∷ ss) [
+    → match_ordering r (s ∷ grown count name ss) (more_by count s ∷ ss) (shelf_of count name ∷ s ∷ ss) ≡ shelf_of count name ∷ s ∷ ss) [
       | Less ↦ λ r e. absurd (omega arith)
       | Equal ↦ λ r e. absurd (same_name s.name name (other (omega arith)) (ap is_eq r))
       | Greater ↦ λ r e. refl
     ] refl at
-added-new name (s ∷ ss) (suc i) d at other =
+grown-new count name (s ∷ ss) (suc i) d at other =
     elim (slice_cmp nat_cmp s.name name) as (λ r. slice_cmp nat_cmp s.name name ≡ r → suc i ≡ cond (not (not (is_lt r))) (1 + place_for name ss) 0
-    → match_ordering r (s ∷ added name ss) (one_more s ∷ ss) (new_shelf name ∷ s ∷ ss) ≡ s ∷ insert ss i (new_shelf name)) [
-      | Less ↦ λ r e. ap (λ ys. s ∷ ys) (added-new name ss i d (omega arith) (λ below. other (omega arith)))
+    → match_ordering r (s ∷ grown count name ss) (more_by count s ∷ ss) (shelf_of count name ∷ s ∷ ss) ≡ s ∷ insert ss i (shelf_of count name)) [
+      | Less ↦ λ r e. ap (λ ys. s ∷ ys) (grown-new count name ss i d (omega arith) (λ below. other (omega arith)))
       | Equal ↦ λ r e. absurd (omega arith)
       | Greater ↦ λ r e. absurd (omega arith)
     ] refl at
+
+-- one device is so many as one
+pub added-one : (name : List ℕ) (shelves : List Shelf) → added name shelves ≡ grown 1 name shelves
+added-one name [] = refl
+added-one name (s ∷ ss) =
+    ap (λ rest. match_ordering (slice_cmp nat_cmp s.name name) (s ∷ rest) (one_more s ∷ ss) (new_shelf name ∷ s ∷ ss)) (added-one name ss)
 
 -- ---- names stay in order
 
@@ -126,27 +133,26 @@ AreRising-taken name (s ∷ ss) rising =
 
 pub found-there : (name : List ℕ) (shelves : List Shelf) (i : ℕ) (shelf : Shelf) → position (is_behind name) shelves ≡ Some i → shelf ≡ get_or shelves i shelf → is_named name shelf ≡ true
     → IsThere name shelves i
-found-there name shelves i shelf found at named = record {
-  within = (position-Some (is_behind name) shelves i shelf found).0;
-  changes = λ d. added-same name shelves i d (sym (position_or_len-some (is_behind name) shelves i found)) (position-Some (is_behind name) shelves i shelf found).0
-      (ap (λ (s : Shelf). is_named name s) (get_or_default shelves i d shelf (position-Some (is_behind name) shelves i shelf found).0 ∙ sym at) ∙ named);
-}
+found-there name shelves i shelf found at named =
+    let within : i < length shelves = (position-Some (is_behind name) shelves i shelf found).0 in
+    let by : (count : ℕ) (d : Shelf) → grown count name shelves ≡ set shelves i (more_by count (get_or shelves i d)) =
+    λ count d. grown-same count name shelves i d (sym (position_or_len-some (is_behind name) shelves i found)) within
+    (ap (λ (s : Shelf). is_named name s) (get_or_default shelves i d shelf within ∙ sym at) ∙ named) in
+    record { within = within; changes = λ d. added-one name shelves ∙ by 1 d; changes_by = by }
 
 pub found-gap : (name : List ℕ) (shelves : List Shelf) (i : ℕ) (shelf : Shelf) → position (is_behind name) shelves ≡ Some i → shelf ≡ get_or shelves i shelf → is_named name shelf ≡ false
     → Belongs name shelves i
 found-gap name shelves i shelf found at other =
     let within : i < length shelves = (position-Some (is_behind name) shelves i shelf found).0 in
-    record {
-      within = omega arith;
-      grows = added-new name shelves i shelf (sym (position_or_len-some (is_behind name) shelves i found))
-          (λ _. ap (λ (s : Shelf). is_named name s) (sym at) ∙ other);
-    }
+    let by : (count : ℕ) → grown count name shelves ≡ insert shelves i (shelf_of count name) =
+    λ count. grown-new count name shelves i shelf (sym (position_or_len-some (is_behind name) shelves i found)) (λ _. ap (λ (s : Shelf). is_named name s) (sym at) ∙ other) in
+    record { within = omega arith; grows = added-one name shelves ∙ by 1; grows_by = by }
 
 pub found-end : (name : List ℕ) (shelves : List Shelf) → position (is_behind name) shelves ≡ None → Belongs name shelves (length shelves)
-found-end name shelves none = record {
-  within = omega arith;
-  grows = added-new name shelves (length shelves) (new_shelf name) (sym (position_or_len-none (is_behind name) shelves none)) (λ below. absurd (omega arith));
-}
+found-end name shelves none =
+    let by : (count : ℕ) → grown count name shelves ≡ insert shelves (length shelves) (shelf_of count name) =
+    λ count. grown-new count name shelves (length shelves) (new_shelf name) (sym (position_or_len-none (is_behind name) shelves none)) (λ below. absurd (omega arith)) in
+    record { within = omega arith; grows = added-one name shelves ∙ by 1; grows_by = by }
 
 -- a row that a search by name found
 pub record IsFound (name : List ℕ) (shelves : List Shelf) (i : ℕ) (shelf : Shelf) : Type 0 where

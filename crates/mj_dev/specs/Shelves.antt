@@ -32,6 +32,14 @@ new_shelf name = record { name = name; left = 1; taken = 0 }
 abbrev pub one_more : Shelf → Shelf
 one_more shelf = record shelf { left = shelf.left + 1 }
 
+-- a name with so many devices
+abbrev pub shelf_of : ℕ → List ℕ → Shelf
+shelf_of count name = record { name = name; left = count; taken = 0 }
+
+-- so many devices more
+abbrev pub more_by : ℕ → Shelf → Shelf
+more_by count shelf = record shelf { left = shelf.left + count }
+
 -- one device is taken
 abbrev pub one_taken : Shelf → Shelf
 one_taken shelf = record shelf { left = shelf.left - 1; taken = shelf.taken + 1 }
@@ -50,15 +58,26 @@ added name (shelf ∷ shelves) =
     (one_more shelf ∷ shelves)
     (new_shelf name ∷ shelf ∷ shelves)
 
+-- the pool with so many devices more of this name, which has a shelf then, the names in order
+abbrev pub grown : ℕ → List ℕ → List Shelf → List Shelf
+grown count name [] = shelf_of count name ∷ []
+grown count name (shelf ∷ shelves) =
+    match_ordering (slice_cmp nat_cmp shelf.name name)
+    (shelf ∷ grown count name shelves)
+    (more_by count shelf ∷ shelves)
+    (shelf_of count name ∷ shelf ∷ shelves)
+
 -- the name has a shelf, and here it stands
 pub record IsThere (name : List ℕ) (shelves : List Shelf) (place : ℕ) : Type 0 where
   pub within : place < length shelves
   pub changes : (d : Shelf) → added name shelves ≡ slice_set shelves place (one_more (slice_index_or shelves place d))
+  pub changes_by : (count : ℕ) (d : Shelf) → grown count name shelves ≡ slice_set shelves place (more_by count (slice_index_or shelves place d))
 
 -- the name has no shelf, and here it belongs
 pub record Belongs (name : List ℕ) (shelves : List Shelf) (place : ℕ) : Type 0 where
   pub within : place ≤ length shelves
   pub grows : added name shelves ≡ insert shelves place (new_shelf name)
+  pub grows_by : (count : ℕ) → grown count name shelves ≡ insert shelves place (shelf_of count name)
 
 -- the pool once a device of this name is taken
 abbrev pub after_take : List ℕ → List Shelf → List Shelf

@@ -1,7 +1,7 @@
 // What stands for devices where none is called, and pools of it.
 
-ghost use Rattle.std.specs.Prelude.{◌≡◌, IfOk, OnOk};
-ghost use Rattle.mj_dev.specs.Pools.{with_more, shelves_of};
+ghost use Rattle.std.specs.Prelude.{◌≡◌, IfOk};
+ghost use Rattle.mj_dev.specs.Pools.{shelves_of};
 
 use crate::device::{Device, Did, Input};
 use crate::pool::Pool;
@@ -9,7 +9,7 @@ use mj_text::Text;
 use std::alloc::{AllocError, Global};
 
 /// What stands for a device where none is called. It takes no memory.
-#[derive(Drop)]
+#[derive(Clone, Copy)]
 pub struct Blank;
 
 impl Device for Blank {
@@ -60,19 +60,7 @@ pub fn pool_of(alloc: Global, counts: &[(Text, u32)]) -> Result<Pool<Blank>, All
 {
     let mut pool = Pool::new(alloc);
     for count in counts {
-        add_all(&mut pool, &count.0, count.1)?;
+        pool.add_many(&count.0, count.1)?;
     }
     Ok(pool)
-}
-
-// Adds so many sessions of a name.
-fn add_all(pool: &mut Pool<Blank>, name: &Text, count: u32) -> Result<(), AllocError>
-    ensures { OnOk result (pool.new ≡ with_more count name.now pool.old) }
-{
-    for done in 0..count {
-        let Ok(()) = pool.add(name, Blank) else {
-            return Err(AllocError);
-        };
-    }
-    Ok(())
 }

@@ -3,7 +3,9 @@
 ghost use Rattle.std.specs.Prelude.{◌≡◌, ◌≤◌, ◌<◌, ◌↔◌, [], map, length, position, IsTrue, IfOk, IfErr, IfSome, IfNone, OnOk, OnErr};
 ghost use Rattle.mj_dev.specs.Heard.{IsFresh, IsNew};
 ghost use Rattle.mj_dev.specs.Shelves.{Shelf, AreRising, added, after_take, left_of, taken_of, count_of, principal, is_named, is_behind, IsThere, Belongs};
+ghost use Rattle.mj_dev.specs.Pools.{with_more};
 
+use crate::blank::Blank;
 use crate::device::Device;
 use crate::row::Row;
 use crate::session::Session;
@@ -130,6 +132,34 @@ impl<D: Device> Pool<D> {
             counts.push(row.named_count()?)?;
         }
         Ok(counts)
+    }
+}
+
+impl Pool<Blank> {
+    // Adds so many devices of a name at once, in a time that doesn't grow with their number; `Err` for want of memory, or of room for so many of the name.
+    pub(crate) fn add_many(&mut self, name: &Text, count: u32) -> Result<(), AllocError>
+        ensures added { OnOk result (self.new ≡ with_more count name.now self.old) }
+        ensures kept { OnErr result (self.new ≡ self.old) }
+    {
+        if count == 0 {
+            return Ok(());
+        }
+        match place_for(self.rows.as_slice(), name) {
+            Ok(place) => {
+                let row = &mut self.rows[place];
+                row.add_many(self.alloc, count)
+            }
+            Err(place) => {
+                if self.rows.reserve(1).is_err() {
+                    return Err(AllocError);
+                }
+                let row = Row::of(self.alloc, name, count)?;
+                match self.rows.insert(place, row) {
+                    Ok(()) => Ok(()),
+                    Err(_) => unreachable!(),
+                }
+            }
+        }
     }
 }
 

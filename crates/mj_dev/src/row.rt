@@ -1,9 +1,10 @@
 // The devices of one name.
 
-ghost use Rattle.std.specs.Prelude.{◌≡◌, ◌+◌, ◌<◌, ◌^◌, IfOk, IfErr, OnOk, OnErr, IfSome, IfNone};
+ghost use Rattle.std.specs.Prelude.{◌≡◌, ◌+◌, ◌<◌, ◌^◌, length, IfOk, IfErr, OnOk, OnErr, IfSome, IfNone};
 ghost use Rattle.mj_dev.specs.Heard.{IsFresh, IsNew};
-ghost use Rattle.mj_dev.specs.Shelves.{new_shelf, one_more, one_taken, is_before, is_named, count_of};
+ghost use Rattle.mj_dev.specs.Shelves.{new_shelf, one_more, shelf_of, more_by, one_taken, is_before, is_named, count_of};
 
+use crate::blank::Blank;
 use crate::device::Device;
 use crate::session::Session;
 use mj_text::Text;
@@ -132,4 +133,38 @@ impl<D: Device> Row<D> {
     {
         Ok((self.name.try_clone()?, self.count()))
     }
+}
+
+impl Row<Blank> {
+    // A name with so many devices.
+    pub fn of(alloc: Global, name: &Text, count: u32) -> Result<Row<Blank>, AllocError>
+        ensures { IfOk result (λ row. row ≡ shelf_of count name.now) }
+    {
+        Ok(Row {
+            name: name.try_clone()?,
+            waiting: blanks(alloc, count)?,
+            taken: 0,
+        })
+    }
+
+    // Adds so many devices at once; `Err` for want of memory, or where the name would have more than it may have.
+    pub fn add_many(&mut self, alloc: Global, count: u32) -> Result<(), AllocError>
+        ensures added { OnOk result (self.new ≡ more_by count self.old) }
+        ensures kept { OnErr result (self.new ≡ self.old) }
+    {
+        if ROW_LIMIT - self.count() < count {
+            return Err(AllocError);
+        }
+        self.waiting = blanks(alloc, self.left() + count)?;
+        Ok(())
+    }
+}
+
+// So many devices, which take no memory: the compiler sees that no loop is needed to make them or to drop them.
+fn blanks(alloc: Global, count: u32) -> Result<VecDeque<Blank>, AllocError>
+    ensures { IfOk result (λ devices. length devices.items ≡ count) }
+{
+    let mut devices = Vec::new(alloc);
+    devices.resize(count as usize, Blank)?;
+    Ok(VecDeque::from_vec(devices))
 }

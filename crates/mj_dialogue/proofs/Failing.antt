@@ -3,8 +3,8 @@ use Rattle.std.proofs.Common.{◌≡◌, ℕ, List, [], Bool, true, Option, Resu
 use Rattle.std.proofs.lemmas.Result.{IfErr-weaker}
 use Rattle.std.specs.Io.KnownBytes.{Appends}
 use Rattle.mj_sys.specs.Shared.{Shared}
-use Rattle.mj_debug.specs.declared.replica.Unshown.{Unshown}
-use Rattle.mj_debug.specs.declared.replica.Unshown.TheVariants as unshown
+use Rattle.mj_replica.specs.declared.replica.Unshown.{Unshown}
+use Rattle.mj_replica.specs.declared.replica.Unshown.TheVariants as unshown
 use Rattle.mj_debug.specs.Walks.{Walk}
 use Rattle.mj_dialogue.specs.declared.command.Command.{Command}
 use Rattle.mj_dialogue.specs.declared.answering.Trouble.{Trouble}

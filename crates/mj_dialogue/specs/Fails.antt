@@ -4,13 +4,13 @@ use Rattle.std.specs.Io.KnownBytes.{Appends}
 use Rattle.mj_semantics.specs.State.{Place}
 use Rattle.mj_sys.specs.Shared.{Shared}
 use Rattle.mj_core.specs.declared.seen.Seen.{Seen}
+use Rattle.mj_replica.specs.declared.replica.Unshown.{Unshown}
+use Rattle.mj_replica.specs.declared.replica.Unshown.TheVariants as unshown
+use Rattle.mj_replica.specs.Replicas.{IsUnshown}
 use Rattle.mj_debug.specs.declared.debugger.WalkRefusal.{WalkRefusal}
 use Rattle.mj_debug.specs.declared.debugger.Gone.{Gone}
-use Rattle.mj_debug.specs.declared.replica.Unshown.{Unshown}
-use Rattle.mj_debug.specs.declared.replica.Unshown.TheVariants as unshown
 use Rattle.mj_debug.specs.Breaks.{AreMarked}
-use Rattle.mj_debug.specs.Goes.{GoGives, IsUnmade}
-use Rattle.mj_debug.specs.Replicas.{IsUnshown}
+use Rattle.mj_debug.specs.Goes.{GoGives, IsLeftUnmade}
 use Rattle.mj_debug.specs.Walks.{Walk, StepGives, GoesBack, GoesForth}
 use Rattle.mj_dialogue.specs.declared.command.Command.{Command}
 use Rattle.mj_dialogue.specs.declared.command.Command.TheVariants as commands
@@ -28,10 +28,10 @@ trouble_of unshown.Long = troubles.Long
 abbrev pub IsHidden : Shared → Walk → Unshown → Walk → Type 0
 IsHidden opening old why new = ChangesNothing old new × IsUnshown old.core.image opening old.core.history old.place why
 
--- The next of many steps in turn isn't told, or not written: memory was wanting, before the step, of which its job may have come to its ask, or behind
--- it; what stands at the place isn't shown, and no step is made; or what is told of it isn't written.
+-- Why the next of many steps in turn isn't told. Memory was wanting: before the step, so that it isn't made, though its job may have come to its ask; or
+-- behind what came of it. Or what stands at the place isn't shown, and so no step is made. Or what is told of what came of it isn't written.
 abbrev pub IsCut : Shared → Walk → Bool → Trouble → Walk → Type 0
-IsCut opening old first troubles.Memory new = IsUnmade opening old unshown.Memory new ⊎ ((gone : Gone) × GoGives opening old first gone new)
+IsCut opening old first troubles.Memory new = IsLeftUnmade opening old first unshown.Memory new ⊎ ((gone : Gone) × GoGives opening old first gone new)
 IsCut opening old first troubles.Long new = IsHidden opening old unshown.Long new
 IsCut opening old first troubles.Unwritten new = (gone : Gone) × (line : List ℕ) × GoTells opening old first gone line new
 

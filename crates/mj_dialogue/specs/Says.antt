@@ -10,13 +10,13 @@ use Rattle.mj_steps.specs.declared.step.Step.{Step}
 use Rattle.mj_core.specs.declared.seen.Seen.{Seen}
 use Rattle.mj_steps.specs.declared.step.Refusal.{Refusal}
 use Rattle.mj_steps.specs.declared.step.Refusal.TheVariants as refusals
+use Rattle.mj_replica.specs.Shows.{HasStood}
 use Rattle.mj_debug.specs.declared.debugger.WalkRefusal.{WalkRefusal}
 use Rattle.mj_debug.specs.declared.debugger.WalkRefusal.TheVariants as refused
 use Rattle.mj_debug.specs.declared.debugger.Gone.{Gone}
 use Rattle.mj_debug.specs.declared.debugger.Gone.TheVariants as gones
 use Rattle.mj_debug.specs.Breaks.{AreMarked}
 use Rattle.mj_debug.specs.Goes.{GoGives}
-use Rattle.mj_debug.specs.Shows.{HasStood}
 use Rattle.mj_debug.specs.Walks.{Walk, front, walk_answer, StepGives, GoesBack, GoesForth}
 use Rattle.mj_dialogue.specs.declared.command.Command.{Command}
 use Rattle.mj_dialogue.specs.declared.command.Command.TheVariants as commands

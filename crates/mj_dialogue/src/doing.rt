@@ -7,8 +7,9 @@ ghost use Rattle.mj_dialogue.specs.Says.{Says, walked_line};
 
 use crate::shows::{frames_at, globals_at, locals_at, locks_at};
 use crate::tell::{event, line};
-use mj_debug::{Debugger, Unshown};
+use mj_debug::Debugger;
 use mj_dev::Device;
+use mj_replica::Unshown;
 use mj_sessions::Sessions;
 use mj_sys::Opening;
 use mj_text::Text;

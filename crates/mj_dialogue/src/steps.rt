@@ -13,8 +13,9 @@ ghost use Rattle.mj_dialogue.specs.Says.{is_full, is_full_at, is_made, TellsStep
 
 use crate::tell::{busy, event, line, refusal, stop};
 use mj_core::{Core, Seen};
-use mj_debug::{Debugger, Gone, Unshown, WalkRefusal};
+use mj_debug::{Debugger, Gone, WalkRefusal};
 use mj_dev::Device;
+use mj_replica::Unshown;
 use mj_sessions::Sessions;
 use mj_steps::{Refusal, Step};
 use mj_sys::Opening;

@@ -1,6 +1,6 @@
 -- What a job asks next in a run can be served.
-use Rattle.std.proofs.Common.{◌≡◌, ℕ, List, [], ◌∷◌, Bool, true, false, Option, Some, None, refl, sym, ◌∙◌, subst, inl, inr}
-use Rattle.std.specs.Prelude.{Result, Ok, Err, ◌⊎◌, ◌<◌, ◌≤◌, length, if◌then◌else◌}
+use Rattle.std.proofs.Common.{◌≡◌, ℕ, ◌+◌, List, [], ◌∷◌, Bool, true, false, Option, Some, None, refl, ap, sym, ◌∙◌, subst, append-nil, inl, inr}
+use Rattle.std.specs.Prelude.{IfSome, Result, Ok, Err, ◌⊎◌, ◌<◌, ◌≤◌, length, if◌then◌else◌}
 use Rattle.std.specs.Str.{bytes_eq}
 use Rattle.mj_ask.specs.declared.ask.Ask.{Ask}
 use Rattle.mj_ask.specs.declared.ask.Ask.TheVariants as asks
@@ -9,28 +9,32 @@ use Rattle.mj_ask.specs.declared.ask.DeviceAsk.{DeviceAsk}
 use Rattle.mj_ask.specs.declared.ask.DeviceAsk.TheVariants as device_asks
 use Rattle.mj_dev.specs.Shelves.{Shelf}
 use Rattle.mj_dev.specs.Talk.{beginning}
+use Rattle.mj_sessions.specs.Asked.{Answering}
 use Rattle.mj_sessions.specs.Events.{Log, device_of}
 use Rattle.mj_sessions.specs.Follow.{ends_on}
-use Rattle.mj_semantics.specs.State.{principal}
+use Rattle.mj_semantics.specs.State.{principal, places}
+use Rattle.mj_semantics.specs.Job.{Start, next}
+use Rattle.mj_jobvm.specs.Run.{replies_of}
+use Rattle.mj_jobvm.specs.Jobs.{Running, IsRunOf}
 use Rattle.mj_jobvm.specs.Fit.{Links, first_links, is_end, links_after, IsFit}
 use Rattle.mj_jobvm.proofs.Fitted.{asks_what_fits}
 use Rattle.mj_jobvm.proofs.Names.{same_name, itself, never}
-use Rattle.mj_load.specs.Image.{routines_of}
+use Rattle.mj_load.specs.Image.{Loaded, routines_of}
 use Rattle.mj_sys.specs.Devices.{device_at, holder_of}
 use Rattle.mj_sys.specs.Shared.{Shared}
-use Rattle.mj_sys.specs.Opening.{free_devices, device_of as device_in}
+use Rattle.mj_sys.specs.Opening.{free_devices, opening_of, device_of as device_in}
 use Rattle.mj_sys.specs.History.{state_of, log_of}
 use Rattle.mj_sys.specs.System.{history_limit}
 use Rattle.mj_steps.specs.declared.step.Refusal.{Refusal}
 use Rattle.mj_steps.specs.declared.step.Refusal.TheVariants as refusals
 use Rattle.mj_core.specs.declared.seen.Seen.{Seen}
 use Rattle.mj_core.specs.declared.seen.Seen.TheVariants as seen
-use Rattle.mj_core.specs.Gives.{is_late, JobStepGives}
+use Rattle.mj_core.specs.Gives.{is_late, Makes, JobStepGives}
 use Rattle.mj_core.specs.Runs.{start_in}
 use Rattle.mj_core.specs.Serving.{serving}
 use Rattle.mj_core.specs.Shown.{was_over}
 use Rattle.mj_core.specs.Having.{HasFailed, opens_on, has_session, IsUnfitBy}
-use Rattle.mj_fit.specs.Laws.{OpensFree, AllAreServed, NoStepIsUnfit}
+use Rattle.mj_fit.specs.Laws.{OpensFree, AllAreServed, NoStepIsUnfit, has_by, AllAreServedBy, NoTalkIsUnfit}
 use Rattle.mj_fit.proofs.Having.{IsHeld, has_is}
 use Rattle.mj_fit.proofs.Failing.{is_open_by}
 
@@ -96,6 +100,36 @@ no_step_is_unfit opening old new step free run (inr found) = by found.2
     by (inr (inr made)) =
         let one = made.2.1 in
         all_are_served (routines_of old.image) opening old.history step.job found.0 one.0.ask free run found.1 (one.1.0.0, one.0.locals, one.0.places, one.1.0.1) one.3.0
+
+-- Jobs alone.
+
+pub all_are_served_by : AllAreServedBy
+all_are_served_by image start log s a trace makes =
+    let it = asks_what_fits image start log trace in
+    can_be_served s log (has_by log) (λ name. refl) a (it.1 a makes.0 makes.1 makes.2 makes.3)
+
+at_some : (o : Option Ask) (a : Ask) (P : Ask → Type 0) → o ≡ Some a → IfSome o P → P a
+at_some o a P is holds = let Q : Option Ask → Type 0 = λ p. IfSome p P in subst Q is holds
+
+-- a job that waits asks what its run needs next
+makes_pending : (image : Loaded) (start : Start) (job : Running) (a : Ask) → IsRunOf image start job → job.run.pending ≡ Some a
+    → Makes (routines_of image) start job.run.log a
+makes_pending image start job a (turns, run) is =
+    let n = run.before + turns + 1 in
+    let asks = at_some job.run.pending a _ is run.asks in (
+      n,
+      job.run.at.state.locals,
+      places job.run.at.state,
+      ap (λ replies. next (routines_of image) start n replies) (sym (append-nil (replies_of job.run.log))) ∙ sym (run.rest 1 []) ∙ asks.1 0,
+    )
+
+pub no_talk_is_unfit : (tells : Answering) → NoTalkIsUnfit tells
+no_talk_is_unfit tells image claim job job' x x' a late given own pending all talks =
+    let start = start_in claim.job claim.start in
+    let s = opening_of [] [] [] in
+    all_are_served_by (routines_of image) start job.run.log s a own.run.1.trace
+    (makes_pending image start job a own.run pending)
+    (talks.0 s (has_by job.run.log) own.told all).0
 
 -- Openings.
 

@@ -2,8 +2,8 @@
 use Rattle.std.specs.Prelude.{ℕ, List}
 use Rattle.mj_store.specs.Questions.{Content}
 
--- A number for each word, by its bytes, which is that of the globals with this word: it grows when one of them changes. A store that counts no changes
--- has none.
+-- Words with their stamps. A name of a global leads to a word, and the stamp of a word grows when a global that leads to it changes. A store that counts
+-- no changes has no stamps.
 abbrev pub Stamps : Type 0
 Stamps = List (List ℕ × ℕ)
 

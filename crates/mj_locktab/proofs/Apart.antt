@@ -1,23 +1,21 @@
 -- Which names are in the way of others, and that those of different jobs stay apart.
-use Rattle.std.proofs.Common.{◌≡◌, ℕ, zero, suc, ◌+◌, ◌-◌, ◌<◌, ◌≤◌, Bool, true, false, cond, not, ◌&&◌, List, [], ◌∷◌, length, get_or, Option, Some, None, ◌⊎◌, inl, inr, refl, sym, ap, ◌∙◌, subst, arith, eqb→eq, eq-eqb, count_by}
+use Rattle.std.proofs.Common.{◌≡◌, ℕ, zero, suc, ◌+◌, ◌<◌, Bool, true, false, cond, not, ◌&&◌, List, [], ◌∷◌, length, get_or, Option, Some, None, ◌⊎◌, inl, inr, refl, sym, ap, ◌∙◌, subst, arith, eqb→eq, eq-eqb, count_by}
 use Rattle.std.specs.Prelude.{T, ◌==◌, unwrap_or}
 use Rattle.std.specs.Option.{option_or}
-use Rattle.std.specs.List.{find as find_in, Contains}
+use Rattle.std.specs.List.{Contains}
 use Rattle.std.specs.declared.cmp.Ordering.{Ordering}
 use Rattle.std.specs.declared.cmp.Ordering.TheVariants.{Less, Equal, Greater}
 use Rattle.std.specs.Ordering.{is_eq, eq_by_cmp}
 use Rattle.std.specs.FinMap.{find}
 use Rattle.std.proofs.lemmas.Cmp.{tied_itself}
 use Rattle.std.proofs.lemmas.List.Sums.{sum_by-cons}
-use Rattle.mj_subs.specs.Name.{Name, names_eq, overlaps, Overlaps, IsAbove}
+use Rattle.mj_subs.specs.Name.{Name, names_eq, overlaps, Overlaps}
 use Rattle.mj_subs.specs.Laws.Tests.{overlaps-Decides, names_eq-Decides}
 use Rattle.mj_locktab.specs.declared.hold.Hold.{Hold}
-use Rattle.mj_locktab.specs.declared.taken.Taken.{Taken}
-use Rattle.mj_locktab.specs.declared.taken.Taken.TheVariants as takes
-use Rattle.mj_locktab.specs.Locks.{Locks, hold_of, job_of, name_of, hold_cmp, count_of, is_past_limit, IsInOrder, LocksApart, IsLockTable}
-use Rattle.mj_locktab.specs.Changes.{after_take, after_give, after_give_all, places_of, RisesBy, FallsBy, IsWithout}
-use Rattle.mj_locktab.specs.Tries.{is_conflict, conflict_with, conflict_of, try_answer, left, outcome_of, after_try, IsInTheWay, AreFree, TryGives}
-use Rattle.mj_locktab.proofs.Order.{hold_cmp_total, tied-hold_of, hold_cmp-IsAntisymmetric}
+use Rattle.mj_locktab.specs.Locks.{Locks, hold_of, job_of, name_of, hold_cmp, count_of, LocksApart}
+use Rattle.mj_locktab.specs.Changes.{after_take, after_give, after_give_all, places_of}
+use Rattle.mj_locktab.specs.Tries.{is_conflict, conflict_with, conflict_of, IsInTheWay, AreFree}
+use Rattle.mj_locktab.proofs.Order.{hold_cmp_total, hold_cmp-IsAntisymmetric}
 use Rattle.mj_locktab.proofs.Counts.{IsCounted, rises, falls, without}
 use Rattle.mj_locktab.proofs.Entries.{neither}
 

@@ -3,14 +3,13 @@ use Rattle.std.proofs.Common.{◌≡◌, ℕ, zero, suc, ◌+◌, ◌-◌, ◌<�
 use Rattle.std.specs.Prelude.{T, ◌==◌, unwrap_or}
 use Rattle.std.specs.List.{list_any, filter}
 use Rattle.std.specs.Ordering.{eq_by_cmp}
-use Rattle.std.specs.declared.cmp.Ordering.TheVariants.{Equal}
-use Rattle.std.specs.FinMap.{find, put, is_sorted}
+use Rattle.std.specs.FinMap.{find, put}
 use Rattle.std.specs.FinMap.Entries.{find-put, find-where_key, is_sorted-put, is_sorted-where_key, same_entries}
 use Rattle.std.proofs.lemmas.List.Sums.{sum_by-cons}
 use Rattle.mj_subs.specs.Name.{Name, names_eq}
 use Rattle.mj_subs.specs.Laws.Tests.{names_eq-Decides}
 use Rattle.mj_locktab.specs.declared.hold.Hold.{Hold}
-use Rattle.mj_locktab.specs.Locks.{Locks, hold_of, job_of, name_of, hold_cmp, count_of, IsInOrder}
+use Rattle.mj_locktab.specs.Locks.{Locks, hold_of, job_of, hold_cmp, count_of, IsInOrder}
 use Rattle.mj_locktab.specs.Changes.{with_count, one_more, one_less, after_take, after_give, after_give_all, places_of, RisesBy, FallsBy, IsWithout}
 use Rattle.mj_locktab.proofs.Order.{hold_cmp_total, hold_cmp-IsAntisymmetric, tied-hold_of, tied_symm}
 use Rattle.mj_locktab.proofs.Entries.{found_no, any-put_no, any-filter}

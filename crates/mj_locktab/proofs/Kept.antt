@@ -1,23 +1,21 @@
 -- Every change keeps what a table keeps, and what a try says of it.
-use Rattle.std.proofs.Common.{◌≡◌, ℕ, zero, suc, ◌+◌, ◌-◌, ◌<◌, ◌≤◌, Bool, true, false, not, List, [], ◌∷◌, ◌++◌, length, get_or, take, drop, set, Option, Some, None, refl, sym, ap, ◌∙◌, subst, arith}
-use Rattle.std.specs.Prelude.{T, ◌==◌, nat_lt, unwrap_or}
-use Rattle.std.specs.List.{filter, insert, remove}
-use Rattle.std.specs.Ordering.{eq_by_cmp}
+use Rattle.std.proofs.Common.{◌≡◌, ℕ, zero, suc, ◌+◌, ◌-◌, ◌<◌, ◌≤◌, true, false, not, List, [], ◌∷◌, ◌++◌, length, get_or, take, drop, set, Option, Some, None, refl, sym, ap, ◌∙◌, arith}
+use Rattle.std.specs.Prelude.{◌==◌, unwrap_or}
+use Rattle.std.specs.List.{insert, remove}
 use Rattle.std.specs.FinMap.{find, put}
 use Rattle.std.proofs.lemmas.List.{at_drop_more, take_more, take-append-drop, set-get_or}
 use Rattle.mj_subs.specs.Name.{Name}
 use Rattle.mj_locktab.specs.declared.hold.Hold.{Hold}
-use Rattle.mj_locktab.specs.declared.taken.Taken.{Taken}
 use Rattle.mj_locktab.specs.declared.taken.Taken.TheVariants as takes
-use Rattle.mj_locktab.specs.Locks.{Locks, hold_of, job_of, hold_cmp, count_of, names_of, is_past_limit, IsInOrder, LocksApart, IsLockTable}
+use Rattle.mj_locktab.specs.Locks.{Locks, hold_of, job_of, hold_cmp, count_of, names_of, is_past_limit, IsInOrder, IsLockTable}
 use Rattle.mj_locktab.specs.declared.held.TheConstants.{HOLDS_LIMIT, COUNT_LIMIT}
 use Rattle.mj_locktab.specs.Changes.{with_count, one_more, one_less, after_take, after_give, after_give_all}
-use Rattle.mj_locktab.specs.Places.{HoldStandsAt, IsGapFor, TakeLeaves}
-use Rattle.mj_locktab.specs.Tries.{conflict_of, try_answer, left, outcome_of, after_try, IsInTheWay, AreFree, TryGives}
+use Rattle.mj_locktab.proofs.Slots.{HoldStandsAt, IsGapFor}
+use Rattle.mj_locktab.specs.Tries.{conflict_of, try_answer, left, outcome_of, after_try, AreFree, TryGives}
 use Rattle.mj_locktab.proofs.Entries.{any-filter}
-use Rattle.mj_locktab.proofs.Counts.{order-after_take, order-after_give, order-after_give_all, order-one_less, counted-after_take, counted-after_give, counted-one_less, rises, given_back}
+use Rattle.mj_locktab.proofs.Counts.{order-after_take, order-after_give, order-after_give_all, order-one_less, counted-after_take, counted-after_give, rises, given_back}
 use Rattle.mj_locktab.proofs.Limits.{lt_true, lt_false, over-held, over-new, over-after_take, within-after_take, within-one_less, within-after_give_all}
-use Rattle.mj_locktab.proofs.Apart.{in_the_way, all_free, apart-after_take, apart-after_give, apart-after_give_all}
+use Rattle.mj_locktab.proofs.Apart.{all_free, apart-after_take, apart-after_give, apart-after_give_all}
 
 -- nothing is held
 pub kept-none : IsLockTable []

@@ -1,5 +1,5 @@
 -- Whether a job is over a limit, before and after each change.
-use Rattle.std.proofs.Common.{◌≡◌, ℕ, zero, suc, ◌+◌, ◌-◌, ◌<◌, ◌≤◌, Bool, true, false, cond, not, ◌||◌, List, [], ◌∷◌, Option, Some, None, refl, sym, ap, ◌∙◌, subst, arith, eq-eqb, eqb→eq}
+use Rattle.std.proofs.Common.{◌≡◌, ℕ, zero, suc, ◌+◌, ◌-◌, ◌<◌, ◌≤◌, Bool, true, false, not, List, [], ◌∷◌, Option, Some, None, refl, sym, ap, ◌∙◌, subst, arith, eq-eqb, eqb→eq}
 use Rattle.std.specs.Prelude.{T, ◌==◌, nat_lt, unwrap_or}
 use Rattle.std.specs.List.{list_any, filter}
 use Rattle.std.specs.Ordering.{eq_by_cmp}
@@ -7,9 +7,9 @@ use Rattle.std.specs.FinMap.{find, put}
 use Rattle.std.proofs.lemmas.Bool.Decides.{Decides-ltb, nat_tests}
 use Rattle.mj_subs.specs.Name.{Name}
 use Rattle.mj_locktab.specs.declared.hold.Hold.{Hold}
-use Rattle.mj_locktab.specs.Locks.{Locks, hold_of, job_of, hold_cmp, count_of, names_of, is_past_limit, IsInOrder, IsLockTable}
+use Rattle.mj_locktab.specs.Locks.{Locks, hold_of, job_of, hold_cmp, count_of, names_of, is_past_limit, IsInOrder}
 use Rattle.mj_locktab.specs.declared.held.TheConstants.{HOLDS_LIMIT, COUNT_LIMIT}
-use Rattle.mj_locktab.specs.Changes.{with_count, one_more, one_less, after_take, after_give, after_give_all}
+use Rattle.mj_locktab.specs.Changes.{with_count, one_more, one_less, after_take, after_give_all}
 use Rattle.mj_locktab.proofs.Order.{hold_cmp_total}
 use Rattle.mj_locktab.proofs.Entries.{or_left, or_right, neither, nor, one_or_other, count-put_other, count-le-put, count-put_new, count-put_found, count-filter, any-put_yes, any-put_no, any-put_stays, any-filter, found_no}
 

@@ -1,18 +1,18 @@
 -- Where a search of the holds ends, and what a change does there.
-use Rattle.std.proofs.Common.{◌≡◌, ℕ, zero, suc, ◌+◌, ◌<◌, ◌≤◌, Bool, true, false, cond, not, List, [], ◌∷◌, ◌++◌, length, get_or, set, take, drop, Option, Some, None, Result, Ok, Err, IfOk, IfErr, refl, sym, ap, ◌∙◌, subst, arith}
+use Rattle.std.proofs.Common.{◌≡◌, ℕ, zero, suc, ◌+◌, ◌<◌, ◌≤◌, false, cond, not, List, [], ◌∷◌, length, get_or, set, Some, None, Ok, Err, refl, sym, ap, ◌∙◌, subst, arith}
 use Rattle.std.specs.Prelude.{T}
-use Rattle.std.specs.List.{filter, insert, remove}
+use Rattle.std.specs.List.{insert, remove}
 use Rattle.std.specs.List.Sorted.{IsSearchInRange, IsBinarySearchResult, IsNonDecreasingBy, IsPartitionPoint, IsSortedBy}
 use Rattle.std.specs.declared.cmp.Ordering.{Ordering}
 use Rattle.std.specs.declared.cmp.Ordering.TheVariants.{Less, Equal, Greater}
-use Rattle.std.specs.Ordering.{is_lt, is_eq, eq_by_cmp, ordering_reverse, ordering_index}
+use Rattle.std.specs.Ordering.{is_lt, is_eq, ordering_reverse, ordering_index}
 use Rattle.std.specs.Cmp.{IsTotalOrder, alike_right}
-use Rattle.std.specs.FinMap.{find, put, is_sorted, IsAntisymmetric}
+use Rattle.std.specs.FinMap.{find, put, is_sorted}
 use Rattle.std.specs.FinMap.Entries.{by_order, below_all}
 use Rattle.std.proofs.lemmas.List.Sorted.{searchable_from_sorted}
 use Rattle.mj_locktab.specs.declared.hold.Hold.{Hold}
 use Rattle.mj_locktab.specs.Locks.{Locks, hold_cmp, IsInOrder}
-use Rattle.mj_locktab.specs.Places.{HoldStandsAt, IsGapFor}
+use Rattle.mj_locktab.proofs.Slots.{HoldStandsAt, IsGapFor}
 use Rattle.mj_locktab.proofs.Order.{hold_cmp_total, hold_cmp-IsAntisymmetric}
 use Rattle.mj_locktab.proofs.Entries.{others, first, second, is_less, filter_absent, find_before, before_tied}
 
@@ -104,7 +104,7 @@ module _ {K : Type 0} (R : K → K → Ordering) (o : IsTotalOrder R) where
 
 -- the search of a hold ends at it, or where it would go
 module _ (locks : Locks) (h : Hold) (order : IsInOrder locks) where
-  at_place : (at : ℕ) → at < length locks → ((d : Hold × ℕ) → hold_cmp (get_or locks at d).0 h ≡ Equal) → HoldStandsAt locks h at
+  pub at_place : (at : ℕ) → at < length locks → ((d : Hold × ℕ) → hold_cmp (get_or locks at d).0 h ≡ Equal) → HoldStandsAt locks h at
   at_place at lt ties =
       let d : Hold × ℕ = (h, 0) in
       let same : (d : Hold × ℕ) → (get_or locks at d).0 ≡ h = λ d. hold_cmp-IsAntisymmetric (get_or locks at d).0 h (ties d) in
@@ -116,7 +116,7 @@ module _ (locks : Locks) (h : Hold) (order : IsInOrder locks) where
         gone = gone_at hold_cmp hold_cmp_total h locks at d lt order (ties d);
       }
 
-  at_gap : (at : ℕ) → at ≤ length locks → IsPartitionPoint (λ y. hold_cmp y.0 h ≡ Less) (λ y. hold_cmp y.0 h ≡ Greater) locks at → IsGapFor locks h at
+  pub at_gap : (at : ℕ) → at ≤ length locks → IsPartitionPoint (λ y. hold_cmp y.0 h ≡ Less) (λ y. hold_cmp y.0 h ≡ Greater) locks at → IsGapFor locks h at
   at_gap at le parted =
       let s : Splits hold_cmp hold_cmp_total h locks at = (λ j d lt. parted.0 j d (omega arith) lt, λ j d ge lt. parted.1 j d ge lt) in
       let none = find_gap hold_cmp hold_cmp_total h locks at le s in
@@ -127,6 +127,15 @@ module _ (locks : Locks) (h : Hold) (order : IsInOrder locks) where
         same = filter_absent hold_cmp h locks none;
       }
 
-  pub searched : (r : Result ℕ ℕ) → IsSearchInRange r (length locks) → IsBinarySearchResult (λ y. hold_cmp y.0 h) locks r → IfOk r (HoldStandsAt locks h) × IfErr r (IsGapFor locks h)
-  searched (Ok at) range ties = (at_place at range ties, tt)
-  searched (Err at) range parted = (tt, at_gap at range (parted (rising hold_cmp hold_cmp_total h locks order)))
+-- a search of these holds ended at the hold
+pub stands_there : (locks held : Locks) (h : Hold) (at : ℕ) → IsInOrder locks → held ≡ locks → IsSearchInRange (Ok at) (length held)
+    → IsBinarySearchResult (λ y. hold_cmp y.0 h) held (Ok at) → HoldStandsAt locks h at
+stands_there locks held h at order same range ties =
+    subst (λ (l : Locks). HoldStandsAt l h at) same (at_place held h (subst IsInOrder (sym same) order) at range ties)
+
+-- a search of these holds ended where the hold would go
+pub gap_there : (locks held : Locks) (h : Hold) (at : ℕ) → IsInOrder locks → held ≡ locks → IsSearchInRange (Err at) (length held)
+    → IsBinarySearchResult (λ y. hold_cmp y.0 h) held (Err at) → IsGapFor locks h at
+gap_there locks held h at order same range parted =
+    let ordered = subst IsInOrder (sym same) order in
+    subst (λ (l : Locks). IsGapFor l h at) same (at_gap held h ordered at range (parted (rising hold_cmp hold_cmp_total h held ordered)))

@@ -60,3 +60,8 @@ abbrev pub TryGives : Locks → ℕ → List Name → Taken → Locks → Type 0
 TryGives old job names takes.Got new = AreFree old job names × RisesBy old job names new
 TryGives old job names (takes.Busy holder name) new = IsInTheWay old job names holder name × (new ≡ old)
 TryGives old job names takes.Limit new = AreFree old job names × (is_past_limit (after_take old job names) job ≡ true) × (new ≡ old)
+
+-- a take that passes no limit leaves what it would, and any other what it found
+abbrev pub TakeLeaves : Locks → Locks → ℕ → Bool → Locks → Type 0
+TakeLeaves old would job true new = (new ≡ would) × (is_past_limit would job ≡ false)
+TakeLeaves old would job false new = (new ≡ old) × (is_past_limit would job ≡ true)

@@ -1,10 +1,10 @@
 // The holds in their order.
 
-ghost use Rattle.std.specs.Prelude.{◌≡◌, map, true, false, IfOk, IfErr, OnErr, option_copied};
+ghost use Rattle.std.specs.Prelude.{◌≡◌, map, length, true, false, IfOk, OnErr, option_copied};
 ghost use Rattle.mj_locktab.specs.Locks.{hold_cmp, hold_of, job_of, name_of, names_of, count_of, is_past_limit, IsInOrder, IsLockTable};
 ghost use Rattle.mj_locktab.specs.Changes.{one_more, one_less, after_take, after_give, after_give_all};
-ghost use Rattle.mj_locktab.specs.Tries.{is_conflict, conflict_with, conflict_of};
-ghost use Rattle.mj_locktab.specs.Places.{HoldStandsAt, IsGapFor, TakeLeaves};
+ghost use Rattle.mj_locktab.specs.Tries.{is_conflict, conflict_with, conflict_of, TakeLeaves};
+ghost use Rattle.std.specs.List.Sorted.{IsSearchInRange, IsBinarySearchResult};
 
 use crate::hold::Hold;
 use mj_subs::Name;
@@ -177,8 +177,8 @@ pub fn copy(alloc: Global, held: &[(Hold, u32)]) -> Result<Vec<(Hold, u32)>, All
 // Where the job's hold of the name stands, or else where it would go.
 fn place(held: &[(Hold, u32)], job: u32, name: &Name) -> Result<usize, usize>
     requires { IsInOrder held.now }
-    ensures found { IfOk result (HoldStandsAt held.now (hold_of job name.now)) }
-    ensures absent { IfErr result (IsGapFor held.now (hold_of job name.now)) }
+    ensures range { IsSearchInRange result (length held.now) }
+    ensures position { IsBinarySearchResult (λ e. hold_cmp e.0 (hold_of job name.now)) held.now result }
 {
     held.binary_search_by(|entry| compare(&entry.0, job, name))
 }

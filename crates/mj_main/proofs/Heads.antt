@@ -12,11 +12,11 @@ use Rattle.mj_dev.specs.Shelves.{Shelf, AreRising, count_of, principal, left_of}
 use Rattle.mj_jobs.specs.Rows.{rows_limit}
 use Rattle.mj_sys.specs.Opening.{opening_of}
 use Rattle.mj_sys.specs.Shared.{Shared}
-use Rattle.mj_debug.specs.Walks.{AreWhole}
+use Rattle.mj_replica.specs.Replicas.{AreWhole}
 use Rattle.mj_trace.specs.Trace.{opening_text}
 use Rattle.mj_trace.specs.Sized.{device_count_fits}
 use Rattle.mj_recorded.specs.Traces.{entries_of, IsBeginning}
-use Rattle.mj_main.specs.Traced.{IsHead}
+use Rattle.mj_report.specs.Traced.{IsHead}
 use Rattle.mj_main.specs.Words.{WereStarts}
 
 module _ (globals : Content) (pool : List Shelf) (starts : List Started) (words : List (Bor (List ℕ))) (were : WereStarts words starts) (content : is_content globals ≡ true)

@@ -1,10 +1,8 @@
 mod Joined
-mod Counting
-mod Lines
 mod Untaken
 mod Worded
 mod Content
-mod ReadBack
 mod Starting
 mod Devices
 mod Heads
+mod Waiting

@@ -6,7 +6,7 @@ use Rattle.std.specs.declared.cmp.Ordering.TheVariants.{Less, Equal, Greater}
 use Rattle.std.proofs.Common.{◌≡◌, ℕ, zero, suc, List, [], ◌∷◌, refl, sym, subst, arith}
 use Rattle.mj_dev.specs.Shelves.{Shelf, new_shelf, one_more, added, principal}
 use Rattle.mj_files.specs.Named.{with_principals, with_devices}
-use Rattle.mj_debug.specs.Walks.{AreWhole}
+use Rattle.mj_replica.specs.Replicas.{AreWhole}
 
 one_added : (name : List ℕ) (shelves : List Shelf) → AreWhole shelves → AreWhole (added name shelves)
 one_added name [] whole = (omega arith, refl, tt)

@@ -1,4 +1,3 @@
 pub mod Printed
 pub mod Statuses
-pub mod Traced
 pub mod Words

@@ -1,21 +1,21 @@
 -- The exit statuses of the program.
-use Rattle.std.specs.Prelude.{ℕ, Bool, false, ◌||◌, Option, Some, None, is_some, [], ◌∷◌}
-use Rattle.mj_ask.specs.declared.ask.Ask.{Ask}
-use Rattle.mj_ask.specs.declared.ask.Ask.TheVariants as asks
-use Rattle.mj_ask.specs.declared.ask.SharedAsk.TheVariants as shared_asks
-use Rattle.mj_sys.specs.declared.event.Event.{Event}
-use Rattle.mj_sys.specs.History.{History}
+use Rattle.std.specs.Prelude.{ℕ, Option, Some, None}
 use Rattle.mj_steps.specs.declared.drive.Ending.{Ending}
 use Rattle.mj_steps.specs.declared.drive.Ending.TheVariants as endings
 use Rattle.mj_steps.specs.declared.step.Refusal.{Refusal}
 use Rattle.mj_steps.specs.declared.step.Refusal.TheVariants as refusals
-use Rattle.mj_debug.specs.declared.replaying.Verdict.{Verdict}
-use Rattle.mj_debug.specs.declared.replaying.Verdict.TheVariants as verdicts
+use Rattle.mj_replica.specs.declared.replaying.Verdict.{Verdict}
+use Rattle.mj_replica.specs.declared.replaying.Verdict.TheVariants as verdicts
+use Rattle.mj_work.specs.declared.gathering.Ungathered.{Ungathered}
+use Rattle.mj_work.specs.declared.gathering.Ungathered.TheVariants as ungathered
+use Rattle.mj_threads.specs.declared.cuts.Cut.{Cut}
+use Rattle.mj_threads.specs.declared.cuts.Cut.TheVariants as cuts
 use Rattle.mj_main.specs.declared.stop.ProgramError.{ProgramError}
 use Rattle.mj_main.specs.declared.stop.ProgramError.TheVariants as stops
 
 -- the status where it stops before its end: 2 where a routine, a listing, a trace, a file of steps or a step is refused, 3 where the command line is
--- wrong, 4 where memory or a file fails, where another run has a file, where all jobs wait, or where they go on for too long
+-- wrong, 4 where memory or a file fails, where another run has a file, where all jobs wait, where they
+-- go on for too long, or where what workers did isn't one run
 abbrev pub status_of : ProgramError → ℕ
 status_of (stops.Value value) = 3
 status_of (stops.File file) = 4
@@ -30,6 +30,7 @@ status_of (stops.Step why step) = 2
 status_of stops.Stuck = 4
 status_of stops.Full = 4
 status_of stops.Long = 4
+status_of (stops.Differs job) = 4
 status_of stops.Memory = 4
 
 -- why the program stops where a step isn't made: an event too many, refused memory, or the step of this number
@@ -45,6 +46,19 @@ stop_of endings.Stuck = Some stops.Stuck
 stop_of endings.Full = Some stops.Full
 stop_of (endings.Refused why step) = Some (stop_at why step)
 
+-- why it stops where jobs that workers ran stopped before their end, if some did
+abbrev pub cut_stop : Option Cut → Option ProgramError
+cut_stop None = None
+cut_stop (Some cuts.Memory) = Some stops.Memory
+cut_stop (Some cuts.Full) = Some stops.Full
+cut_stop (Some (cuts.Refused job)) = Some (stops.Differs job)
+
+-- why it stops where nothing is gathered of what they did
+abbrev pub ungathered_stop : Ungathered → ProgramError
+ungathered_stop (ungathered.Differs job place) = stops.Differs job
+ungathered_stop (ungathered.Twice job) = stops.Differs job
+ungathered_stop ungathered.Memory = stops.Memory
+
 -- the status of a reason to stop, if there is one
 abbrev pub ending_status : Option ProgramError → ℕ
 ending_status None = 0
@@ -54,18 +68,3 @@ ending_status (Some stop) = status_of stop
 abbrev pub verdict_status : Verdict → ℕ
 verdict_status verdicts.Same = 0
 verdict_status (verdicts.Differs at) = 1
-
--- a job ended by a fault
-abbrev pub is_fault : Ask → Bool
-is_fault (asks.Shared (shared_asks.Halt fault)) = is_some fault
-is_fault _ = false
-
--- the event is that a job ended by a fault
-abbrev pub event_faults : Option Event → Bool
-event_faults None = false
-event_faults (Some e) = is_fault e.ask
-
--- some job of the history did
-abbrev pub has_faulted : History → Bool
-has_faulted [] = false
-has_faulted (e ∷ history) = is_fault e.ask || has_faulted history

@@ -5,16 +5,15 @@ ghost use Rattle.mj_dev.specs.Shelves.{principal, left_of};
 ghost use Rattle.mj_jobs.specs.Rows.{rows_limit};
 ghost use Rattle.mj_sys.specs.Opening.{opening_of, are_bare};
 ghost use Rattle.mj_sys.specs.Shared.{are_global};
-ghost use Rattle.mj_debug.specs.Walks.{AreWhole};
+ghost use Rattle.mj_replica.specs.Replicas.{AreWhole};
 
 use crate::begin::{Beginning, begin, trace_from};
-use crate::jobs::has_faulted;
 use crate::listings::save;
 use crate::locks::{Lockable, LockedFile};
 use crate::printing::{print, stopped, tell_trouble};
 use crate::prompts::{Prompt, prompt_of};
 use crate::stop::{FAILED, FAULTED, ProgramError};
-use crate::traces::{Trace, write_record};
+use crate::traces::write_record;
 use mj_ask::Start;
 use mj_command_line::{Debug, Run};
 use mj_debug::Debugger;
@@ -24,6 +23,7 @@ use mj_files::Port;
 use mj_globs::Globals;
 use mj_jobs::ROWS_LIMIT;
 use mj_load::Image;
+use mj_report::{Trace, has_faulted};
 use mj_sessions::Sessions;
 use mj_sys::Opening;
 use std::alloc::Global;
@@ -252,8 +252,8 @@ fn next_line<'a, B: BufRead>(
     }
 }
 
-// Writes the globals, then the trace, and gives the exit status: the greatest where several apply. Where the globals can't be written the trace still is, unless
-// memory was refused.
+// Writes the globals, then the trace, and gives the exit status: the greatest where several apply. Where the globals can't be written the trace still is,
+// unless memory was refused.
 fn finish<R, E, D, G>(
     rt: &R,
     debugger: &Debugger<D, Sessions<D>, G>,

@@ -157,7 +157,8 @@ pub fn placed<'a, R: Files + AllocGlobal>(
     drop(out);
     drop(beside);
     match done {
-        Ok(()) => Ok(()),
+        Ok(true) => Ok(()),
+        Ok(false) => Err(ProgramError::File(name)),
         Err(error) => Err(failed(&error, name)),
     }
 }
@@ -175,12 +176,12 @@ fn removed<R: Files>(files: &R, beside: &Beside) {
     let _ = fs::remove_file(files, beside.new.as_str());
 }
 
-// Gives a new file the old one's name, and hands that to the disk. Where it can't have the name, it is removed; behind that its own name may be another's, and
-// no memory is taken any more.
-fn placed_beside<R: Files>(files: &R, beside: &Beside, out: &R::File) -> Result<(), Error> {
+// Gives a new file the old one's name, and says whether the disk has that too. Where it can't have the name, it is removed; behind that its own name may be
+// another's, and no memory is taken any more.
+fn placed_beside<R: Files>(files: &R, beside: &Beside, out: &R::File) -> Result<bool, Error> {
     match renamed(files, beside, out) {
-        Ok(Some(folder)) => folder.sync_all(),
-        Ok(None) => Ok(()),
+        Ok(Some(folder)) => Ok(folder.sync_all().is_ok()),
+        Ok(None) => Ok(true),
         Err(error) => {
             removed(files, beside);
             Err(error)

@@ -2,9 +2,9 @@
 // gives.
 //
 // `run` is the whole program, and its result is the exit status. It reads the words (by `mj_command_line`), then the file of steps, the files of the
-// routines, the listing of globals and standard input, and then has jobs run (`mj_run`): in turn, or as the file says. Their devices are over lines and
-// files (`mj_files`). What the jobs wrote is taken from their logs (`jobs.rt`); the globals that they left and the
-// trace of the run (`traces.rt`) are written last.
+// routines, the listing of globals and standard input, and then has jobs run: by workers (`mj_threads`), or in turn or as the file says (`mj_run`). Their
+// devices are over lines and files (`mj_files`). What the jobs wrote is taken from the run's history (`mj_report`); the globals that they left and the trace
+// of the run (`traces.rt`) are written last.
 #![tactic(auto)]
 
 mod apart;
@@ -15,7 +15,6 @@ mod files;
 mod jobs;
 mod listings;
 mod locks;
-mod part;
 mod places;
 mod printing;
 mod program;
@@ -23,8 +22,10 @@ mod prompts;
 mod replays;
 mod routines;
 mod stop;
+mod telling;
 mod traces;
 mod wait;
+mod workers;
 
 pub use locks::Lockable;
 pub use program::run;

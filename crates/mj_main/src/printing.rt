@@ -1,7 +1,7 @@
 // What is printed, and the exit status that goes with it.
 
 ghost use Rattle.std.specs.Prelude.{◌≡◌, ◌≤◌, OnOk, IfErr};
-ghost use Rattle.mj_main.specs.Statuses.{status_of};
+ghost use Rattle.mj_main.specs.Statuses.{status_of, ending_status};
 
 use crate::stop::ProgramError;
 use std::io::Write;
@@ -15,6 +15,17 @@ pub fn tell_trouble<E: Write>(done: Result<(), ProgramError<'_>>, err: &mut E) -
     match done {
         Ok(()) => 0,
         Err(stop) => stopped(&stop, err),
+    }
+}
+
+/// Says why jobs were stopped before their end, if they were, and gives the exit status.
+pub fn tell_stop<E: Write>(stop: Option<ProgramError<'_>>, err: &mut E) -> u8
+    ensures which { result ≡ ending_status stop.entry }
+    ensures bound { result ≤ 4 }
+{
+    match stop {
+        None => 0,
+        Some(stop) => stopped(&stop, err),
     }
 }
 

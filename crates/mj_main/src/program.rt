@@ -9,24 +9,23 @@ ghost use Rattle.mj_sys.specs.Opening.{opening_of, are_bare};
 ghost use Rattle.mj_sys.specs.Shared.{are_global};
 ghost use Rattle.mj_rou.specs.Words.{Each, IsRoutineWorded};
 ghost use Rattle.mj_load.specs.Image.{routines_of};
-ghost use Rattle.mj_debug.specs.Walks.{AreWhole};
+ghost use Rattle.mj_replica.specs.Replicas.{AreWhole};
 ghost use Rattle.mj_trace.specs.Trace.{opening_text};
 ghost use Rattle.mj_trace.specs.Sized.{device_count_fits};
 ghost use Rattle.mj_recorded.specs.Traces.{entries_of};
-ghost use Rattle.mj_main.specs.Traced.{IsHead};
-ghost use Rattle.mj_main.specs.Statuses.{has_faulted, ending_status, stop_of};
+ghost use Rattle.mj_report.specs.Traced.{IsHead};
 ghost use Rattle.mj_main.specs.Words.{WasRead, WereListed, WereStarts, WereSteps, AreOrdered, IsPoolOf};
 
 use crate::begin::{Beginning, begin, trace_from};
 use crate::debugs::debug;
-use crate::jobs::{has_faulted, printed, waits};
-use crate::listings::save;
+use crate::jobs::waits;
 use crate::locks::{Lockable, LockedFile};
-use crate::printing::{print, stopped, tell_trouble};
+use crate::printing::{print, stopped};
 use crate::replays::replayed;
 use crate::routines::loaded;
-use crate::stop::{FAULTED, ProgramError, WORDS};
-use crate::traces::{Trace, write_trace};
+use crate::stop::{ProgramError, WORDS};
+use crate::telling::tell_run;
+use crate::workers::with_workers;
 use mj_ask::Start;
 use mj_command_line::{NoOrder, Order, Replay, Run, read_words};
 use mj_core::Core;
@@ -35,15 +34,18 @@ use mj_files::{Named, Port};
 use mj_globs::Globals;
 use mj_jobs::ROWS_LIMIT;
 use mj_load::Image;
+use mj_report::Trace;
 use mj_run::run_jobs;
 use mj_sessions::Sessions;
-use mj_steps::{Ending, Refusal, Step};
+use mj_steps::{Ending, Step};
 use mj_sys::Opening;
 use std::alloc::{AllocError, Global};
 use std::convert::AsStr;
 use std::io::{Read, Write};
 use std::marker::Brand;
-use std::rt::Files;
+use std::rt::{Clock, Files};
+use std::sync::Wait;
+use std::thread::Threads;
 
 /// Does what the words ask for, of which the first is the program's name, and gives the exit status: 0; 1 where a job faulted, or a trace
 /// isn't that of a run; 2 where a routine, a listing, a trace, a file of steps or a step is refused; 3 where the words are wrong; 4 where
@@ -54,8 +56,9 @@ use std::rt::Files;
 /// read.
 pub fn run<R, S, I, O, E>(rt: &R, words: &[S], input: &mut I, out: &mut O, err: &mut E) -> u8
 where
-    R: Files + AllocGlobal,
-    R::File: Lockable,
+    R: Files + AllocGlobal + Clock + Threads + Wait + Sync,
+    R::File: Lockable + Send,
+    R::Dir: Send,
     S: AsStr,
     I: Read,
     O: Write,
@@ -63,7 +66,8 @@ where
     ensures { result ≤ 4 }
 {
     match read_words(rt.alloc(), words) {
-        Ok(Order::Run(order)) => run_order(rt, &order, input, out, err),
+        Ok(Order::Run { run, workers }) => run_order(rt, &run, Some(workers), input, out, err),
+        Ok(Order::Step(order)) => run_order(rt, &order, None, input, out, err),
         Ok(Order::Debug(order)) => debug(rt, &order, input, out, err),
         Ok(Order::Check { files }) => match check(rt, &files, out) {
             Ok(status) => status,
@@ -80,18 +84,26 @@ where
     }
 }
 
-// Runs jobs, and gives the exit status.
-fn run_order<R, I, O, E>(rt: R, order: &Run<'_>, input: &mut I, out: &mut O, err: &mut E) -> u8
+// Runs jobs, by so many workers, or without workers by steps, and gives the exit status.
+fn run_order<R, I, O, E>(
+    rt: R,
+    order: &Run<'_>,
+    workers: Option<u32>,
+    input: &mut I,
+    out: &mut O,
+    err: &mut E,
+) -> u8
 where
-    R: Files + AllocGlobal + Copy + Drop,
-    R::File: Lockable,
+    R: Files + AllocGlobal + Clock + Threads + Wait + Copy + Drop + Send + Sync,
+    R::File: Lockable + Send,
+    R::Dir: Send,
     I: Read,
     O: Write,
     E: Write,
     ensures { result ≤ 4 }
 {
     match begin(rt, order, input) {
-        Ok(beginning) => run_from(rt, order, beginning, out, err),
+        Ok(beginning) => run_from(rt, order, workers, beginning, out, err),
         Err(stop) => stopped(&stop, err),
     }
 }
@@ -100,13 +112,15 @@ where
 fn run_from<R, O, E>(
     rt: R,
     order: &Run<'_>,
+    workers: Option<u32>,
     beginning: Beginning<R>,
     out: &mut O,
     err: &mut E,
 ) -> u8
 where
-    R: Files + AllocGlobal + Copy + Drop,
-    R::File: Lockable,
+    R: Files + AllocGlobal + Clock + Threads + Wait + Copy + Drop + Send + Sync,
+    R::File: Lockable + Send,
+    R::Dir: Send,
     O: Write,
     E: Write,
     requires starts { WereStarts order.now.starts.items beginning.starts.items }
@@ -139,9 +153,14 @@ where
         None => None,
         Some(steps) => Some(steps.as_slice()),
     };
-    let status = with_files::<R, O, E, Port<R>, Brand>(
-        &rt, order, list, &trace, &lock, image, globals, pool, starts, out, err,
-    );
+    let status = match workers {
+        None => with_files::<R, O, E, Port<R>, Brand>(
+            &rt, order, list, &trace, &lock, image, globals, pool, starts, out, err,
+        ),
+        Some(n) => with_workers::<R, O, E, Port<R>, Brand>(
+            &rt, order, n, &trace, &lock, image, globals, pool, starts, out, err,
+        ),
+    };
     drop(steps);
     drop(trace);
     drop(lock);
@@ -201,8 +220,7 @@ where
     }
 }
 
-// Writes what the jobs wrote, then why they were stopped, then the globals that they left and the trace, then what each waits for, if that was asked
-// for, and gives the exit status: the greatest where several apply. Where memory was refused the files stay as they are.
+// Tells of the run of a core, then what each job waits for, if that was asked for, and gives the exit status.
 fn finish<R, O, E, D, G>(
     rt: &R,
     core: &mut Core<D, Sessions<D>, G>,
@@ -223,91 +241,54 @@ where
     requires { IfSome trace.now (λ t. IsHead core.old.image G.opening t.opening.items) }
     ensures { result ≤ 4 }
 {
-    let shown = match show(rt, core, out) {
-        Ok(status) => status,
-        Err(ProgramError::Memory) => return stopped(&ProgramError::Memory, err),
-        Err(stop) => stopped(&stop, err),
-    };
-    let ended = tell_ending(ending, err);
-    if is_for_memory(ending) {
-        return shown.max(ended);
-    }
-    let Some(left) = write_left(rt, core, order, trace, lock, err) else {
+    let Some(status) = tell_core(rt, core, ending, order, trace, lock, out, err) else {
         return stopped(&ProgramError::Memory, err);
     };
     // To ask what each job waits for is to step it once more, so it comes last.
     if ending == Ending::Stuck && order.why {
         tell_waits(rt, core, err);
     }
-    shown.max(ended).max(left)
+    status
 }
 
-// Whether stepping ended as memory was refused.
-fn is_for_memory(ending: Ending) -> bool {
-    matches!(
-        ending,
-        Ending::Refused {
-            why: Refusal::Memory,
-            ..
-        }
-    )
-}
-
-// Writes the globals that the jobs left, then the trace, and gives the exit status. Where the globals can't be written the trace still is, unless memory was
-// refused: then there is no status.
-fn write_left<R, E, D, G>(
+// Tells of the run of a core. Where memory was refused for that, there is no status.
+fn tell_core<R, O, E, D, G>(
     rt: &R,
     core: &Core<D, Sessions<D>, G>,
+    ending: Ending,
     order: &Run<'_>,
     trace: &Option<Trace<'_>>,
     lock: &Option<LockedFile<R::File>>,
+    out: &mut O,
     err: &mut E,
 ) -> Option<u8>
 where
     R: Files + AllocGlobal,
     R::File: Lockable,
+    O: Write,
     E: Write,
     D: Device,
     G: Opening,
     requires { IfSome trace.now (λ t. IsHead core.now.image G.opening t.opening.items) }
     ensures { IfSome result (λ status. status ≤ 4) }
 {
-    let saved = match save(rt, core.globals(), order.save, lock) {
-        Err(ProgramError::Memory) => return None,
-        done => tell_trouble(done, err),
-    };
-    let traced = tell_trouble(write_trace(rt, trace, core), err);
-    Some(saved.max(traced))
-}
-
-// Writes what the jobs wrote, and says whether one faulted.
-fn show<'a, R, O, D, G>(
-    rt: &R,
-    core: &Core<D, Sessions<D>, G>,
-    out: &mut O,
-) -> Result<u8, ProgramError<'a>>
-where
-    R: Files + AllocGlobal,
-    O: Write,
-    D: Device,
-    G: Opening,
-    ensures which { IfOk result (λ status. status ≡ (if has_faulted core.now.history then 1 else 0)) }
-    ensures bound { IfOk result (λ status. status ≤ 1) }
-{
-    let bytes = printed(rt.alloc(), core)?;
-    print(&bytes, out)?;
-    Ok(if has_faulted(core) { FAULTED } else { 0 })
-}
-
-// Says why stepping ended before its end, if it did, and gives the exit status.
-fn tell_ending<E: Write>(ending: Ending, err: &mut E) -> u8
-    ensures which { result ≡ ending_status (stop_of ending) }
-    ensures bound { result ≤ 4 }
-{
-    match ProgramError::of_ending(ending) {
-        None => 0,
-        Some(stop) => stopped(&stop, err),
-    }
+    // its history is a run
+    let _run = core.len();
+    let jobs = core.jobs() as u32;
+    let stop = ProgramError::of_ending(ending);
+    tell_run::<R, O, E, Core<D, Sessions<D>, G>, G>(
+        rt,
+        order,
+        trace,
+        lock,
+        core.image(),
+        core,
+        jobs,
+        core.globals(),
+        stop,
+        out,
+        err,
+    )
 }
 
 // Says what each job waits for.
@@ -318,7 +299,7 @@ where
     D: Device,
     G: Opening,
 {
-    if let Ok(lines) = waits(rt.alloc(), core) {
+    if let Some(lines) = waits(rt.alloc(), core) {
         // Where this can't be written, the status alone tells.
         let _ = err.write_all(&lines);
     }

@@ -1,14 +1,16 @@
 // Why the program ends before its end.
 
 ghost use Rattle.std.specs.Prelude.{◌≡◌, ◌≤◌};
-ghost use Rattle.mj_main.specs.Statuses.{status_of, stop_of};
+ghost use Rattle.mj_main.specs.Statuses.{status_of, stop_of, cut_stop, ungathered_stop};
 
 use mj_dialogue::Trouble;
 use mj_gfile::ReadError;
 use mj_rou::LoadError;
 use mj_steps::{Ending, Refusal, StepsError};
 use mj_text::{Digits, Text};
+use mj_threads::Cut;
 use mj_trace::TraceError;
+use mj_work::Ungathered;
 use std::alloc::AllocError;
 use std::{fmt, str};
 use thiserror::Error;
@@ -55,6 +57,9 @@ pub enum ProgramError<'a> {
     /// a job goes on for longer between two of its events than it is followed when these are played again
     #[error("long")]
     Long,
+    /// what this job did isn't what all jobs together did
+    #[error("differs in job {0}")]
+    Differs(u32),
     /// an allocation was refused
     #[error("memory")]
     Memory,
@@ -107,6 +112,30 @@ impl<'a> ProgramError<'a> {
             Ending::Refused { why, step } => Some(ProgramError::Step { why, step }),
         }
     }
+
+    /// Why jobs that workers ran stopped before their end, if some did.
+    pub fn of_cut(cut: Option<Cut>) -> Option<ProgramError<'a>>
+        ensures { result ≡ cut_stop cut }
+    {
+        match cut {
+            None => None,
+            Some(Cut::Memory) => Some(ProgramError::Memory),
+            Some(Cut::Full) => Some(ProgramError::Full),
+            Some(Cut::Refused { job }) => Some(ProgramError::Differs(job)),
+        }
+    }
+
+    /// Why nothing is gathered of what workers ran.
+    pub fn of_ungathered(why: Ungathered) -> ProgramError<'a>
+        ensures { result ≡ ungathered_stop why }
+    {
+        match why {
+            Ungathered::Differs { job, .. } | Ungathered::Twice { job } => {
+                ProgramError::Differs(job)
+            }
+            Ungathered::Memory => ProgramError::Memory,
+        }
+    }
 }
 
 impl ProgramError<'_> {
@@ -127,6 +156,7 @@ impl ProgramError<'_> {
             | ProgramError::Stuck
             | ProgramError::Full
             | ProgramError::Long
+            | ProgramError::Differs(_)
             | ProgramError::Memory => FAILED,
         }
     }

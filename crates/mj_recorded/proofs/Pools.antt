@@ -10,8 +10,7 @@ use Rattle.std.proofs.lemmas.List.{append_assoc}
 use Rattle.mj_ask.proofs.Lists.{and_true}
 use Rattle.mj_dev.specs.Shelves.{Shelf, IsBelow, AreRising, added, count_of, is_named, left_of, new_shelf, one_more, principal}
 use Rattle.mj_dev.specs.Pools.{with_more, with_all, shelves_of}
-use Rattle.mj_debug.specs.Replicas.{shelf_of}
-use Rattle.mj_debug.specs.Walks.{AreWhole}
+use Rattle.mj_replica.specs.Replicas.{shelf_of, AreWhole}
 use Rattle.mj_trace.specs.Lines.{is_before, rises}
 use Rattle.mj_trace.specs.Lines as lines
 

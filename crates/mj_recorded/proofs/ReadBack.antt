@@ -22,10 +22,10 @@ use Rattle.mj_sys.specs.Shared.{Shared}
 use Rattle.mj_sys.specs.History.{History}
 use Rattle.mj_sys.specs.System.{history_limit}
 use Rattle.mj_core.specs.Runs.{IsRun}
-use Rattle.mj_debug.specs.Replays.{history_of, Says}
-use Rattle.mj_debug.specs.declared.replaying.Verdict.{Verdict}
-use Rattle.mj_debug.specs.declared.replaying.Verdict.TheVariants as verdicts
-use Rattle.mj_debug.proofs.Rounds.{is_long}
+use Rattle.mj_replica.specs.Replays.{history_of, Says}
+use Rattle.mj_replica.specs.declared.replaying.Verdict.{Verdict}
+use Rattle.mj_replica.specs.declared.replaying.Verdict.TheVariants as verdicts
+use Rattle.mj_replica.proofs.Rounds.{is_long}
 use Rattle.mj_trace.specs.Trace.{Traced}
 use Rattle.mj_trace.specs.Lines.{is_event, starts_limit, events_limit, IsTrace}
 use Rattle.mj_trace.specs.Lines as lines

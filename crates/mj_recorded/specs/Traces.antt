@@ -17,11 +17,10 @@ use Rattle.mj_sys.specs.Shared.{Shared}
 use Rattle.mj_sys.specs.History.{History}
 use Rattle.mj_sys.specs.System.{history_limit}
 use Rattle.mj_core.specs.Runs.{IsRun}
-use Rattle.mj_debug.specs.Replays.{history_of, Says}
-use Rattle.mj_debug.specs.Replicas.{IsLongAt}
-use Rattle.mj_debug.specs.Walks.{AreWhole}
-use Rattle.mj_debug.specs.declared.replaying.Verdict.{Verdict}
-use Rattle.mj_debug.specs.declared.replaying.Verdict.TheVariants as verdicts
+use Rattle.mj_replica.specs.Replays.{history_of, Says}
+use Rattle.mj_replica.specs.Replicas.{AreWhole, IsLongAt}
+use Rattle.mj_replica.specs.declared.replaying.Verdict.{Verdict}
+use Rattle.mj_replica.specs.declared.replaying.Verdict.TheVariants as verdicts
 use Rattle.mj_trace.specs.Trace.{Traced, trace_text}
 use Rattle.mj_trace.specs.Lines.{reading_of, IsTrace}
 use Rattle.mj_trace.specs.Sized.{IsSized}

@@ -15,7 +15,7 @@ use mj_dev::{Device, Memory, Pool, Session};
 use mj_gfile::read;
 use mj_globs::Globals;
 use mj_sys::{Claim, Opening, Refused, Served, System};
-use mj_test_core::begins::starts;
+use mj_test_core::begins::{add, starts};
 use mj_test_core::standing::shared;
 use mj_text::{Failure, Text};
 use mj_trace::event_line;
@@ -106,16 +106,6 @@ fn add_three(alloc: Global, pool: &mut Pool<Memory>, name: &Text) -> Result<(), 
         add(alloc, pool, name)?;
     }
     Ok(())
-}
-
-fn add(alloc: Global, pool: &mut Pool<Memory>, name: &Text) -> Result<(), Failure> {
-    match pool.add(name, Memory::new(alloc, Vec::new(alloc))) {
-        Ok(()) => Ok(()),
-        Err(device) => {
-            drop(device);
-            Err(Failure::Memory)
-        }
-    }
 }
 
 fn begun(

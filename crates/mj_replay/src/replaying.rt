@@ -7,16 +7,16 @@ ghost use Rattle.mj_load.specs.Image.{routines_of};
 ghost use Rattle.mj_sys.specs.Opening.{opening_of, are_bare};
 ghost use Rattle.mj_sys.specs.Shared.{are_global};
 ghost use Rattle.mj_sys.specs.System.{history_limit};
-ghost use Rattle.mj_debug.specs.Replays.{history_of, Says};
+ghost use Rattle.mj_replica.specs.Replays.{history_of, Says};
 ghost use Rattle.mj_dev.specs.Pools.{shelves_of};
 ghost use Rattle.mj_trace.specs.Lines.{IsTrace};
 ghost use Rattle.mj_replay.specs.Traces.{opening_in, bare_start};
 
 use mj_ask::{Ask, Entry, Reply, Start};
-use mj_debug::{Verdict, replay};
 use mj_dev::{Blank, Pool, pool_of};
 use mj_globs::Globals;
 use mj_load::Image;
+use mj_replica::{Verdict, replay};
 use mj_trace::Trace;
 use std::alloc::{AllocError, Global};
 use std::marker::Brand;

@@ -4,6 +4,7 @@ use Rattle.std.specs.Prelude.{IfNone, not, ◌&&◌, if◌then◌else◌}
 use Rattle.std.specs.Option.{is_some}
 use Rattle.mj_ask.specs.declared.ask.Ask.{Ask}
 use Rattle.mj_ask.specs.Fits.{timeout_of}
+use Rattle.mj_sessions.specs.Asked.{Answering}
 use Rattle.mj_sys.specs.Shared.{Shared}
 use Rattle.mj_core.specs.Shown.{AtAsk, Shown}
 use Rattle.mj_jobs.specs.Rows.{Row}
@@ -27,46 +28,45 @@ is_fitting : (core : Shown) (job : ℕ) (what : Seen) (standing : Standing) → 
 is_fitting core job seen.Unfit standing stands = absurd stands
 is_fitting core job _ standing stands = tt
 
--- one step more, in front
-more : (opening : Shared) (old mid new : Shown) (step : Step) (standing : Standing)
-    → StepsAs opening old step (Ok standing) mid → AreSteps opening mid new → AreSteps opening old new
-more opening old mid new step standing (what, gives, stands) (steps, answers, run, served) =
-    (step ∷ steps, Ok what ∷ answers, (mid, gives, run), (is_fitting mid step.job what standing stands, served))
+module _ (tells : Answering) (opening : Shared) where
+  -- one step more, in front
+  more : (old mid new : Shown) (step : Step) (standing : Standing) → StepsAs tells opening old step (Ok standing) mid → AreSteps tells opening mid new
+      → AreSteps tells opening old new
+  more old mid new step standing (what, gives, calls, stands) (steps, answers, run, called, served) =
+      (step ∷ steps, Ok what ∷ answers, (mid, gives, run), (mid, calls, called), (is_fitting mid step.job what standing stands, served))
 
--- the last one, which is refused
-last : (opening : Shared) (old new : Shown) (step : Step) (why : Refusal) → StepsAs opening old step (Err why) new → AreSteps opening old new
-last opening old new step why gives = (step ∷ [], Err why ∷ [], (new, gives, refl), (tt, tt))
+  -- the last one, which is refused
+  last : (old new : Shown) (step : Step) (why : Refusal) → StepsAs tells opening old step (Err why) new → AreSteps tells opening old new
+  last old new step why (gives, calls) = (step ∷ [], Err why ∷ [], (new, gives, refl), (new, calls, refl), (tt, tt))
 
--- none
-none : (opening : Shared) (old new : Shown) → new ≡ old → AreSteps opening old new
-none opening old new same = ([], [], same, tt)
+  -- none
+  none : (old new : Shown) → new ≡ old → AreSteps tells opening old new
+  none old new same = ([], [], same, same, tt)
 
-pub by_list : (opening : Shared) (steps : List Step) (made : ℕ) (old : Shown) (ending : Ending) (new : Shown)
-    → ByList (StepsAs opening) made steps old ending new → AreSteps opening old new
-by_list opening [] made old ending new (e, same) = none opening old new same
-by_list opening (step ∷ steps) made old ending new (inl (why, makes, e)) = last opening old new step why makes
-by_list opening (step ∷ steps) made old ending new (inr (standing, mid, makes, rest)) =
-    more opening old mid new step standing makes (by_list opening steps (made + 1) mid ending new rest)
+  pub by_list : (steps : List Step) (made : ℕ) (old : Shown) (ending : Ending) (new : Shown) → ByList (StepsAs tells opening) made steps old ending new
+      → AreSteps tells opening old new
+  by_list [] made old ending new (e, same) = none old new same
+  by_list (step ∷ steps) made old ending new (inl (why, makes, e)) = last old new step why makes
+  by_list (step ∷ steps) made old ending new (inr (standing, mid, makes, rest)) = more old mid new step standing makes (by_list steps (made + 1) mid ending new rest)
 
-comes : (opening : Shared) (number : ℕ) (goes : Step → Standing → Shown → Type 0) (old : Shown) (ending : Ending) (new : Shown) (next : Next)
-    → ((step : Step) (standing : Standing) (mid : Shown) → goes step standing mid → AreSteps opening mid new)
-    → NextIsDone (StepsAs opening) number goes old ending new next → AreSteps opening old new
-comes opening number goes old ending new nexts.Over on (e, same) = none opening old new same
-comes opening number goes old ending new nexts.Stuck on (e, same) = none opening old new same
-comes opening number goes old ending new (nexts.Step step) on (inl (why, makes, e)) = last opening old new step why makes
-comes opening number goes old ending new (nexts.Step step) on (inr (standing, mid, makes, rest)) =
-    more opening old mid new step standing makes (on step standing mid rest)
+  comes : (number : ℕ) (goes : Step → Standing → Shown → Type 0) (old : Shown) (ending : Ending) (new : Shown) (next : Next)
+      → ((step : Step) (standing : Standing) (mid : Shown) → goes step standing mid → AreSteps tells opening mid new)
+      → NextIsDone (StepsAs tells opening) number goes old ending new next → AreSteps tells opening old new
+  comes number goes old ending new nexts.Over on (e, same) = none old new same
+  comes number goes old ending new nexts.Stuck on (e, same) = none old new same
+  comes number goes old ending new (nexts.Step step) on (inl (why, makes, e)) = last old new step why makes
+  comes number goes old ending new (nexts.Step step) on (inr (standing, mid, makes, rest)) = more old mid new step standing makes (on step standing mid rest)
 
-pub in_turn : (opening : Shared) (most made : ℕ) (round : Round) (jobs : List Standing) (old : Shown) (ending : Ending) (new : Shown)
-    → InTurn (jobs_of opening) (StepsAs opening) most made round jobs old ending new → AreSteps opening old new
-in_turn opening zero made round jobs old ending new (e, same) = none opening old new same
-in_turn opening (suc most) made round jobs old ending new h =
-    comes opening (made + 1)
-    (λ step standing mid. InTurn (jobs_of opening) (StepsAs opening) most (made + 1) (after_step round step standing) (stand jobs step.job standing) mid
-    ending new)
-    old ending new (next_step round (take (jobs_of opening old) jobs))
-    (λ step standing mid rest. in_turn opening most (made + 1) (after_step round step standing) (stand jobs step.job standing) mid ending new rest)
-    h
+  pub in_turn : (most made : ℕ) (round : Round) (jobs : List Standing) (old : Shown) (ending : Ending) (new : Shown)
+      → InTurn (jobs_of opening) (StepsAs tells opening) most made round jobs old ending new → AreSteps tells opening old new
+  in_turn zero made round jobs old ending new (e, same) = none old new same
+  in_turn (suc most) made round jobs old ending new h =
+      comes (made + 1)
+      (λ step standing mid. InTurn (jobs_of opening) (StepsAs tells opening) most (made + 1) (after_step round step standing) (stand jobs step.job standing) mid
+      ending new)
+      old ending new (next_step round (take (jobs_of opening old) jobs))
+      (λ step standing mid rest. in_turn most (made + 1) (after_step round step standing) (stand jobs step.job standing) mid ending new rest)
+      h
 
 -- ---- the routines stay
 
@@ -80,7 +80,7 @@ module _ (opening : Shared) (old new : Shown) (job : ℕ) (row : Row) (late : Bo
   made_image (Ok (seen.Busy holder held)) made = ap image_of made.1.5
   made_image (Ok seen.NotYet) made = ap image_of made.1.3.3
   made_image (Ok seen.Unfit) made = ap image_of made.1.3.1
-  made_image (Ok seen.Ran) made = ap image_of made.1.3
+  made_image (Ok seen.Ran) made = ap image_of made.1.4
   made_image (Err why) (inl made) = ap image_of made.1
   made_image (Err why) (inr made) = ap image_of made.2
 
@@ -99,8 +99,8 @@ run_image opening old (step ∷ steps) (answer ∷ answers) new (mid, gives, res
 run_image opening old [] (answer ∷ answers) new run = absurd run
 run_image opening old (step ∷ steps) [] new run = absurd run
 
-pub steps_image : (opening : Shared) (old new : Shown) → AreSteps opening old new → new.image ≡ old.image
-steps_image opening old new (steps, answers, run, served) = run_image opening old steps answers new run
+pub steps_image : (tells : Answering) (opening : Shared) (old new : Shown) → AreSteps tells opening old new → new.image ≡ old.image
+steps_image tells opening old new (steps, answers, run, called, served) = run_image opening old steps answers new run
 
 -- what was seen that can't be unfit
 pub seen_fitting : (what : Seen) → ((what ≡ seen.Unfit) → ⊥) → IsFitting (Ok what)

@@ -5,11 +5,12 @@ use Rattle.mj_ask.specs.declared.ask.Ask.{Ask}
 use Rattle.mj_ask.specs.declared.ask.Ask.TheVariants as asks
 use Rattle.mj_ask.specs.declared.ask.SharedAsk.TheVariants as shared_asks
 use Rattle.mj_ask.specs.Fits.{timeout_of}
+use Rattle.mj_sessions.specs.Asked.{Answering}
 use Rattle.mj_sys.specs.declared.event.Event.{Event}
 use Rattle.mj_sys.specs.Shared.{Shared}
 use Rattle.mj_sys.specs.History.{state_of}
 use Rattle.mj_core.specs.Shown.{AtAsk, Shown, stand_at}
-use Rattle.mj_core.specs.Gives.{CoreStepGives, RunGives}
+use Rattle.mj_core.specs.Gives.{CoreStepGives, DeviceStepGives, RunGives, DeviceRunGives}
 use Rattle.mj_core.specs.declared.seen.Seen.{Seen}
 use Rattle.mj_core.specs.declared.seen.Seen.TheVariants as seen
 use Rattle.mj_steps.specs.declared.step.Step.{Step}
@@ -48,18 +49,21 @@ StandsSo core job seen.Unfit standing = ⊥
 StandsSo core job seen.Ran standing = standing ≡ standings.Goes
 StandsSo core job seen.Ended standing = standing ≡ standings.Ended
 
--- What a step comes to: what the core gives for it, and where its job stands then.
-abbrev pub StepsAs : Shared → Shown → Step → Result Standing Refusal → Shown → Type 0
-StepsAs opening old step (Ok standing) new = (what : Seen) × CoreStepGives opening old step (Ok what) new × StandsSo new step.job what standing
-StepsAs opening old step (Err why) new = CoreStepGives opening old step (Err why) new
+-- What a step comes to: what the core gives for it, and of which call to a device that comes; and where its job stands then. `tells` says which call was the
+-- last to a device with these counts.
+abbrev pub StepsAs : Answering → Shared → Shown → Step → Result Standing Refusal → Shown → Type 0
+StepsAs tells opening old step (Ok standing) new =
+    (what : Seen) × CoreStepGives opening old step (Ok what) new × DeviceStepGives tells opening old step (Ok what) new
+    × StandsSo new step.job what standing
+StepsAs tells opening old step (Err why) new = CoreStepGives opening old step (Err why) new × DeviceStepGives tells opening old step (Err why) new
 
 -- how many jobs there are, ended ones among them
 abbrev pub jobs_of : Shared → Shown → ℕ
 jobs_of opening core = length (state_of opening core.history).rows
 
 -- Jobs are stepped in turn from a beginning, no more often than that. It is a record so that no number of steps is unfolded.
-pub record IsInTurn (opening : Shared) (most : ℕ) (old : Shown) (ending : Ending) (new : Shown) : Type 0 where
-  pub turns : InTurn (jobs_of opening) (StepsAs opening) most 0 new_round fresh old ending new
+pub record IsInTurn (tells : Answering) (opening : Shared) (most : ℕ) (old : Shown) (ending : Ending) (new : Shown) : Type 0 where
+  pub turns : InTurn (jobs_of opening) (StepsAs tells opening) most 0 new_round fresh old ending new
 
 -- what a step gave is another thing than that nobody can serve what the job asks
 abbrev pub IsFitting : Result Seen Refusal → Type 0
@@ -71,7 +75,8 @@ abbrev pub AreFitting : List (Result Seen Refusal) → Type 0
 AreFitting [] = Unit {0}
 AreFitting (answer ∷ answers) = IsFitting answer × AreFitting answers
 
--- a list of steps of the core leads from the one to the other, of which none is unfit
-abbrev pub AreSteps : Shared → Shown → Shown → Type 0
-AreSteps opening old new =
-    (steps : List Step) × (answers : List (Result Seen Refusal)) × RunGives opening old steps answers new × AreFitting answers
+-- a list of steps of the core leads from the one to the other, of which none is unfit, and of each it is said which call to a device its reply comes from
+abbrev pub AreSteps : Answering → Shared → Shown → Shown → Type 0
+AreSteps tells opening old new =
+    (steps : List Step) × (answers : List (Result Seen Refusal)) × RunGives opening old steps answers new
+    × DeviceRunGives tells opening old steps answers new × AreFitting answers

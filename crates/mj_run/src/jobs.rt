@@ -1,6 +1,7 @@
 // The jobs of a core, as they are stepped by a list or in turn.
 
 ghost use Rattle.std.specs.Prelude.{◌≡◌, slice_get, Ok, IfSome, IfNone};
+ghost use Rattle.mj_dev.specs.Told.{IsToldBy};
 ghost use Rattle.mj_sys.specs.History.{state_of};
 ghost use Rattle.mj_steps.specs.Driven.{ByList};
 ghost use Rattle.mj_core.specs.Shown.{stand_at};
@@ -44,7 +45,7 @@ impl<D: Device, A: Answerer<Fresh<D>>, O: Opening> Model for Jobs<D, A, O> {
 impl<D: Device, O: Opening> Stepped for Jobs<D, Sessions<D>, O> {
     ghost count = { jobs_of O.opening };
 
-    ghost makes = { StepsAs O.opening };
+    ghost makes = { StepsAs (IsToldBy D.inside D.failures D.taken D.given D.IsTold) O.opening };
 
     fn jobs(&self) -> usize {
         self.core.jobs()
@@ -64,9 +65,11 @@ impl<D: Device, O: Opening> Stepped for Jobs<D, Sessions<D>, O> {
 impl<D: Device, O: Opening> Jobs<D, Sessions<D>, O> {
     // Makes these steps; or where there are none, steps the jobs in turn. Either way a list of the core's steps was made.
     pub(crate) fn go(&mut self, steps: Option<&[Step]>) -> Ending
-        ensures listed { IfSome steps.entry (λ list. ByList (StepsAs O.opening) 0 list.now self.old result self.new) }
-        ensures in_turn { IfNone steps.entry (IsInTurn O.opening STEPS_LIMIT self.old result self.new) }
-        ensures run { AreSteps O.opening self.old self.new }
+        ensures listed { IfSome steps.entry (λ list.
+            ByList (StepsAs (IsToldBy D.inside D.failures D.taken D.given D.IsTold) O.opening) 0 list.now self.old result self.new) }
+        ensures in_turn { IfNone steps.entry
+            (IsInTurn (IsToldBy D.inside D.failures D.taken D.given D.IsTold) O.opening STEPS_LIMIT self.old result self.new) }
+        ensures run { AreSteps (IsToldBy D.inside D.failures D.taken D.given D.IsTold) O.opening self.old self.new }
     {
         match steps {
             None => self.in_turn(STEPS_LIMIT),
@@ -76,16 +79,16 @@ impl<D: Device, O: Opening> Jobs<D, Sessions<D>, O> {
 
     // Makes these steps.
     fn listed(&mut self, steps: &[Step]) -> Ending
-        ensures listed { ByList (StepsAs O.opening) 0 steps.now self.old result self.new }
-        ensures run { AreSteps O.opening self.old self.new }
+        ensures listed { ByList (StepsAs (IsToldBy D.inside D.failures D.taken D.given D.IsTold) O.opening) 0 steps.now self.old result self.new }
+        ensures run { AreSteps (IsToldBy D.inside D.failures D.taken D.given D.IsTold) O.opening self.old self.new }
     {
         step_by(self, steps)
     }
 
     // Steps the jobs in turn, no more often than that.
     fn in_turn(&mut self, most: usize) -> Ending
-        ensures in_turn { IsInTurn O.opening most self.old result self.new }
-        ensures run { AreSteps O.opening self.old self.new }
+        ensures in_turn { IsInTurn (IsToldBy D.inside D.failures D.taken D.given D.IsTold) O.opening most self.old result self.new }
+        ensures run { AreSteps (IsToldBy D.inside D.failures D.taken D.given D.IsTold) O.opening self.old self.new }
     {
         step_in_turn(self, most)
     }

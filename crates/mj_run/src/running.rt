@@ -2,6 +2,7 @@
 
 ghost use Rattle.std.specs.Prelude.{◌≡◌, ◌≤◌, true, length, IfOk, IfErr, IfSome, IfNone};
 ghost use Rattle.mj_dev.specs.Shelves.{principal, left_of};
+ghost use Rattle.mj_dev.specs.Told.{IsToldBy};
 ghost use Rattle.mj_jobs.specs.Rows.{rows_limit};
 ghost use Rattle.mj_load.specs.Image.{routines_of};
 ghost use Rattle.mj_locktab.specs.Locks.{LocksApart};
@@ -32,7 +33,8 @@ use std::alloc::Global;
 /// `Core::new`. At want of memory for the system nothing was stepped, and all comes back that the system was to be made of.
 ///
 /// Whatever the steps were: the history is a run of these routines from the opening; no two jobs hold overlapping names; what the jobs did is as their
-/// committed transactions run alone, one after the other; and each commit that clashed had to. No job asked what nobody could serve.
+/// committed transactions run alone, one after the other; and each commit that clashed had to. No job asked what nobody could serve, and what a job was told
+/// of its device comes of a call to a device.
 pub fn run_jobs<D: Device, O: Opening>(
     alloc: Global,
     image: Image,
@@ -48,9 +50,11 @@ pub fn run_jobs<D: Device, O: Opening>(
     requires fits { length starts.items ≤ left_of principal pool }
     requires bare { are_bare starts.items ≡ true }
     ensures image { IfOk result (λ ran. ran.0.image ≡ image) }
-    ensures listed { IfOk result (λ ran. IfSome steps.entry (λ list. ByList (StepsAs O.opening) 0 list.now (begun image) ran.1 ran.0)) }
-    ensures in_turn { IfOk result (λ ran. IfNone steps.entry (IsInTurn O.opening STEPS_LIMIT (begun image) ran.1 ran.0)) }
-    ensures gives { IfOk result (λ ran. AreSteps O.opening (begun image) ran.0) }
+    ensures listed { IfOk result (λ ran. IfSome steps.entry (λ list.
+        ByList (StepsAs (IsToldBy D.inside D.failures D.taken D.given D.IsTold) O.opening) 0 list.now (begun image) ran.1 ran.0)) }
+    ensures in_turn { IfOk result (λ ran. IfNone steps.entry
+        (IsInTurn (IsToldBy D.inside D.failures D.taken D.given D.IsTold) O.opening STEPS_LIMIT (begun image) ran.1 ran.0)) }
+    ensures gives { IfOk result (λ ran. AreSteps (IsToldBy D.inside D.failures D.taken D.given D.IsTold) O.opening (begun image) ran.0) }
     ensures run { IfOk result (λ ran. IsRun (routines_of image) O.opening ran.0.history) }
     ensures apart { IfOk result (λ ran. LocksApart (state_of O.opening ran.0.history).locks) }
     ensures serial { IfOk result (λ ran. IsAsAlone (routines_of image) O.opening ran.0.history) }

@@ -6,6 +6,7 @@ ghost use Rattle.mj_sys.specs.Opening.{are_bare};
 
 use mj_ask::{Entry, Start};
 use mj_ast::Routine;
+use mj_dev::{Memory, Pool};
 use mj_load::{Image, load};
 use mj_text::{Failure, Text};
 use std::alloc::Global;
@@ -117,4 +118,15 @@ fn label_of(alloc: Global, label: &str) -> Result<Option<Text>, Failure> {
         return Ok(None);
     }
     Ok(Some(Text::from(alloc, label.as_bytes())?))
+}
+
+/// Adds a device in memory to a pool, without lines to read.
+pub fn add(alloc: Global, pool: &mut Pool<Memory>, name: &Text) -> Result<(), Failure> {
+    match pool.add(name, Memory::new(alloc, Vec::new(alloc))) {
+        Ok(()) => Ok(()),
+        Err(device) => {
+            drop(device);
+            Err(Failure::Memory)
+        }
+    }
 }

@@ -5,7 +5,7 @@ ghost use Rattle.mj_dev.specs.Shelves.{principal, left_of};
 ghost use Rattle.mj_jobs.specs.Rows.{rows_limit};
 ghost use Rattle.mj_sys.specs.Opening.{opening_of, are_bare};
 
-use crate::begins::{image, starts};
+use crate::begins::{add, image, starts};
 use crate::serial::{First, first_four};
 use mj_ask::Start;
 use mj_core::{Core, Seen, Step, Way};
@@ -82,16 +82,6 @@ pub fn opened(alloc: Global, pool: &mut Pool<Memory>) -> Result<Vec<Start>, Fail
 fn add_two(alloc: Global, pool: &mut Pool<Memory>, name: &Text) -> Result<(), Failure> {
     add(alloc, pool, name)?;
     add(alloc, pool, name)
-}
-
-fn add(alloc: Global, pool: &mut Pool<Memory>, name: &Text) -> Result<(), Failure> {
-    match pool.add(name, Memory::new(alloc, Vec::new(alloc))) {
-        Ok(()) => Ok(()),
-        Err(device) => {
-            drop(device);
-            Err(Failure::Memory)
-        }
-    }
 }
 
 fn begun(

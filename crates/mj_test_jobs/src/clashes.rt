@@ -4,7 +4,7 @@ use mj_ask::{Ask, Reply, SharedAsk};
 use mj_serial::{Block, serial_blocks};
 use mj_store::{Access, Answer};
 use mj_sys::Event;
-use mj_test_runs::{folder, left, remove, run_text, write};
+use mj_test_runs::{Runner, folder, left, remove, run_text, write};
 use mj_text::Failure;
 use mj_trace::{Trace, event_line, read_trace};
 use mj_txlog::Entry;
@@ -15,7 +15,7 @@ use std::test::Fail;
 // The trace of two jobs of the routine R, of which these are the starts with the words before them, from these globals and by these steps; where the exit
 // status isn't 0, what was said.
 fn traced(
-    rt: &HostRuntime,
+    rt: &impl Runner,
     starts: &str,
     routine: &str,
     globals: &str,
@@ -28,7 +28,7 @@ fn traced(
 }
 
 fn traced_in(
-    rt: &HostRuntime,
+    rt: &impl Runner,
     folder: &str,
     starts: &str,
     routine: &str,
@@ -44,14 +44,14 @@ fn traced_in(
     }
 }
 
-fn trace_in(rt: &HostRuntime, folder: &str) -> Result<String, Fail> {
+fn trace_in(rt: &impl Runner, folder: &str) -> Result<String, Fail> {
     let trace = left(rt, folder, "trace")?.ok_or("no trace")?;
     remove(rt, folder)?;
     Ok(trace)
 }
 
 // What was said, where the exit status isn't 0.
-fn said(rt: &HostRuntime, folder: &str, starts: &str) -> Result<Option<String>, Fail> {
+fn said(rt: &impl Runner, folder: &str, starts: &str) -> Result<Option<String>, Fail> {
     let text = format!(in rt.alloc();
         "step|{starts}|--globals|DIR/globals|--steps|DIR/steps|--trace|DIR/trace|DIR/R.m"
     )?;
@@ -68,7 +68,7 @@ fn said(rt: &HostRuntime, folder: &str, starts: &str) -> Result<Option<String>, 
 
 // Fails where the trace isn't this one.
 fn traces(
-    rt: &HostRuntime,
+    rt: &impl Runner,
     starts: &str,
     routine: &str,
     globals: &str,

@@ -1,4 +1,5 @@
-// Rows of the whole program, as in `mj_test_program`: several jobs, what their steps come to, and traces, as they are written and replayed.
+// Rows of the whole program, as in `mj_test_program`: several jobs, what their steps come to or their workers leave, and traces, as they are written and
+// replayed.
 #![tactic(auto)]
 
 #[cfg(test)]
@@ -11,3 +12,5 @@ mod many;
 mod replays;
 #[cfg(test)]
 mod traces;
+#[cfg(test)]
+mod workers;

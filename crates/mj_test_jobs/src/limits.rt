@@ -1,6 +1,6 @@
 // Limits of what jobs share, as the program tells of them.
 
-use mj_test_runs::{comes_to, folder, gives, judge_file, remove, write};
+use mj_test_runs::{Runner, comes_to, folder, gives, judge_file, remove, write};
 use std::alloc::{AllocError, Global};
 use std::test::Fail;
 
@@ -32,7 +32,7 @@ fn a_transaction_of_65536_accesses_is_made(rt: HostRuntime) -> Result<(), Fail> 
 }
 
 // Where it goes on for ever, none of its changes is left.
-fn leaves_nothing(rt: &HostRuntime, folder: &str) -> Result<(), Fail> {
+fn leaves_nothing(rt: &impl Runner, folder: &str) -> Result<(), Fail> {
     write(rt, folder, "R.m", b" TSTART  FOR I=1:1 SET ^A=I\n")?;
     let words = "run|--start|^R|--save|DIR/saved|DIR/R.m";
     comes_to(rt, folder, words, b"", "F18 LIMIT R:1\n", "", 1)?;
@@ -73,7 +73,7 @@ fn a_step_behind_1000000_events_is_refused(rt: HostRuntime) -> Result<(), Fail> 
     told
 }
 
-fn refuses(rt: &HostRuntime, folder: &str) -> Result<(), Fail> {
+fn refuses(rt: &impl Runner, folder: &str) -> Result<(), Fail> {
     write_steps(rt, folder)?;
     fills(
         rt,
@@ -86,7 +86,7 @@ fn refuses(rt: &HostRuntime, folder: &str) -> Result<(), Fail> {
 }
 
 // A step of the second job, 999,999 of the first, and one that is late.
-fn write_steps(rt: &HostRuntime, folder: &str) -> Result<(), Fail> {
+fn write_steps(rt: &impl Runner, folder: &str) -> Result<(), Fail> {
     let steps = repeated(rt.alloc(), "2\n", 999_999, "1\n", "1 late\n")?;
     let written = write(rt, folder, "steps", steps.as_bytes());
     drop(steps);
@@ -114,14 +114,14 @@ fn jobs_make_1000000_steps_in_turn(rt: HostRuntime) -> Result<(), Fail> {
     told
 }
 
-fn make_steps(rt: &HostRuntime, words: &str) -> Result<(), Fail> {
+fn make_steps(rt: &impl Runner, words: &str) -> Result<(), Fail> {
     let out = parts(rt.alloc(), "x", 200)?;
     let told = are_made(rt, words, out.as_str());
     drop(out);
     told
 }
 
-fn are_made(rt: &HostRuntime, words: &str, out: &str) -> Result<(), Fail> {
+fn are_made(rt: &impl Runner, words: &str, out: &str) -> Result<(), Fail> {
     let folder = folder(rt, "in_turn")?;
     let told = fills(
         rt,
@@ -138,7 +138,7 @@ fn are_made(rt: &HostRuntime, words: &str, out: &str) -> Result<(), Fail> {
 // Fails where the routine R of these bytes, which is run by these words, with `|` between them, before its file, doesn't print this until it is stopped
 // as it goes on for too long, or leaves other globals.
 fn fills(
-    rt: &HostRuntime,
+    rt: &impl Runner,
     folder: &str,
     words: &str,
     bytes: &str,
@@ -151,7 +151,7 @@ fn fills(
     remove(rt, folder)
 }
 
-fn full(rt: &HostRuntime, folder: &str, words: &str, out: &str) -> Result<(), Fail> {
+fn full(rt: &impl Runner, folder: &str, words: &str, out: &str) -> Result<(), Fail> {
     let words = format!(in rt.alloc(); "{words}|--save|DIR/saved|DIR/R.m")?;
     let told = comes_to(rt, folder, words.as_str(), b"", out, "full\n", 4);
     drop(words);
@@ -183,7 +183,7 @@ fn a_256th_job_is_refused(rt: HostRuntime) -> Result<(), Fail> {
     told
 }
 
-fn has_jobs(rt: &HostRuntime, out: &str) -> Result<(), Fail> {
+fn has_jobs(rt: &impl Runner, out: &str) -> Result<(), Fail> {
     gives(
         rt,
         "--start|^R",

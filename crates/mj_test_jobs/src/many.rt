@@ -57,6 +57,20 @@ fn a_deadlock_is_stuck(rt: HostRuntime) -> Result<(), Fail> {
     )
 }
 
+// Begin, the write, and turns that come to no ask.
+#[test]
+fn what_was_written_is_printed_wherever_a_job_stands(rt: HostRuntime) -> Result<(), Fail> {
+    gives(
+        &rt,
+        "--start|^R",
+        " WRITE \"x\" FOR  SET X=1\n",
+        "1\n1\n1\n",
+        "x",
+        "",
+        0,
+    )
+}
+
 #[test]
 fn steps_are_refused(rt: HostRuntime) -> Result<(), Fail> {
     gives(&rt, "--start|^R", " WRITE 1", "0", "", "S1 line 1\n", 2)?;

@@ -1,12 +1,12 @@
 // Traces that are replayed.
 
 use crate::limits::repeated;
-use mj_test_runs::{comes_to, folder, hold, remove, run_text, write};
+use mj_test_runs::{Runner, comes_to, folder, hold, remove, run_text, write};
 use std::test::Fail;
 
 // Fails where the replay of a trace of these bytes over the routine R of those doesn't come to this.
 fn replays(
-    rt: &HostRuntime,
+    rt: &impl Runner,
     trace: &str,
     bytes: &str,
     out: &str,
@@ -20,7 +20,7 @@ fn replays(
 }
 
 fn replays_in(
-    rt: &HostRuntime,
+    rt: &impl Runner,
     folder: &str,
     trace: &str,
     bytes: &str,
@@ -52,7 +52,7 @@ fn a_run_is_replayed(rt: HostRuntime) -> Result<(), Fail> {
     replays_with(&rt, "", "differs at line 6\n", 1)
 }
 
-fn replays_with(rt: &HostRuntime, lines: &str, out: &str, status: u8) -> Result<(), Fail> {
+fn replays_with(rt: &impl Runner, lines: &str, out: &str, status: u8) -> Result<(), Fail> {
     let trace = format!(in rt.alloc(); "{BEFORE}{lines}{BEHIND}")?;
     let done = replays(rt, trace.as_str(), ROUTINE, out, "", status);
     drop(trace);
@@ -65,6 +65,15 @@ fn a_beginning_is_replayed(rt: HostRuntime) -> Result<(), Fail> {
     replays(&rt, BEFORE, " SET ^A=21\n", "differs at line 5\n", "", 1)
 }
 
+// As many sessions as names may have are told in no time: a test that took a minute fails.
+#[test]
+fn most_sessions_are_replayed(rt: HostRuntime) -> Result<(), Fail> {
+    let trace =
+        "mj-trace 1\npool \"0\" 4294967295\npool \"F\" 4294967295\npool \"G\" 4294967295\nstart ^R\n1 dev \"0\" begin done\n1 set ^A \"20\" done\n";
+    replays(&rt, trace, ROUTINE, "same\n", "", 0)?;
+    replays(&rt, trace, " SET ^A=21\n", "differs at line 7\n", "", 1)
+}
+
 // It begins with the globals of a listing, where one is named.
 #[test]
 fn a_run_over_globals_is_replayed(rt: HostRuntime) -> Result<(), Fail> {
@@ -74,7 +83,7 @@ fn a_run_over_globals_is_replayed(rt: HostRuntime) -> Result<(), Fail> {
     told
 }
 
-fn replays_over(rt: &HostRuntime, folder: &str) -> Result<(), Fail> {
+fn replays_over(rt: &impl Runner, folder: &str) -> Result<(), Fail> {
     let trace =
         "mj-trace 1\npool \"0\" 1\nstart ^R\n1 dev \"0\" begin done\n1 value ^A \"1\"\n1 set ^B \"1\" done\n";
     write(rt, folder, "R.m", b" SET ^B=^A\n")?;
@@ -100,7 +109,7 @@ fn devices_are_believed(rt: HostRuntime) -> Result<(), Fail> {
     replays_devices(&rt, write, "differs at line 8\n", 1)
 }
 
-fn replays_devices(rt: &HostRuntime, lines: &str, out: &str, status: u8) -> Result<(), Fail> {
+fn replays_devices(rt: &impl Runner, lines: &str, out: &str, status: u8) -> Result<(), Fail> {
     let head =
         "mj-trace 1\npool \"0\" 2\npool \"F\" 1\nstart ^R\n1 dev \"0\" begin done\n1 open \"F\" got\n1 dev \"F\" begin done\n";
     let routine = " OPEN \"F\" USE \"F\" READ X SET ^A=X\n";
@@ -146,7 +155,7 @@ fn a_trace_over_a_limit_is_refused(rt: HostRuntime) -> Result<(), Fail> {
     refuses(&rt, starts, "X2 line 258\n")
 }
 
-fn refuses(rt: &HostRuntime, trace: String, err: &str) -> Result<(), Fail> {
+fn refuses(rt: &impl Runner, trace: String, err: &str) -> Result<(), Fail> {
     let told = replays(rt, trace.as_str(), ROUTINE, "", err, 2);
     drop(trace);
     told

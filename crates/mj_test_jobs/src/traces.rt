@@ -1,12 +1,12 @@
 // Traces of runs.
 
 use mj_test_runs::{
-    Ran, comes_to, folder, hold, judge_file, judge_run, left, remove, run_text, write,
+    Ran, Runner, comes_to, folder, hold, judge_file, judge_run, left, remove, run_text, write,
 };
 use std::test::Fail;
 
 // Runs the routine R of these bytes in its folder, by these words, with `|` between them, before its file. Its trace is left there.
-fn ran_in(rt: &HostRuntime, folder: &str, words: &str, bytes: &str) -> Result<Ran, Fail> {
+fn ran_in(rt: &impl Runner, folder: &str, words: &str, bytes: &str) -> Result<Ran, Fail> {
     write(rt, folder, "R.m", bytes.as_bytes())?;
     let text = format!(in rt.alloc(); "{words}|--trace|DIR/trace|DIR/R.m")?;
     let ran = run_text(rt, folder, text.as_str(), b"");
@@ -16,7 +16,7 @@ fn ran_in(rt: &HostRuntime, folder: &str, words: &str, bytes: &str) -> Result<Ra
 
 // Fails where such a run gives another status, or leaves another trace than this one, or one where there is to be none.
 fn leaves(
-    rt: &HostRuntime,
+    rt: &impl Runner,
     words: &str,
     bytes: &str,
     status: u8,
@@ -29,7 +29,7 @@ fn leaves(
 }
 
 fn leaves_in(
-    rt: &HostRuntime,
+    rt: &impl Runner,
     folder: &str,
     words: &str,
     bytes: &str,
@@ -107,7 +107,7 @@ start ^R
 ";
     leaves(
         &rt,
-        "run|--device|G=in:none|--device|F=in:none|--device|F=in:none|--start|A^R|--start|^R",
+        "step|--device|G=in:none|--device|F=in:none|--device|F=in:none|--start|A^R|--start|^R",
         "A SET X=$DATA(^A) OPEN \"G\"\n",
         1,
         Some(trace),
@@ -121,7 +121,7 @@ fn what_is_stuck_is_traced(rt: HostRuntime) -> Result<(), Fail> {
     let tail = "\n1 try ^A got\n2 try ^B got\n";
     prints(
         &rt,
-        "run|--start|A^R|--start|B^R",
+        "step|--start|A^R|--start|B^R",
         bytes,
         out,
         "stuck\n",
@@ -132,7 +132,7 @@ fn what_is_stuck_is_traced(rt: HostRuntime) -> Result<(), Fail> {
 
 // Fails where such a run doesn't print this, or leaves a trace that doesn't end so.
 fn prints(
-    rt: &HostRuntime,
+    rt: &impl Runner,
     words: &str,
     bytes: &str,
     out: &str,
@@ -147,7 +147,7 @@ fn prints(
 }
 
 fn prints_in(
-    rt: &HostRuntime,
+    rt: &impl Runner,
     folder: &str,
     words: &str,
     bytes: &str,
@@ -164,7 +164,7 @@ fn prints_in(
     remove(rt, folder)
 }
 
-fn ends_so(rt: &HostRuntime, folder: &str, tail: &str) -> Result<(), Fail> {
+fn ends_so(rt: &impl Runner, folder: &str, tail: &str) -> Result<(), Fail> {
     let trace = left(rt, folder, "trace")?;
     let told = judge_tail(trace.as_deref().unwrap_or(""), tail);
     drop(trace);
@@ -194,7 +194,7 @@ fn a_trace_cannot_be_written(rt: HostRuntime) -> Result<(), Fail> {
     told
 }
 
-fn cannot_be_written(rt: &HostRuntime, folder: &str) -> Result<(), Fail> {
+fn cannot_be_written(rt: &impl Runner, folder: &str) -> Result<(), Fail> {
     write(rt, folder, "R.m", b" WRITE 1\n")?;
     let words = "run|--start|^R|--trace|DIR/missing/trace|--save|DIR/missing/saved|DIR/R.m";
     let err = "file DIR/missing/saved\nfile DIR/missing/trace\n";

@@ -1,12 +1,12 @@
 // The examples under examples/: the same files, and what they print and leave.
 
-use mj_test_runs::{comes_to, folder, judge_file, left, remove, write};
+use mj_test_runs::{Runner, comes_to, folder, judge_file, left, remove, write};
 use std::test::Fail;
 
 // Fails where a routine of this name and these bytes, over the globals of a listing, doesn't print this, or leaves no listing, or another than one that
-// is given. Its starts come with the words before them.
+// is given. Its starts come with the command before them.
 fn prints(
-    rt: &HostRuntime,
+    rt: &impl Runner,
     name: &str,
     bytes: &str,
     starts: &str,
@@ -30,7 +30,7 @@ fn prints(
 }
 
 fn prints_in(
-    rt: &HostRuntime,
+    rt: &impl Runner,
     folder: &str,
     name: &str,
     bytes: &str,
@@ -51,7 +51,7 @@ fn prints_in(
 }
 
 // Fails where a file isn't there. What an example leaves whose jobs take numbers in turn isn't judged.
-fn is_left(rt: &HostRuntime, folder: &str, name: &str) -> Result<(), Fail> {
+fn is_left(rt: &impl Runner, folder: &str, name: &str) -> Result<(), Fail> {
     match left(rt, folder, name)? {
         Some(text) => {
             drop(text);
@@ -61,16 +61,16 @@ fn is_left(rt: &HostRuntime, folder: &str, name: &str) -> Result<(), Fail> {
     }
 }
 
-fn write_routine(rt: &HostRuntime, folder: &str, name: &str, bytes: &str) -> Result<(), Fail> {
+fn write_routine(rt: &impl Runner, folder: &str, name: &str, bytes: &str) -> Result<(), Fail> {
     let file = format!(in rt.alloc(); "{name}.m")?;
     let written = write(rt, folder, file.as_str(), bytes.as_bytes());
     drop(file);
     written
 }
 
-fn runs(rt: &HostRuntime, folder: &str, name: &str, starts: &str, out: &str) -> Result<(), Fail> {
+fn runs(rt: &impl Runner, folder: &str, name: &str, starts: &str, out: &str) -> Result<(), Fail> {
     let words = format!(in rt.alloc();
-        "run|{starts}|--globals|DIR/before|--save|DIR/after|DIR/{name}.m"
+        "{starts}|--globals|DIR/before|--save|DIR/after|DIR/{name}.m"
     )?;
     let told = comes_to(rt, folder, words.as_str(), b"", out, "", 0);
     drop(words);
@@ -104,7 +104,7 @@ LOOK ; the sum, of one moment
  WRITE SUM,!
  QUIT
 ",
-        "--start|^TRANSFER",
+        "run|--start|^TRANSFER",
         "mj-globals 1\n",
         "--- job 1\n1500\n1500\n1500\n1500\n1500\n--- job 2\n--- job 3\n--- job 4\n",
         Some("mj-globals 1\n^BALANCE(\"Ann\")=\"950\"\n^BALANCE(\"Bob\")=\"550\"\n"),
@@ -143,14 +143,14 @@ LIST ; by name, each with what the index leads to
  FOR  SET NAME=$ORDER(^INDEX(NAME)) QUIT:NAME=\"\"  WRITE NAME,\" is \",^PERSON(^INDEX(NAME)),!
  QUIT
 ",
-        "--start|^REGISTRY",
+        "run|--start|^REGISTRY",
         "mj-globals 1\n",
         "--- job 1\nAnn is Ann\nBob is Bob\nCid is Cid\nDan is Dan\nFlo is Flo\n--- job 2\n--- job 3\n",
         None,
     )
 }
 
-// The example examples/on_call: one doctor stays, where each would leave if it weren't for SERIAL.
+// The example examples/on_call, stepped in turn: one doctor stays, where each would leave if it weren't for SERIAL.
 #[test]
 fn one_doctor_stays(rt: HostRuntime) -> Result<(), Fail> {
     let bytes = "ONCALL ; each doctor may leave where another one stays
@@ -166,7 +166,7 @@ LEAVE(WHO) ; counts who is on call, and leaves if there are others
  QUIT
 ";
     let doctors = "mj-globals 1\n^ONCALL(\"Ann\")=\"\"\n^ONCALL(\"Bob\")=\"\"\n";
-    let starts = "--start|ANN^ONCALL|--start|BOB^ONCALL";
+    let starts = "step|--start|ANN^ONCALL|--start|BOB^ONCALL";
     prints(
         &rt,
         "ONCALL",

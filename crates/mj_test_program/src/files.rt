@@ -1,6 +1,6 @@
 // Files of a run: that what is written takes the place of the old file as a whole, whose file it may be, and what can't be read.
 
-use mj_test_runs::{comes_to, folder, judge_file, remove, write};
+use mj_test_runs::{Runner, comes_to, folder, judge_file, remove, write};
 use std::fs::File;
 use std::os::unix::fs::symlink;
 use std::test::Fail;
@@ -15,7 +15,7 @@ const TRACE: &str =
 const OVER: &str = "run|--globals|DIR/data|--save|DIR/data|--start|^R|DIR/R.m";
 
 // Writes a routine, steps and a listing.
-fn begin(rt: &HostRuntime, folder: &str) -> Result<(), Fail> {
+fn begin(rt: &impl Runner, folder: &str) -> Result<(), Fail> {
     write(rt, folder, "R.m", b" SET ^A=2\n")?;
     write(rt, folder, "steps", b"1\n1\n")?;
     write(rt, folder, "data", BEFORE.as_bytes())
@@ -30,7 +30,7 @@ fn written_files_take_the_place_of_the_old_ones(rt: HostRuntime) -> Result<(), F
     told
 }
 
-fn are_replaced(rt: &HostRuntime, folder: &str) -> Result<(), Fail> {
+fn are_replaced(rt: &impl Runner, folder: &str) -> Result<(), Fail> {
     begin(rt, folder)?;
     write(rt, folder, "data.1.new", b"mine")?;
     let both = "run|--globals|DIR/data|--save|DIR/data|--trace|DIR/trace|--start|^R|DIR/R.m";
@@ -52,7 +52,7 @@ fn written_links_stay_links(rt: HostRuntime) -> Result<(), Fail> {
     told
 }
 
-fn stay_links(rt: &HostRuntime, folder: &str) -> Result<(), Fail> {
+fn stay_links(rt: &impl Runner, folder: &str) -> Result<(), Fail> {
     begin(rt, folder)?;
     link(rt, folder, "data", "link")?;
     link(rt, folder, "nowhere", "lost")?;
@@ -67,7 +67,7 @@ fn stay_links(rt: &HostRuntime, folder: &str) -> Result<(), Fail> {
     remove(rt, folder)
 }
 
-fn link(rt: &HostRuntime, folder: &str, to: &str, name: &str) -> Result<(), Fail> {
+fn link(rt: &impl Runner, folder: &str, to: &str, name: &str) -> Result<(), Fail> {
     let path = format!(in rt.alloc(); "{folder}/{name}")?;
     let done = symlink(rt, to, path.as_str());
     drop(path);
@@ -84,7 +84,7 @@ fn written_files_are_apart_from_others(rt: HostRuntime) -> Result<(), Fail> {
     told
 }
 
-fn are_apart(rt: &HostRuntime, folder: &str) -> Result<(), Fail> {
+fn are_apart(rt: &impl Runner, folder: &str) -> Result<(), Fail> {
     begin(rt, folder)?;
     link(rt, folder, "R.m", "other")?;
     is_bad(rt, folder, "run|--save|DIR/R.m", "DIR/R.m")?;
@@ -113,7 +113,7 @@ fn are_apart(rt: &HostRuntime, folder: &str) -> Result<(), Fail> {
 }
 
 // Fails where these words, with those of the routine and where it starts, aren't refused for this value.
-fn is_bad(rt: &HostRuntime, folder: &str, words: &str, value: &str) -> Result<(), Fail> {
+fn is_bad(rt: &impl Runner, folder: &str, words: &str, value: &str) -> Result<(), Fail> {
     let all = format!(in rt.alloc(); "{words}|--start|^R|DIR/R.m")?;
     let err = match format!(in rt.alloc(); "bad {value}\n") {
         Ok(err) => err,
@@ -137,7 +137,7 @@ fn locked_files_are_busy(rt: HostRuntime) -> Result<(), Fail> {
     told
 }
 
-fn are_busy(rt: &HostRuntime, folder: &str) -> Result<(), Fail> {
+fn are_busy(rt: &impl Runner, folder: &str) -> Result<(), Fail> {
     begin(rt, folder)?;
     let lock = lock(rt, folder)?;
     let told = refuse_while_locked(rt, folder);
@@ -148,7 +148,7 @@ fn are_busy(rt: &HostRuntime, folder: &str) -> Result<(), Fail> {
     remove(rt, folder)
 }
 
-fn lock(rt: &HostRuntime, folder: &str) -> Result<File, Fail> {
+fn lock(rt: &impl Runner, folder: &str) -> Result<File, Fail> {
     let path = format!(in rt.alloc(); "{folder}/data")?;
     let opened = File::open(rt, path.as_str());
     drop(path);
@@ -157,7 +157,7 @@ fn lock(rt: &HostRuntime, folder: &str) -> Result<File, Fail> {
     Ok(file)
 }
 
-fn refuse_while_locked(rt: &HostRuntime, folder: &str) -> Result<(), Fail> {
+fn refuse_while_locked(rt: &impl Runner, folder: &str) -> Result<(), Fail> {
     comes_to(rt, folder, OVER, b"", "", "busy DIR/data\n", 4)?;
     let unread = "run|--save|DIR/data|--start|^R|DIR/R.m";
     comes_to(rt, folder, unread, b"", "", "busy DIR/data\n", 4)?;
@@ -176,7 +176,7 @@ fn what_is_no_file_is_named(rt: HostRuntime) -> Result<(), Fail> {
     told
 }
 
-fn are_named(rt: &HostRuntime, folder: &str) -> Result<(), Fail> {
+fn are_named(rt: &impl Runner, folder: &str) -> Result<(), Fail> {
     begin(rt, folder)?;
     for words in [
         "check|DIR",

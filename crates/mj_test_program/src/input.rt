@@ -1,6 +1,8 @@
 // Standard input, and devices over files.
 
-use mj_test_runs::{Ran, folder, judge_file, judge_run, remove, run_text, run_words, write};
+use mj_test_runs::{
+    Ran, Runner, folder, judge_file, judge_run, remove, run_text, run_words, write,
+};
 use std::alloc::{AllocError, Global};
 use std::io::{Error, ErrorKind, Read, Result as IoResult};
 use std::test::Fail;
@@ -8,7 +10,7 @@ use std::test::Fail;
 // Fails where the routine R of these bytes, which is run by these words, with `|` between them, before its file, doesn't print this alone, or gives another
 // status. `DIR` in them stands for its folder, where the file `lines` is.
 fn prints(
-    rt: &HostRuntime,
+    rt: &impl Runner,
     words: &str,
     bytes: &str,
     input: &str,
@@ -33,7 +35,7 @@ fn prints(
 
 // Compares in its folder, which goes.
 fn prints_over(
-    rt: &HostRuntime,
+    rt: &impl Runner,
     folder: &str,
     words: &str,
     bytes: &str,
@@ -49,7 +51,7 @@ fn prints_over(
 
 // Compares in its folder, which stays.
 fn prints_in(
-    rt: &HostRuntime,
+    rt: &impl Runner,
     folder: &str,
     words: &str,
     bytes: &str,
@@ -64,7 +66,7 @@ fn prints_in(
 }
 
 fn ran_in(
-    rt: &HostRuntime,
+    rt: &impl Runner,
     folder: &str,
     words: &str,
     bytes: &str,
@@ -191,7 +193,7 @@ fn a_long_line_is_a_failure(rt: HostRuntime) -> Result<(), Fail> {
 
 // Compares as `prints`, where the input and the file `lines` have a line of so many bytes behind their first.
 fn prints_long(
-    rt: &HostRuntime,
+    rt: &impl Runner,
     words: &str,
     bytes: &str,
     length: usize,
@@ -205,7 +207,7 @@ fn prints_long(
 }
 
 fn prints_lines(
-    rt: &HostRuntime,
+    rt: &impl Runner,
     words: &str,
     bytes: &str,
     input: &[u8],
@@ -236,7 +238,7 @@ fn a_device_goes_from_job_to_job(rt: HostRuntime) -> Result<(), Fail> {
     told
 }
 
-fn goes_twice(rt: &HostRuntime, folder: &str) -> Result<(), Fail> {
+fn goes_twice(rt: &impl Runner, folder: &str) -> Result<(), Fail> {
     goes(
         rt,
         folder,
@@ -250,11 +252,11 @@ fn goes_twice(rt: &HostRuntime, folder: &str) -> Result<(), Fail> {
     remove(rt, folder)
 }
 
-fn goes(rt: &HostRuntime, folder: &str, bytes: &str) -> Result<(), Fail> {
+fn goes(rt: &impl Runner, folder: &str, bytes: &str) -> Result<(), Fail> {
     let kept = "mj-globals 1\n^A=\"1\"\n";
     write(rt, folder, "kept", kept.as_bytes())?;
     let words =
-        "run|--globals|DIR/kept|--save|DIR/kept|--device|F=out:DIR/first|--device|F=out:DIR/second|--start|A^R|--start|B^R";
+        "step|--globals|DIR/kept|--save|DIR/kept|--device|F=out:DIR/first|--device|F=out:DIR/second|--start|A^R|--start|B^R";
     let out = "--- job 1\n--- job 2\n11\nF15 NODEVICE R:2\n";
     prints_in(rt, folder, words, bytes, b"", out, 1)?;
     judge_file(rt, folder, "first", Some("x"))?;
@@ -270,7 +272,7 @@ fn words_name_no_device(rt: HostRuntime) -> Result<(), Fail> {
     Ok(())
 }
 
-fn is_bad(rt: &HostRuntime, word: &str) -> Result<(), Fail> {
+fn is_bad(rt: &impl Runner, word: &str) -> Result<(), Fail> {
     let err = format!(in rt.alloc(); "bad {word}\n")?;
     let ran = run_words(rt, &["mj", "run", "--start", "^R", "--device", word, "R.m"]);
     let told = judge_run(word, &ran, "", err.as_str(), 3);
@@ -290,7 +292,7 @@ impl Read for Broken {
 }
 
 // Runs these words with standard input that can't be read.
-fn run_broken(rt: &HostRuntime, words: &[&str]) -> Ran {
+fn run_broken(rt: &impl Runner, words: &[&str]) -> Ran {
     let mut out = Vec::new(rt.alloc());
     let mut err = Vec::new(rt.alloc());
     let status = mj_test_runs::run(rt, words, &mut Broken, &mut out, &mut err);
@@ -306,14 +308,14 @@ fn standard_input_fails(rt: HostRuntime) -> Result<(), Fail> {
     told
 }
 
-fn fails_in(rt: &HostRuntime, folder: &str) -> Result<(), Fail> {
+fn fails_in(rt: &impl Runner, folder: &str) -> Result<(), Fail> {
     let path = format!(in rt.alloc(); "{folder}/R.m")?;
     let told = fails_of(rt, folder, path.as_str());
     drop(path);
     told
 }
 
-fn fails_of(rt: &HostRuntime, folder: &str, file: &str) -> Result<(), Fail> {
+fn fails_of(rt: &impl Runner, folder: &str, file: &str) -> Result<(), Fail> {
     let with = ["mj", "run", "--start", "^R", "--stdin", file];
     let without = ["mj", "run", "--start", "^R", file];
     write(rt, folder, "R.m", b" WRITE 1\n")?;
@@ -325,7 +327,7 @@ fn fails_of(rt: &HostRuntime, folder: &str, file: &str) -> Result<(), Fail> {
 }
 
 // Fails where these words don't come to this then.
-fn breaks(rt: &HostRuntime, words: &[&str], out: &str, err: &str, status: u8) -> Result<(), Fail> {
+fn breaks(rt: &impl Runner, words: &[&str], out: &str, err: &str, status: u8) -> Result<(), Fail> {
     let ran = run_broken(rt, words);
     let told = judge_run("broken", &ran, out, err, status);
     drop(ran);

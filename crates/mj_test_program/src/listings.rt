@@ -1,6 +1,6 @@
 // The listings of globals that a run begins with and leaves.
 
-use mj_test_runs::{comes_to, folder, judge_file, remove, write};
+use mj_test_runs::{Runner, comes_to, folder, judge_file, remove, write};
 use std::test::Fail;
 
 const OVER: &str = "run|--start|^R|--globals|DIR/globals|--save|DIR/saved|DIR/R.m";
@@ -45,7 +45,7 @@ fn listing_files_fail(rt: HostRuntime) -> Result<(), Fail> {
     told
 }
 
-fn fail_in(rt: &HostRuntime, folder: &str) -> Result<(), Fail> {
+fn fail_in(rt: &impl Runner, folder: &str) -> Result<(), Fail> {
     write(rt, folder, "R.m", b" WRITE 1,X")?;
     let err = "file DIR/missing/globals\n";
     let read = "run|--start|^R|--globals|DIR/missing/globals|DIR/R.m";
@@ -57,7 +57,7 @@ fn fail_in(rt: &HostRuntime, folder: &str) -> Result<(), Fail> {
 
 // Fails where a routine that is run over a listing doesn't print this, or leaves another than that one.
 fn saves(
-    rt: &HostRuntime,
+    rt: &impl Runner,
     bytes: &str,
     listing: &str,
     out: &str,
@@ -68,14 +68,14 @@ fn saves(
 }
 
 // Fails where a listing isn't refused so.
-fn refuses(rt: &HostRuntime, listing: &str, err: &str) -> Result<(), Fail> {
+fn refuses(rt: &impl Runner, listing: &str, err: &str) -> Result<(), Fail> {
     leaves(rt, " WRITE 1", listing, "", err, 2, None)
 }
 
 // Fails where a routine of these bytes, which is run from its first line over the globals of a listing, doesn't come to this, or leaves another listing than
 // that one, or one where there is to be none.
 fn leaves(
-    rt: &HostRuntime,
+    rt: &impl Runner,
     bytes: &str,
     listing: &str,
     out: &str,
@@ -90,7 +90,7 @@ fn leaves(
 }
 
 fn leaves_in(
-    rt: &HostRuntime,
+    rt: &impl Runner,
     folder: &str,
     bytes: &str,
     listing: &str,

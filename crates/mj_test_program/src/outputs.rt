@@ -1,6 +1,6 @@
 // Standard output that can't be written.
 
-use mj_test_runs::{Ran, folder, judge_file, judge_run, remove, run_into, write};
+use mj_test_runs::{Ran, Runner, folder, judge_file, judge_run, remove, run_into, write};
 use std::io::{Error, ErrorKind, Result as IoResult, Write};
 use std::test::Fail;
 
@@ -27,7 +27,7 @@ fn standard_output_fails(rt: HostRuntime) -> Result<(), Fail> {
     told
 }
 
-fn fails_in(rt: &HostRuntime, folder: &str) -> Result<(), Fail> {
+fn fails_in(rt: &impl Runner, folder: &str) -> Result<(), Fail> {
     write(rt, folder, "R.m", b" SET ^A=1 WRITE ^A,X\n")?;
     for words in [
         "run|--start|^R|--save|DIR/saved|--trace|DIR/trace|DIR/R.m",
@@ -43,7 +43,7 @@ fn fails_in(rt: &HostRuntime, folder: &str) -> Result<(), Fail> {
 }
 
 // Fails where these words, over the input `s 1`, don't tell that standard output can't be written, and nothing else.
-fn breaks(rt: &HostRuntime, folder: &str, words: &str) -> Result<(), Fail> {
+fn breaks(rt: &impl Runner, folder: &str, words: &str) -> Result<(), Fail> {
     let (err, status) = run_into(rt, folder, words, b"s 1\n", &mut Broken)?;
     let out = Vec::new(rt.alloc());
     let ran = Ran { out, err, status };

@@ -1,6 +1,6 @@
 // The program on routines, and on what it refuses.
 
-use mj_test_runs::{Wanted, comes_to, folder, hold, judge, remove, run_text, write};
+use mj_test_runs::{Runner, Wanted, comes_to, folder, hold, judge, remove, run_text, write};
 use std::fs;
 use std::test::Fail;
 
@@ -26,7 +26,7 @@ fn routines_call_others(rt: HostRuntime) -> Result<(), Fail> {
     told
 }
 
-fn call_others(rt: &HostRuntime, folder: &str) -> Result<(), Fail> {
+fn call_others(rt: &impl Runner, folder: &str) -> Result<(), Fail> {
     write(rt, folder, "R.m", b" DO ^%TOOL WRITE 2\n")?;
     write(rt, folder, "_TOOL.m", b" WRITE 1\n")?;
     let first = "run|--start|^R|DIR/R.m|DIR/_TOOL.m";
@@ -73,7 +73,7 @@ fn files_are_refused(rt: HostRuntime) -> Result<(), Fail> {
 }
 
 // A file of a name that is no routine's, and two files of one name.
-fn are_refused(rt: &HostRuntime, folder: &str) -> Result<(), Fail> {
+fn are_refused(rt: &impl Runner, folder: &str) -> Result<(), Fail> {
     write(rt, folder, "1R.m", b" WRITE (")?;
     let unnamed = "run|--start|^R|DIR/1R.m";
     comes_to(rt, folder, unnamed, b"", "", "L1 DIR/1R.m\n", 2)?;
@@ -85,7 +85,7 @@ fn are_refused(rt: &HostRuntime, folder: &str) -> Result<(), Fail> {
     remove(rt, folder)
 }
 
-fn make_other(rt: &HostRuntime, folder: &str) -> Result<(), Fail> {
+fn make_other(rt: &impl Runner, folder: &str) -> Result<(), Fail> {
     let path = format!(in rt.alloc(); "{folder}/other")?;
     let made = fs::create_dir_all(rt, path.as_str());
     drop(path);

@@ -1,13 +1,13 @@
 // Sessions: commands, and what is answered to them.
 
-use mj_test_runs::{Ran, folder, hold, judge_file, judge_run, remove, run_text, write};
+use mj_test_runs::{Ran, Runner, folder, hold, judge_file, judge_run, remove, run_text, write};
 use std::str;
 use std::test::Fail;
 
 // Fails where the routine R of these bytes, debugged by these commands, with words of options with `|` between them, doesn't print this, or gives
 // another status.
 fn answers(
-    rt: &HostRuntime,
+    rt: &impl Runner,
     options: &str,
     routine: &str,
     commands: &str,
@@ -31,7 +31,7 @@ fn answers(
 }
 
 fn answers_in(
-    rt: &HostRuntime,
+    rt: &impl Runner,
     folder: &str,
     options: &str,
     routine: &str,
@@ -48,7 +48,7 @@ fn answers_in(
     remove(rt, folder)
 }
 
-fn debugged(rt: &HostRuntime, folder: &str, options: &str, commands: &str) -> Result<Ran, Fail> {
+fn debugged(rt: &impl Runner, folder: &str, options: &str, commands: &str) -> Result<Ran, Fail> {
     let text = format!(in rt.alloc(); "debug|{options}|DIR/R.m")?;
     let ran = run_text(rt, folder, text.as_str(), commands.as_bytes());
     drop(text);
@@ -425,7 +425,7 @@ fn a_step_behind_1000000_events_is_refused(rt: HostRuntime) -> Result<(), Fail> 
     told
 }
 
-fn is_full(rt: &HostRuntime, folder: &str) -> Result<(), Fail> {
+fn is_full(rt: &impl Runner, folder: &str) -> Result<(), Fail> {
     write(rt, folder, "R.m", b" FOR  HANG 1,1,1,1,1,1,1,1,1,1\n")?;
     let commands = "go 4294967295\ns 1\ns 1 late\ns 2\nback\n";
     let ran = debugged(rt, folder, "--start|^R", commands)?;
@@ -457,7 +457,7 @@ fn what_is_written_is_of_the_end(rt: HostRuntime) -> Result<(), Fail> {
     told
 }
 
-fn writes(rt: &HostRuntime, folder: &str) -> Result<(), Fail> {
+fn writes(rt: &impl Runner, folder: &str) -> Result<(), Fail> {
     write(rt, folder, "R.m", ROUTINE.as_bytes())?;
     let words = "debug|--trace|DIR/trace|--save|DIR/saved|--start|^R|DIR/R.m";
     let ran = run_text(rt, folder, words, b"go 2\nback\nback\ng\n")?;

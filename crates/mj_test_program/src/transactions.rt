@@ -1,6 +1,6 @@
 // Transactions: TSTART, TCOMMIT, TROLLBACK, TRESTART and BREAK, in one job and among several.
 
-use mj_test_runs::{Wanted, gives, judge};
+use mj_test_runs::{Runner, Wanted, gives, judge};
 use std::test::Fail;
 
 #[test]
@@ -106,7 +106,7 @@ fn counts_of_a_transaction(rt: HostRuntime) -> Result<(), Fail> {
 }
 
 // Fails where the second job doesn't print this, when the first has ended its transaction so by these steps.
-fn ends(rt: &HostRuntime, ending: &str, steps: &str, out: &str) -> Result<(), Fail> {
+fn ends(rt: &impl Runner, ending: &str, steps: &str, out: &str) -> Result<(), Fail> {
     let routine = format!(in rt.alloc();
         "A LOCK +^L TSTART  LOCK -^L,+^M {ending}\nB LOCK +^L:0 WRITE $TEST LOCK +^M:0 WRITE $TEST HALT\n"
     )?;
@@ -115,14 +115,14 @@ fn ends(rt: &HostRuntime, ending: &str, steps: &str, out: &str) -> Result<(), Fa
     done
 }
 
-fn ends_of(rt: &HostRuntime, routine: &str, steps: &str, out: &str) -> Result<(), Fail> {
+fn ends_of(rt: &impl Runner, routine: &str, steps: &str, out: &str) -> Result<(), Fail> {
     let steps = format!(in rt.alloc(); "{steps}2\n2\n2\n2\n2\n2\n2\n1\n1\n")?;
     let done = print_last(rt, routine, steps.as_str(), out);
     drop(steps);
     done
 }
 
-fn print_last(rt: &HostRuntime, routine: &str, steps: &str, out: &str) -> Result<(), Fail> {
+fn print_last(rt: &impl Runner, routine: &str, steps: &str, out: &str) -> Result<(), Fail> {
     let out = format!(in rt.alloc(); "--- job 1\n--- job 2\n{out}\n")?;
     let done = prints(rt, "--start|A^R|--start|B^R", routine, steps, out.as_str());
     drop(out);
@@ -131,7 +131,7 @@ fn print_last(rt: &HostRuntime, routine: &str, steps: &str, out: &str) -> Result
 
 // Fails where jobs that are stepped so don't print this alone.
 fn prints(
-    rt: &HostRuntime,
+    rt: &impl Runner,
     options: &str,
     routine: &str,
     steps: &str,

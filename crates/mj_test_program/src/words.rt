@@ -1,6 +1,6 @@
 // The words of the command line: help, the version, words that are wrong, and the command `check`.
 
-use mj_test_runs::{Ran, comes_to, folder, hold, remove, run_text, run_words, write};
+use mj_test_runs::{Ran, Runner, comes_to, folder, hold, remove, run_text, run_words, write};
 use std::str;
 use std::test::Fail;
 
@@ -46,7 +46,7 @@ fn check_counts_routines(rt: HostRuntime) -> Result<(), Fail> {
     told
 }
 
-fn counts(rt: &HostRuntime, folder: &str) -> Result<(), Fail> {
+fn counts(rt: &impl Runner, folder: &str) -> Result<(), Fail> {
     write(rt, folder, "R.m", b" WRITE 1\n")?;
     write(rt, folder, "_TOOL.m", b"")?;
     write(rt, folder, "S.m", b" WRITE \"abc")?;
@@ -60,7 +60,7 @@ fn counts(rt: &HostRuntime, folder: &str) -> Result<(), Fail> {
 }
 
 // Fails where these words don't show that.
-fn shows(rt: &HostRuntime, words: &str, shown: &str) -> Result<(), Fail> {
+fn shows(rt: &impl Runner, words: &str, shown: &str) -> Result<(), Fail> {
     let ran = run_text(rt, "", words, b"")?;
     let is = ran.err.is_empty() && ran.status == 0 && has(&ran.out, shown);
     let told = hold(is, words, &ran);
@@ -69,7 +69,7 @@ fn shows(rt: &HostRuntime, words: &str, shown: &str) -> Result<(), Fail> {
 }
 
 // Fails where these words aren't refused by a text that names that one.
-fn names(rt: &HostRuntime, words: &str, named: &str) -> Result<(), Fail> {
+fn names(rt: &impl Runner, words: &str, named: &str) -> Result<(), Fail> {
     let ran = run_text(rt, "", words, b"")?;
     let is = ran.out.is_empty() && ran.status == 3 && has(&ran.err, named);
     let told = hold(is, words, &ran);
@@ -84,7 +84,7 @@ fn has(bytes: &[u8], part: &str) -> bool {
     }
 }
 
-fn are_missing(rt: &HostRuntime, words: &str) -> Result<(), Fail> {
+fn are_missing(rt: &impl Runner, words: &str) -> Result<(), Fail> {
     let ran = run_text(rt, "", words, b"")?;
     let told = is_told(words, &ran);
     drop(ran);

@@ -1,10 +1,11 @@
 // Folders for the files of tests.
 
+use crate::runner::Runner;
 use std::test::Fail;
-use std::{env, fs, process};
+use std::{env, fs};
 
-/// A new folder for the files of a test, which is made anew where an earlier one was left.
-pub fn folder(rt: &HostRuntime, test: &str) -> Result<String, Fail> {
+/// A new folder for the files of a test, named by the time as well, so that no other run has it.
+pub fn folder(rt: &impl Runner, test: &str) -> Result<String, Fail> {
     let folder = name_of(rt, test)?;
     match make(rt, folder.as_str()) {
         Ok(()) => Ok(folder),
@@ -15,16 +16,17 @@ pub fn folder(rt: &HostRuntime, test: &str) -> Result<String, Fail> {
     }
 }
 
-fn name_of(rt: &HostRuntime, test: &str) -> Result<String, Fail> {
-    let id = process::id(rt.process());
+fn name_of(rt: &impl Runner, test: &str) -> Result<String, Fail> {
+    let time = rt.since_1970()?;
+    let (seconds, nanoseconds) = (time.as_secs(), time.subsec_nanos());
     let temporary = env::temp_dir(rt)?;
     let above = temporary.as_str();
-    let name = format!(in rt.alloc(); "{above}/mj_test_{test}_{id}");
+    let name = format!(in rt.alloc(); "{above}/mj_test_{test}_{seconds}_{nanoseconds}");
     drop(temporary);
     Ok(name?)
 }
 
-fn make(rt: &HostRuntime, folder: &str) -> Result<(), Fail> {
+fn make(rt: &impl Runner, folder: &str) -> Result<(), Fail> {
     if fs::exists(rt, folder)? {
         fs::remove_dir_all(rt, folder)?;
     }
@@ -33,13 +35,13 @@ fn make(rt: &HostRuntime, folder: &str) -> Result<(), Fail> {
 }
 
 /// Removes a folder with all that is in it.
-pub fn remove(rt: &HostRuntime, folder: &str) -> Result<(), Fail> {
+pub fn remove(rt: &impl Runner, folder: &str) -> Result<(), Fail> {
     fs::remove_dir_all(rt, folder)?;
     Ok(())
 }
 
 /// Writes a file in a folder.
-pub fn write(rt: &HostRuntime, folder: &str, name: &str, bytes: &[u8]) -> Result<(), Fail> {
+pub fn write(rt: &impl Runner, folder: &str, name: &str, bytes: &[u8]) -> Result<(), Fail> {
     let path = format!(in rt.alloc(); "{folder}/{name}")?;
     let done = fs::write(rt, path.as_str(), bytes);
     drop(path);
@@ -48,7 +50,7 @@ pub fn write(rt: &HostRuntime, folder: &str, name: &str, bytes: &[u8]) -> Result
 
 /// Fails, with what it has, where the file in a folder hasn't this text, or where there is one and there is to be none.
 pub fn judge_file(
-    rt: &HostRuntime,
+    rt: &impl Runner,
     folder: &str,
     name: &str,
     text: Option<&str>,
@@ -68,14 +70,14 @@ fn judge_left(name: &str, left: Option<&str>, text: Option<&str>) -> Result<(), 
 }
 
 /// The text of a file in a folder, if there is one.
-pub fn left(rt: &HostRuntime, folder: &str, name: &str) -> Result<Option<String>, Fail> {
+pub fn left(rt: &impl Runner, folder: &str, name: &str) -> Result<Option<String>, Fail> {
     let path = format!(in rt.alloc(); "{folder}/{name}")?;
     let text = read_left(rt, path.as_str());
     drop(path);
     text
 }
 
-fn read_left(rt: &HostRuntime, path: &str) -> Result<Option<String>, Fail> {
+fn read_left(rt: &impl Runner, path: &str) -> Result<Option<String>, Fail> {
     if fs::exists(rt, path)? {
         Ok(Some(fs::read_to_string(rt, path)?))
     } else {

@@ -5,10 +5,12 @@
 
 mod files;
 mod rows;
+mod runner;
 mod runs;
 
 pub use files::{folder, judge_file, left, remove, write};
 /// The program, for rows with an input or an output of their own.
 pub use mj_main::run;
 pub use rows::{Wanted, judge};
+pub use runner::Runner;
 pub use runs::{Ran, comes_to, gives, hold, judge_run, run_into, run_text, run_words};

@@ -1,6 +1,7 @@
 // Tables of rows, each the run of a routine.
 
 use crate::files::{folder, remove, write};
+use crate::runner::Runner;
 use crate::runs::{Ran, is_given, run_text, shown};
 use std::alloc::{AllocError, Global};
 use std::test::Fail;
@@ -17,7 +18,7 @@ pub enum Wanted {
 /// Fails with the rows of a table that come to something else than they want, each with that. A row is a line: the bytes of the routine R,
 /// which is run from its first line, ` => `, and what is wanted. `~` in it stands for the end of a line. A table is one text, since a list
 /// of as many takes the prover far longer.
-pub fn judge(rt: &HostRuntime, test: &str, wanted: Wanted, rows: &str) -> Result<(), Fail> {
+pub fn judge(rt: &impl Runner, test: &str, wanted: Wanted, rows: &str) -> Result<(), Fail> {
     let mut wrong = String::new(rt.alloc());
     match walk(rt, test, wanted, rows, &mut wrong) {
         Ok(()) => none_of(wrong),
@@ -38,7 +39,7 @@ fn none_of(wrong: String) -> Result<(), Fail> {
 }
 
 fn walk(
-    rt: &HostRuntime,
+    rt: &impl Runner,
     test: &str,
     wanted: Wanted,
     rows: &str,
@@ -54,7 +55,7 @@ fn walk(
 }
 
 fn put_wrong(
-    rt: &HostRuntime,
+    rt: &impl Runner,
     test: &str,
     wanted: Wanted,
     row: &str,
@@ -67,14 +68,14 @@ fn put_wrong(
     Ok(done?)
 }
 
-fn run_row(rt: &HostRuntime, test: &str, bytes: &str) -> Result<Ran, Fail> {
+fn run_row(rt: &impl Runner, test: &str, bytes: &str) -> Result<Ran, Fail> {
     let folder = folder(rt, test)?;
     let ran = run_in(rt, folder.as_str(), bytes);
     drop(folder);
     ran
 }
 
-fn run_in(rt: &HostRuntime, folder: &str, bytes: &str) -> Result<Ran, Fail> {
+fn run_in(rt: &impl Runner, folder: &str, bytes: &str) -> Result<Ran, Fail> {
     write(rt, folder, "R.m", bytes.as_bytes())?;
     let ran = run_text(rt, folder, "run|--start|^R|DIR/R.m", b"")?;
     remove(rt, folder)?;

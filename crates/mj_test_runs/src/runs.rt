@@ -1,6 +1,7 @@
 // Runs of the program by words.
 
 use crate::files::{folder, remove, write};
+use crate::runner::Runner;
 use std::alloc::AllocError;
 use std::io::Write;
 use std::test::Fail;
@@ -18,7 +19,7 @@ pub struct Ran {
 }
 
 /// Runs the program by these words, over an input without bytes.
-pub fn run_words(rt: &HostRuntime, words: &[&str]) -> Ran {
+pub fn run_words(rt: &impl Runner, words: &[&str]) -> Ran {
     let mut out = Vec::new(rt.alloc());
     let mut err = Vec::new(rt.alloc());
     let status = mj_main::run(rt, words, &mut io::empty(), &mut out, &mut err);
@@ -26,7 +27,7 @@ pub fn run_words(rt: &HostRuntime, words: &[&str]) -> Ran {
 }
 
 /// Runs the program by its name and the words of a text with `|` between them, over an input of these bytes. `DIR` in them stands for the folder.
-pub fn run_text(rt: &HostRuntime, folder: &str, text: &str, input: &[u8]) -> Result<Ran, Fail> {
+pub fn run_text(rt: &impl Runner, folder: &str, text: &str, input: &[u8]) -> Result<Ran, Fail> {
     let mut out = Vec::new(rt.alloc());
     match run_into(rt, folder, text, input, &mut out) {
         Ok((err, status)) => Ok(Ran { out, err, status }),
@@ -39,7 +40,7 @@ pub fn run_text(rt: &HostRuntime, folder: &str, text: &str, input: &[u8]) -> Res
 
 /// Runs the program so, with this output, and gives what it printed on the other one, and its exit status.
 pub fn run_into<O: Write>(
-    rt: &HostRuntime,
+    rt: &impl Runner,
     folder: &str,
     text: &str,
     input: &[u8],
@@ -52,7 +53,7 @@ pub fn run_into<O: Write>(
 }
 
 fn run_split<O: Write>(
-    rt: &HostRuntime,
+    rt: &impl Runner,
     text: &str,
     input: &[u8],
     out: &mut O,
@@ -100,7 +101,7 @@ pub fn judge_run(what: &str, ran: &Ran, out: &str, err: &str, status: u8) -> Res
 /// Fails so where the program, by the words of a text with `|` between them and over this input, doesn't print this, or gives another status. `DIR` in the
 /// words and in what comes on the other output stands for the folder.
 pub fn comes_to(
-    rt: &HostRuntime,
+    rt: &impl Runner,
     folder: &str,
     words: &str,
     input: &[u8],
@@ -115,7 +116,7 @@ pub fn comes_to(
 }
 
 fn comes_to_this(
-    rt: &HostRuntime,
+    rt: &impl Runner,
     folder: &str,
     words: &str,
     input: &[u8],
@@ -132,7 +133,7 @@ fn comes_to_this(
 /// Fails so where jobs of the routine R that are stepped so don't print this, or give another status: by words of options with `|` between them, and by
 /// these steps, in turn where there are none.
 pub fn gives(
-    rt: &HostRuntime,
+    rt: &impl Runner,
     options: &str,
     routine: &str,
     steps: &str,
@@ -146,7 +147,7 @@ pub fn gives(
     told
 }
 
-fn stepped(rt: &HostRuntime, options: &str, routine: &str, steps: &str) -> Result<Ran, Fail> {
+fn stepped(rt: &impl Runner, options: &str, routine: &str, steps: &str) -> Result<Ran, Fail> {
     let folder = folder(rt, "many")?;
     let ran = stepped_in(rt, folder.as_str(), options, routine, steps);
     drop(folder);
@@ -154,7 +155,7 @@ fn stepped(rt: &HostRuntime, options: &str, routine: &str, steps: &str) -> Resul
 }
 
 fn stepped_in(
-    rt: &HostRuntime,
+    rt: &impl Runner,
     folder: &str,
     options: &str,
     routine: &str,

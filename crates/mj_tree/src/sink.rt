@@ -28,19 +28,19 @@ impl From<AllocError> for SinkStop {
 
 /// Takes names one by one, each with its text.
 pub trait Sink {
-    /// The first, where it takes these in order, comes to the last.
+    /// Taking these in order leads from one state to the other.
     ghost takes: { Self → Content → Self → Type 0 };
 
-    /// The first, where it takes these in order up to the last of them, at which it closes, comes to the last.
+    /// Taking these in order, the last of which closes it, leads from one state to the other.
     ghost closes: { Self → Content → Self → Type 0 };
 
-    /// One that takes nothing stays as it is.
+    /// A sink that takes nothing stays as it is.
     ghost nothing: { (s : Self) → takes s [] s };
 
     /// What is taken by turns is taken in order.
     ghost more: { (r s t : Self) (xs ys : Content) → takes r xs s → takes s ys t → takes r (xs ++ ys) t };
 
-    /// One that takes some and then closes has closed at the last of all.
+    /// A sink that takes some and is then closed by others is closed by all of them.
     ghost closed: { (r s t : Self) (xs ys : Content) → takes r xs s → closes s ys t → closes r (xs ++ ys) t };
 
     /// Takes one name more: of this kind, with this word and these subscripts.

@@ -1,6 +1,6 @@
 use Rattle.std.proofs.Common.{◌≡◌, true, refl, sym, ap, ◌∙◌, subst, inl}
 use Rattle.std.specs.Option.{is_some}
-use Rattle.std.specs.Prelude.{Result, Ok, IfOk, option_copied}
+use Rattle.std.specs.Prelude.{Result, Ok, Err, IfOk, option_copied}
 use Rattle.std.specs.declared.alloc.AllocError.{AllocError}
 use Rattle.mj_load.specs.Image.{routines_of}
 use Rattle.mj_jobs.specs.Rows.{IsLive}
@@ -9,8 +9,9 @@ use Rattle.mj_jobvm.specs.Told.{AdvanceTells, spent_after}
 use Rattle.mj_jobvm.specs.declared.job.Turn.{Turn}
 use Rattle.mj_jobvm.specs.declared.job.Turn.TheVariants as turns
 use Rattle.mj_sys.specs.History.{state_of}
-use Rattle.mj_core.specs.Ties.{Placed, IsPlaced, start_of}
-use Rattle.mj_core.proofs.Stepping.{IsStepped, is_stepped}
+use Rattle.mj_core.specs.Gives.{MayGoOn}
+use Rattle.mj_core.specs.Ties.{Placed, IsPlaced, start_of, stand_of}
+use Rattle.mj_core.proofs.Stepping.{IsStepped, unasked, may_go, is_stepped}
 use Rattle.mj_core.proofs.slot.step_slot.Given.{Over}
 use Rattle.mj_core.proofs.slot.step_slot.Goals as goal
 use Rattle.mj_core.proofs.slot.step_slot.Goals.{After-advance, After-ask}
@@ -35,6 +36,14 @@ counted g c went is =
     let S : Result Turn AllocError → Type 0 = λ w. c.advance.new.self.run.spent ≡ spent_after w 10000 c.slot.inside.job.run.spent in
     subst S is c.advance.ensures.spent
 
+-- one that doesn't ask now didn't wait
+goes : (g : Over) (c : After-advance g) → (c.advance.result ≡ Ok turns.Asks → ⊥) → MayGoOn (stand_of c.args.slot.now)
+goes g c unlike =
+    let job = c.slot.inside.job in
+    let P : Placed g.row.A.Denot → Type 0 = λ p. MayGoOn (stand_of p) in
+    subst P c.slot.view_is
+    (may_go job.run.pending job.run.log job.run.at.state c.slot.inside.at_ask (unasked job.run.pending (λ some. unlike (c.advance.ensures.again some).0)))
+
 pub ask-requires-clause-asks : goal.ask-requires-clause-asks
 ask-requires-clause-asks g c =
     let at = (goal.at.ask-requires-clause-asks g c).After-advance in
@@ -52,6 +61,9 @@ returns-in-Ok-Ran-clause-gives g c =
       c.advance.ensures.log,
       (λ name has h. h),
       refl,
+      may_go c.slot.inside.job.run.pending c.slot.inside.job.run.log c.slot.inside.job.run.at.state c.slot.inside.at_ask
+          (unasked c.slot.inside.job.run.pending
+          (λ some. (let no : Ok turns.Ran ≡ Ok turns.Asks = sym is ∙ (c.advance.ensures.again some).0 in cc))),
     )
 
 pub returns-in-Ok-Ended-clause-gives : goal.returns-in-Ok-Ended-clause-gives
@@ -119,4 +131,6 @@ returns-in-Err-clause-stands g c = inl refl
 
 -- memory was refused on the job's way
 pub returns-in-Err-clause-refused : goal.returns-in-Err-clause-refused
-returns-in-Err-clause-refused g c = inl refl
+returns-in-Err-clause-refused g c =
+    let at = (goal.at.returns-in-Err-clause-refused g c).After-advance in
+    inl (goes g at (λ asks. (let no : Err c.in-Err.field-0 ≡ Ok turns.Asks = sym c.in-Err.is ∙ asks in cc)), refl)

@@ -58,6 +58,7 @@ shows g c went is over row there =
     let S : Result Turn AllocError → Type 0 = λ w. c.advance.new.self.run.spent ≡ spent_after w 10000 c.slot.inside.job.run.spent in
     readies g.A.Answerer.answering c.args.image.now g.O.Opening.opening c.args.system.now c.args.slots.now c.requires.kept.0 c.args.order.now c.requires.kept.1 c.args.at (slot_in g c)
     (here g c) c.advance.new.self c.advance.ensures.run c.advance.ensures.log over 255 c.requires.few row there c.requires.live went (told g c went is) (subst S is c.advance.ensures.spent)
+    (λ some. sym is ∙ (c.advance.ensures.again some).0)
 
 pub returns-in-Ok-Asks-clause-kept : goal.returns-in-Ok-Asks-clause-kept
 returns-in-Ok-Asks-clause-kept g c = keeps g (goal.at.returns-in-Ok-Asks-clause-kept g c).After-advance _ (c.in-Ok-Asks.is ∙ ap Ok c.in-Ok-Asks.field-0-is)

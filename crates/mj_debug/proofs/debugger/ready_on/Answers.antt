@@ -1,6 +1,6 @@
 use Rattle.mj_core.specs.Asking.{turn_of}
 use Rattle.mj_debug.proofs.Growing.{ready_keeps, ready_grows, replica_on}
-use Rattle.mj_debug.proofs.Viewing.{views_on}
+use Rattle.mj_debug.proofs.Showing.{views_on}
 use Rattle.mj_debug.proofs.debugger.ready_on.Goals as goal
 
 pub returns-clause-image : goal.returns-clause-image

@@ -1,5 +1,5 @@
 use Rattle.mj_debug.proofs.Growing.{step_grows, replica_on}
-use Rattle.mj_debug.proofs.Viewing.{views_on}
+use Rattle.mj_debug.proofs.Showing.{views_on}
 use Rattle.mj_debug.proofs.debugger.step_on.Goals as goal
 
 pub returns-clause-short : goal.returns-clause-short

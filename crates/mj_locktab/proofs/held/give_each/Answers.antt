@@ -1,4 +1,4 @@
-use Rattle.std.proofs.Common.{◌≡◌, ◌+◌, ap, ◌∙◌, sym, subst, drop}
+use Rattle.std.proofs.Common.{◌+◌, ap, ◌∙◌, sym, subst, drop}
 use Rattle.mj_locktab.specs.Locks.{Locks, IsInOrder}
 use Rattle.mj_locktab.specs.Changes.{after_give}
 use Rattle.mj_locktab.proofs.Counts.{order-one_less}

@@ -1,7 +1,7 @@
-use Rattle.std.proofs.Common.{◌≡◌, Bool, true, false, refl, sym, ap, ◌∙◌, subst, take}
+use Rattle.std.proofs.Common.{Bool, refl, sym, ap, ◌∙◌, subst}
 use Rattle.mj_locktab.specs.Locks.{Locks, IsInOrder, is_past_limit}
-use Rattle.mj_locktab.specs.Changes.{one_more, after_give}
-use Rattle.mj_locktab.specs.Places.{TakeLeaves}
+use Rattle.mj_locktab.specs.Changes.{one_more}
+use Rattle.mj_locktab.specs.Tries.{TakeLeaves}
 use Rattle.mj_locktab.proofs.Counts.{order-one_more}
 use Rattle.mj_locktab.proofs.Kept.{one_step, over_at, undone}
 use Rattle.mj_locktab.proofs.held.take_each.Goals as goal

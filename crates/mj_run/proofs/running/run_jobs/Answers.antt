@@ -1,4 +1,5 @@
 use Rattle.std.proofs.Common.{◌≡◌, ◌∙◌, sym, ap, subst, IfSome, IfNone}
+use Rattle.mj_dev.specs.Told.{IsToldBy}
 use Rattle.mj_load.specs.Image.{Loaded, routines_of}
 use Rattle.mj_sys.specs.Shared.{Shared}
 use Rattle.mj_core.specs.Runs.{IsRun}
@@ -18,54 +19,61 @@ invariant_of-jobs g c =
 
 pub returns-clause-image : goal.returns-clause-image
 returns-clause-image g c =
+    let tells = IsToldBy g.D.Device.inside g.D.Device.failures g.D.Device.taken g.D.Device.given g.D.Device.IsTold in
     ap image_of c.jobs.view_is
-    ∙ steps_image g.O.Opening.opening c.in_ok-core.core c.go-ending.new.self c.go-ending.ensures.run
+    ∙ steps_image tells g.O.Opening.opening c.in_ok-core.core c.go-ending.new.self c.go-ending.ensures.run
     ∙ ap image_of c.in_ok-core.ensures.ok
 
 pub returns-clause-listed : goal.returns-clause-listed
 returns-clause-listed g c =
+    let tells = IsToldBy g.D.Device.inside g.D.Device.failures g.D.Device.taken g.D.Device.given g.D.Device.IsTold in
     let opening = g.O.Opening.opening in
-    let P : Shown → Type 0 = λ old. IfSome c.args.steps (λ list. ByList (StepsAs opening) 0 list.now old c.go-ending.result c.jobs.inside.core) in
-    let Q : Shown → Type 0 = λ new. IfSome c.args.steps (λ list. ByList (StepsAs opening) 0 list.now c.in_ok-core.core c.go-ending.result new) in
+    let P : Shown → Type 0 = λ old. IfSome c.args.steps (λ list. ByList (StepsAs tells opening) 0 list.now old c.go-ending.result c.jobs.inside.core) in
+    let Q : Shown → Type 0 = λ new. IfSome c.args.steps (λ list. ByList (StepsAs tells opening) 0 list.now c.in_ok-core.core c.go-ending.result new) in
     subst P c.in_ok-core.ensures.ok (subst Q (sym c.jobs.view_is) c.go-ending.ensures.listed)
 
 pub returns-clause-in_turn : goal.returns-clause-in_turn
 returns-clause-in_turn g c =
+    let tells = IsToldBy g.D.Device.inside g.D.Device.failures g.D.Device.taken g.D.Device.given g.D.Device.IsTold in
     let opening = g.O.Opening.opening in
-    let P : Shown → Type 0 = λ old. IfNone c.args.steps (IsInTurn opening STEPS_LIMIT old c.go-ending.result c.jobs.inside.core) in
-    let Q : Shown → Type 0 = λ new. IfNone c.args.steps (IsInTurn opening STEPS_LIMIT c.in_ok-core.core c.go-ending.result new) in
+    let P : Shown → Type 0 = λ old. IfNone c.args.steps (IsInTurn tells opening STEPS_LIMIT old c.go-ending.result c.jobs.inside.core) in
+    let Q : Shown → Type 0 = λ new. IfNone c.args.steps (IsInTurn tells opening STEPS_LIMIT c.in_ok-core.core c.go-ending.result new) in
     subst P c.in_ok-core.ensures.ok (subst Q (sym c.jobs.view_is) c.go-ending.ensures.in_turn)
 
 pub returns-clause-gives : goal.returns-clause-gives
 returns-clause-gives g c =
+    let tells = IsToldBy g.D.Device.inside g.D.Device.failures g.D.Device.taken g.D.Device.given g.D.Device.IsTold in
     let opening = g.O.Opening.opening in
-    let P : Shown → Type 0 = λ old. AreSteps opening old c.jobs.inside.core in
-    let Q : Shown → Type 0 = λ new. AreSteps opening c.in_ok-core.core new in
+    let P : Shown → Type 0 = λ old. AreSteps tells opening old c.jobs.inside.core in
+    let Q : Shown → Type 0 = λ new. AreSteps tells opening c.in_ok-core.core new in
     subst P c.in_ok-core.ensures.ok (subst Q (sym c.jobs.view_is) c.go-ending.ensures.run)
 
 pub returns-clause-run : goal.returns-clause-run
 returns-clause-run g c =
+    let tells = IsToldBy g.D.Device.inside g.D.Device.failures g.D.Device.taken g.D.Device.given g.D.Device.IsTold in
     let same : c.jobs.inside.core.image ≡ c.args.image =
     ap image_of c.jobs.view_is
-    ∙ steps_image g.O.Opening.opening c.in_ok-core.core c.go-ending.new.self c.go-ending.ensures.run
+    ∙ steps_image tells g.O.Opening.opening c.in_ok-core.core c.go-ending.new.self c.go-ending.ensures.run
     ∙ ap image_of c.in_ok-core.ensures.ok in
     let P : Loaded → Type 0 = λ image. IsRun (routines_of image) g.O.Opening.opening c.jobs.inside.core.history in
     subst P same c.len-run.ensures.run
 
 pub returns-clause-serial : goal.returns-clause-serial
 returns-clause-serial g c =
+    let tells = IsToldBy g.D.Device.inside g.D.Device.failures g.D.Device.taken g.D.Device.given g.D.Device.IsTold in
     let same : c.jobs.inside.core.image ≡ c.args.image =
     ap image_of c.jobs.view_is
-    ∙ steps_image g.O.Opening.opening c.in_ok-core.core c.go-ending.new.self c.go-ending.ensures.run
+    ∙ steps_image tells g.O.Opening.opening c.in_ok-core.core c.go-ending.new.self c.go-ending.ensures.run
     ∙ ap image_of c.in_ok-core.ensures.ok in
     let P : Loaded → Type 0 = λ image. IsAsAlone (routines_of image) g.O.Opening.opening c.jobs.inside.core.history in
     subst P same c.holds.ensures.serial
 
 pub returns-clause-clashes : goal.returns-clause-clashes
 returns-clause-clashes g c =
+    let tells = IsToldBy g.D.Device.inside g.D.Device.failures g.D.Device.taken g.D.Device.given g.D.Device.IsTold in
     let same : c.jobs.inside.core.image ≡ c.args.image =
     ap image_of c.jobs.view_is
-    ∙ steps_image g.O.Opening.opening c.in_ok-core.core c.go-ending.new.self c.go-ending.ensures.run
+    ∙ steps_image tells g.O.Opening.opening c.in_ok-core.core c.go-ending.new.self c.go-ending.ensures.run
     ∙ ap image_of c.in_ok-core.ensures.ok in
     let P : Loaded → Type 0 = λ image. AllMustClash (routines_of image) g.O.Opening.opening c.jobs.inside.core.history in
     subst P same c.holds.ensures.clashes

@@ -1,9 +1,11 @@
-use Rattle.std.proofs.Common.{◌≤◌, ℕ, length, sym, ap, ◌∙◌, subst}
+use Rattle.std.proofs.Common.{◌≤◌, ℕ, length, None, sym, ap, ◌∙◌, subst}
 use Rattle.mj_load.specs.Image.{routines_of}
 use Rattle.mj_sys.specs.System.{history_limit}
 use Rattle.mj_core.specs.Runs.{IsRun}
 use Rattle.mj_core.specs.Shown.{Shown}
+use Rattle.mj_core.specs.Ties.{Placed, stand_of}
 use Rattle.mj_core.specs.Kept.{logs_of, claim_of}
+use Rattle.mj_core.proofs.Giving.{each_long}
 use Rattle.mj_core.proofs.Histories.{is_run}
 use Rattle.mj_core.proofs.Views.{as_many}
 use Rattle.mj_core.proofs.together.Core.len.Goals as goal
@@ -27,3 +29,14 @@ returns-clause-run g c =
     let opening = g.O.Opening.opening in
     subst (λ (s : Shown). IsRun (routines_of s.image) opening s.history) c.self.view_is
     (is_run g.A.Answerer.answering i.image opening i.system i.slots.items (claim_of i.waiting) i.order.items c.self.invariant.0)
+
+pub returns-clause-over : goal.returns-clause-over
+returns-clause-over g c = sym (ap (λ (s : Shown). length s.over) c.self.view_is) ∙ c.self.invariant.1
+
+pub returns-clause-spent : goal.returns-clause-spent
+returns-clause-spent g c =
+    sym (ap (λ (s : Shown). length s.spent) c.self.view_is) ∙ each_long 0 (λ (s : Placed g.row.A.Denot). s.job.run.spent) 255 c.self.inside.slots.items
+
+pub returns-clause-stands : goal.returns-clause-stands
+returns-clause-stands g c =
+    sym (ap (λ (s : Shown). length s.stands) c.self.view_is) ∙ each_long None (λ (s : Placed g.row.A.Denot). stand_of s) 255 c.self.inside.slots.items

@@ -2,9 +2,9 @@ use Rattle.std.specs.Borrow.{Bor}
 use Rattle.std.proofs.Common.{List}
 use Rattle.mj_frames.specs.declared.frame.Frame.{Frame}
 use Rattle.mj_frames.specs.Frames.{frames_of}
-use Rattle.mj_debug.specs.Views.{view_of}
+use Rattle.mj_replica.specs.Views.{view_of}
 use Rattle.mj_debug.specs.Walks.{front}
-use Rattle.mj_debug.proofs.Viewing.{frames_some}
+use Rattle.mj_debug.proofs.Showing.{frames_some}
 use Rattle.mj_debug.proofs.debugger.Debugger+D+Sessions+D+O.frames.Goals as goal
 
 pub returns-in-Ok-clause-some : goal.returns-in-Ok-clause-some

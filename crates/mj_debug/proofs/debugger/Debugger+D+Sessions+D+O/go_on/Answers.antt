@@ -4,9 +4,8 @@ use Rattle.mj_sys.specs.History.{History}
 use Rattle.mj_sys.specs.System.{history_limit}
 use Rattle.mj_core.specs.Shown.{Shown}
 use Rattle.mj_core.specs.Asking.{turn_of}
-use Rattle.mj_debug.specs.Walks.{Walk}
-use Rattle.mj_debug.specs.Views.{is_ready}
-use Rattle.mj_debug.proofs.Viewing.{keeps_on}
+use Rattle.mj_debug.specs.Walks.{Walk, is_ready}
+use Rattle.mj_debug.proofs.Showing.{keeps_on}
 use Rattle.mj_debug.proofs.Turning.{came, rest_so, passed_on, stopped}
 use Rattle.mj_debug.proofs.debugger.Debugger+D+Sessions+D+O.go_on.Goals as goal
 

@@ -1,5 +1,5 @@
 use Rattle.std.proofs.Common.{arith}
-use Rattle.mj_debug.proofs.Viewing.{keeps_on}
+use Rattle.mj_debug.proofs.Showing.{keeps_on}
 use Rattle.mj_debug.proofs.debugger.Debugger+D+Sessions+D+O.make.Goals as goal
 
 pub invariant_of-self : goal.invariant_of-self

@@ -1,6 +1,6 @@
 use Rattle.std.proofs.Common.{subst}
+use Rattle.mj_replica.specs.Replicas.{IsUnshown}
 use Rattle.mj_debug.specs.Walks.{Walk}
-use Rattle.mj_debug.specs.Replicas.{IsUnshown}
 use Rattle.mj_debug.proofs.debugger.Debugger+D+Sessions+D+O.show.Goals as goal
 
 pub returns-in-Err-clause-why : goal.returns-in-Err-clause-why

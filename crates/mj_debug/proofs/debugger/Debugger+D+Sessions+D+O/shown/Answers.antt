@@ -1,9 +1,9 @@
 use Rattle.std.specs.Prelude.{option_copied}
 use Rattle.std.proofs.Common.{◌≡◌, true, Some, None, sym, ap, ◌∙◌, subst}
 use Rattle.mj_views.specs.Views.{view_at}
-use Rattle.mj_debug.specs.Views.{view_of, is_ready, IsView}
-use Rattle.mj_debug.specs.Walks.{Walk, front}
-use Rattle.mj_debug.proofs.Viewing.{run_shows, no_run}
+use Rattle.mj_replica.specs.Views.{view_of, IsView}
+use Rattle.mj_debug.specs.Walks.{Walk, front, is_ready}
+use Rattle.mj_debug.proofs.Showing.{run_shows, no_run}
 use Rattle.mj_debug.proofs.debugger.Debugger+D+Sessions+D+O.shown.Goals as goal
 
 pub returns-in-Some-clause-view : goal.returns-in-Some-clause-view

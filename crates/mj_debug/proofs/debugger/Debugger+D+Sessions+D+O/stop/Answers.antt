@@ -5,12 +5,12 @@ use Rattle.mj_semantics.specs.State.{Place, places, place_of}
 use Rattle.mj_load.specs.Image.{Loaded, routines_of}
 use Rattle.mj_jobs.specs.Rows.{row_at}
 use Rattle.mj_sys.specs.History.{History, state_of}
+use Rattle.mj_replica.specs.Shows.{HasStood}
+use Rattle.mj_replica.proofs.Standing.{no_row, stands}
 use Rattle.mj_debug.specs.declared.breaks.BreakMark.{BreakMark}
 use Rattle.mj_debug.specs.Breaks.{is_breakpoint, is_there}
-use Rattle.mj_debug.specs.Shows.{HasStood}
 use Rattle.mj_debug.specs.Goes.{line_in}
 use Rattle.mj_debug.specs.Walks.{Walk}
-use Rattle.mj_debug.proofs.Standing.{no_row, stands}
 use Rattle.mj_debug.proofs.Stopping.{front_whole, no_line, no_breakpoint, from_there, stops_there}
 use Rattle.mj_debug.proofs.debugger.Debugger+D+Sessions+D+O.stop.Goals as goal
 

@@ -1,5 +1,5 @@
-use Rattle.std.proofs.Common.{◌≡◌, ap, ◌∙◌, sym, subst}
-use Rattle.mj_locktab.specs.Locks.{Locks, IsLockTable, count_of}
+use Rattle.std.proofs.Common.{sym, subst}
+use Rattle.mj_locktab.specs.Locks.{Locks, IsLockTable}
 use Rattle.mj_locktab.specs.Visits.{Visited}
 use Rattle.mj_locktab.specs.Changes.{IsWithout}
 use Rattle.mj_locktab.proofs.Counts.{without}

@@ -1,11 +1,9 @@
-use Rattle.std.proofs.Common.{◌≡◌, Bool, true, false, Some, None, refl, sym, ap, ◌∙◌, subst}
-use Rattle.mj_subs.specs.Name.{Name}
+use Rattle.std.proofs.Common.{◌≡◌, Bool, Some, None, refl, sym, ap, ◌∙◌, subst}
 use Rattle.mj_locktab.specs.declared.taken.Taken.TheVariants as takes
-use Rattle.mj_locktab.specs.Locks.{Locks, IsLockTable, is_past_limit}
+use Rattle.mj_locktab.specs.Locks.{Locks, IsLockTable}
 use Rattle.mj_locktab.specs.Visits.{Visited}
 use Rattle.mj_locktab.specs.Changes.{after_take}
-use Rattle.mj_locktab.specs.Places.{TakeLeaves}
-use Rattle.mj_locktab.specs.Tries.{conflict_of, IsInTheWay, TryGives}
+use Rattle.mj_locktab.specs.Tries.{conflict_of, IsInTheWay, TryGives, TakeLeaves}
 use Rattle.mj_locktab.proofs.Apart.{in_the_way, all_free}
 use Rattle.mj_locktab.proofs.Kept.{kept-after_take, got_try, limit_try}
 use Rattle.mj_locktab.proofs.table.LockTable.try_take.Goals as goal

@@ -1,3 +1,4 @@
+use Rattle.mj_dev.specs.Told.{IsToldBy}
 use Rattle.mj_steps.specs.Driven.{new_round, fresh}
 use Rattle.mj_run.proofs.Stepping.{in_turn}
 use Rattle.mj_run.proofs.jobs.Jobs+D+Sessions+D+O.in_turn.Goals as goal
@@ -7,4 +8,5 @@ returns-clause-in_turn g c = record { turns = c.step_in_turn.ensures }
 
 pub returns-clause-run : goal.returns-clause-run
 returns-clause-run g c =
-    in_turn g.O.Opening.opening c.args.most 0 new_round fresh c.args.self.now c.step_in_turn.result c.step_in_turn.new.jobs c.step_in_turn.ensures
+    let tells = IsToldBy g.D.Device.inside g.D.Device.failures g.D.Device.taken g.D.Device.given g.D.Device.IsTold in
+    in_turn tells g.O.Opening.opening c.args.most 0 new_round fresh c.args.self.now c.step_in_turn.result c.step_in_turn.new.jobs c.step_in_turn.ensures

@@ -1,6 +1,7 @@
 use Rattle.std.proofs.Common.{Ok, Err, subst}
+use Rattle.mj_dev.specs.Told.{IsToldBy}
 use Rattle.mj_core.specs.Shown.{Shown}
-use Rattle.mj_core.specs.Gives.{CoreStepGives}
+use Rattle.mj_core.specs.Gives.{CoreStepGives, DeviceStepGives}
 use Rattle.mj_core.specs.declared.seen.Seen.{Seen}
 use Rattle.mj_run.proofs.Stepping.{seen_fitting}
 use Rattle.mj_run.proofs.jobs.JobsSessionsStepped.step.Goals as goal
@@ -13,10 +14,14 @@ standing-requires g c =
 
 pub returns-in-Ok : goal.returns-in-Ok
 returns-in-Ok g c =
+    let tells = IsToldBy g.D.Device.inside g.D.Device.failures g.D.Device.taken g.D.Device.given g.D.Device.IsTold in
     let P : Shown → Type 0 = λ old. CoreStepGives g.O.Opening.opening old c.args.step (Ok c.in-Ok.seen) c.step.new.self in
-    (c.in-Ok.seen, subst P c.self.view_is c.in-Ok.ensures.gives, c.standing.ensures)
+    let Q : Shown → Type 0 = λ old. DeviceStepGives tells g.O.Opening.opening old c.args.step (Ok c.in-Ok.seen) c.step.new.self in
+    (c.in-Ok.seen, subst P c.self.view_is c.in-Ok.ensures.gives, subst Q c.self.view_is c.in-Ok.ensures.called, c.standing.ensures)
 
 pub returns-in-Err : goal.returns-in-Err
 returns-in-Err g c =
+    let tells = IsToldBy g.D.Device.inside g.D.Device.failures g.D.Device.taken g.D.Device.given g.D.Device.IsTold in
     let P : Shown → Type 0 = λ old. CoreStepGives g.O.Opening.opening old c.args.step (Err c.in-Err.why) c.step.new.self in
-    subst P c.self.view_is c.in-Err.ensures.gives
+    let Q : Shown → Type 0 = λ old. DeviceStepGives tells g.O.Opening.opening old c.args.step (Err c.in-Err.why) c.step.new.self in
+    (subst P c.self.view_is c.in-Err.ensures.gives, subst Q c.self.view_is c.in-Err.ensures.called)

@@ -1,7 +1,0 @@
-use Rattle.std.proofs.Common.{◌≡◌, ℕ, ◌<◌, false, slice_get}
-use Rattle.mj_main.specs.Statuses.{event_faults}
-use Rattle.mj_main.proofs.jobs.has_faulted.Given as goal
-
--- no event up to here is a fault
-abbrev pub invariant-events : goal.invariant-events
-invariant-events g l = (k : ℕ) → k < l.at → event_faults (slice_get l.core.history k) ≡ false

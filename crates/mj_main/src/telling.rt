@@ -1,0 +1,79 @@
+// What is told of a run, be it one that was stepped or one of workers.
+
+ghost use Rattle.std.specs.Prelude.{◌≡◌, ◌≤◌, IfOk, IfSome, if◌then◌else◌};
+ghost use Rattle.mj_load.specs.Image.{routines_of};
+ghost use Rattle.mj_core.specs.Runs.{IsRun};
+ghost use Rattle.mj_report.specs.Faults.{has_faulted};
+ghost use Rattle.mj_report.specs.Traced.{IsHead};
+
+use crate::listings::save;
+use crate::locks::{Lockable, LockedFile};
+use crate::printing::{print, stopped, tell_stop, tell_trouble};
+use crate::stop::{FAULTED, ProgramError};
+use crate::traces::write_trace;
+use mj_command_line::Run;
+use mj_globs::Globals;
+use mj_load::Image;
+use mj_report::{Events, Trace, has_faulted, printed};
+use mj_sys::Opening;
+use std::io::Write;
+use std::rt::Files;
+
+/// Writes what so many jobs wrote, then why they were stopped, if they were, then the globals that they left and the trace, and gives the exit status: the
+/// greatest where several apply. Where memory was refused to the jobs the files stay as they are. Where the globals can't be written the trace still is. Where
+/// memory is refused here there is no status.
+pub fn tell_run<R, O, E, H, G>(
+    rt: &R,
+    order: &Run<'_>,
+    trace: &Option<Trace<'_>>,
+    lock: &Option<LockedFile<R::File>>,
+    image: &Image,
+    told: &H,
+    jobs: u32,
+    globals: &Globals,
+    stop: Option<ProgramError<'_>>,
+    out: &mut O,
+    err: &mut E,
+) -> Option<u8>
+where
+    R: Files + AllocGlobal,
+    R::File: Lockable,
+    O: Write,
+    E: Write,
+    H: Events,
+    G: Opening,
+    requires head { IfSome trace.now (λ t. IsHead image.now G.opening t.opening.items) }
+    requires run { IsRun (routines_of image.now) G.opening (H.history told.now) }
+    ensures { IfSome result (λ status. status ≤ 4) }
+{
+    let shown = match show(rt, told, jobs, out) {
+        Ok(status) => status,
+        Err(ProgramError::Memory) => return None,
+        Err(stop) => stopped(&stop, err),
+    };
+    let is_for_memory = matches!(&stop, Some(ProgramError::Memory));
+    let ended = tell_stop(stop, err);
+    if is_for_memory {
+        return Some(shown.max(ended));
+    }
+    let saved = match save(rt, globals, order.save, lock) {
+        Err(ProgramError::Memory) => return None,
+        done => tell_trouble(done, err),
+    };
+    let traced = tell_trouble(write_trace::<R, G, H>(rt, trace, image, told), err);
+    Some(shown.max(ended).max(saved).max(traced))
+}
+
+// Writes what the jobs wrote, and says whether one faulted.
+fn show<'a, R, O, H>(rt: &R, told: &H, jobs: u32, out: &mut O) -> Result<u8, ProgramError<'a>>
+where
+    R: Files + AllocGlobal,
+    O: Write,
+    H: Events,
+    ensures which { IfOk result (λ status. status ≡ (if has_faulted (H.history told.now) then 1 else 0)) }
+    ensures bound { IfOk result (λ status. status ≤ 1) }
+{
+    let bytes = printed(rt.alloc(), told, jobs)?;
+    print(&bytes, out)?;
+    Ok(if has_faulted(told) { FAULTED } else { 0 })
+}

@@ -1,0 +1,11 @@
+pub mod Asking
+pub mod Serving
+pub mod Staging
+pub mod Fronts
+pub mod Admitting
+pub mod Rounds
+pub mod Telling
+pub mod Standing
+pub mod Viewing
+pub mod Whole
+pub mod Pools

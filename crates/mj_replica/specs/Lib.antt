@@ -1,0 +1,7 @@
+pub mod Replays
+pub mod Playing
+pub mod Shows
+pub mod Replicas
+pub mod InTurn
+pub mod Views
+pub mod Laws

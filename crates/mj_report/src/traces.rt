@@ -1,0 +1,108 @@
+// The trace of a run.
+
+ghost use Rattle.std.specs.Prelude.{◌≡◌, ◌≤◌, ◌++◌, true, map, length, IfOk, IfSome, OnOk};
+ghost use Rattle.std.specs.List.{list_all};
+ghost use Rattle.mj_dev.specs.Shelves.{AreRising, count_of};
+ghost use Rattle.mj_load.specs.Image.{routines_of};
+ghost use Rattle.mj_sys.specs.System.{history_limit};
+ghost use Rattle.mj_core.specs.Runs.{IsRun};
+ghost use Rattle.mj_trace.specs.Trace.{opening_text, event_lines};
+ghost use Rattle.mj_trace.specs.Sized.{device_count_fits, event_fits};
+ghost use Rattle.mj_recorded.specs.Traces.{told_of, entries_of, IsReadBack};
+ghost use Rattle.mj_report.specs.Traced.{IsHead};
+
+use crate::history::Events;
+use mj_ask::{Entry, Start};
+use mj_dev::{Device, Pool};
+use mj_load::Image;
+use mj_recorded::traces_are_read_back;
+use mj_sys::Opening;
+use mj_trace::{put_event, put_opening};
+use std::alloc::{AllocError, Global};
+
+/// A trace that is to be written: where it goes, and what stands in it before the events.
+#[derive(Drop)]
+pub struct Trace<'a> {
+    /// the file to which it goes
+    pub file: &'a str,
+    /// the bytes before those of the events
+    pub opening: Vec<u8>,
+}
+
+/// The trace of a run that begins with these, where a file is named for it.
+pub fn trace_of<'a, D: Device>(
+    alloc: Global,
+    file: Option<&'a str>,
+    pool: &Pool<D>,
+    starts: &[Start],
+) -> Result<Option<Trace<'a>>, AllocError>
+    ensures text { IfOk result (λ trace. IfSome trace (λ trace. trace.opening.items ≡ opening_text (map count_of pool.now) (entries_of starts.now))) }
+    ensures sized { IfOk result (λ trace. IfSome trace (λ trace. list_all device_count_fits (map count_of pool.now) ≡ true)) }
+    ensures rising { IfOk result (λ trace. IfSome trace (λ trace. AreRising pool.now)) }
+{
+    let Some(file) = file else {
+        return Ok(None);
+    };
+    let counts = pool.counts()?;
+    let entries = entries(alloc, starts)?;
+    let mut opening = Vec::new(alloc);
+    put_opening(alloc, &mut opening, &counts, &entries)?;
+    Ok(Some(Trace { file, opening }))
+}
+
+// The entries at which jobs start.
+fn entries(alloc: Global, starts: &[Start]) -> Result<Vec<Entry>, AllocError>
+    ensures { IfOk result (λ entries. entries.items ≡ entries_of starts.now) }
+{
+    let mut entries = Vec::new(alloc);
+    'starts: for start in starts {
+        let entry = start.entry().try_clone()?;
+        entries.push(entry)?;
+    }
+    Ok(entries)
+}
+
+impl<'a> Trace<'a> {
+    /// Its bytes, of a run of these routines that began as it says: they are read back as the trace of the run, and a replay of that says that it is a run. A
+    /// run of more events than a core may make has a trace that no one reads.
+    pub fn run<O: Opening, H: Events>(
+        &self,
+        alloc: Global,
+        image: &Image,
+        told: &H,
+    ) -> Result<Vec<u8>, AllocError>
+        requires head { IsHead image.now O.opening self.now.opening.items }
+        requires run { IsRun (routines_of image.now) O.opening (H.history told.now) }
+        ensures text { IfOk result (λ bytes. bytes.items ≡ self.now.opening.items ++ event_lines (told_of (H.history told.now))) }
+        ensures read { length (H.history told.now) ≤ history_limit
+            → IfOk result (λ bytes. IsReadBack image.now O.opening (H.history told.now) bytes.items) }
+    {
+        traces_are_read_back();
+        self.bytes(alloc, told)
+    }
+
+    /// Its bytes: a line for each event behind what stands before them.
+    pub fn bytes<H: Events>(&self, alloc: Global, told: &H) -> Result<Vec<u8>, AllocError>
+        ensures text { IfOk result (λ bytes. bytes.items ≡ self.now.opening.items ++ event_lines (told_of (H.history told.now))) }
+        ensures sized { IfOk result (λ bytes. list_all event_fits (told_of (H.history told.now)) ≡ true) }
+    {
+        let mut bytes = Vec::new(alloc);
+        bytes.extend_from_slice(&self.opening)?;
+        put_events(alloc, &mut bytes, told)?;
+        Ok(bytes)
+    }
+}
+
+// Puts a line for each event to the end.
+fn put_events<H: Events>(alloc: Global, bytes: &mut Vec<u8>, told: &H) -> Result<(), AllocError>
+    ensures text { OnOk result (bytes.new.items ≡ bytes.old.items ++ event_lines (told_of (H.history told.now))) }
+    ensures sized { OnOk result (list_all event_fits (told_of (H.history told.now)) ≡ true) }
+{
+    'events: for at in 0..told.count() {
+        let Some((job, ask, reply)) = told.event_at(at) else {
+            unreachable!();
+        };
+        put_event(alloc, bytes, job, ask, reply)?;
+    }
+    Ok(())
+}

@@ -1,0 +1,27 @@
+use Rattle.std.proofs.Common.{◌≤◌, ℕ, sym, ◌∙◌, subst}
+use Rattle.mj_jobs.specs.Rows.{rows_limit}
+use Rattle.mj_work.proofs.Locking.{claimed_still, was_served, claim_still}
+use Rattle.mj_work.proofs.locked.Locked.serve.Goals as goal
+
+pub invariant_of-self-clause-counted : goal.invariant_of-self-clause-counted
+invariant_of-self-clause-counted g c =
+    c.args.self.now.counted
+    ∙ sym (claimed_still g.O.Opening.opening c.args.self.now.system c.serve_at.new.system c.args.claim.now c.serve_at.new.claim c.args.ask.now c.args.place.now c.args.late
+    c.serve_at.result c.serve_at.ensures.ok c.serve_at.ensures.kept)
+
+pub invariant_of-self-clause-few : goal.invariant_of-self-clause-few
+invariant_of-self-clause-few g c =
+    let P : ℕ → Type 0 = λ n. n ≤ rows_limit in
+    subst P
+    (sym (claimed_still g.O.Opening.opening c.args.self.now.system c.serve_at.new.system c.args.claim.now c.serve_at.new.claim c.args.ask.now c.args.place.now c.args.late
+    c.serve_at.result c.serve_at.ensures.ok c.serve_at.ensures.kept)) c.args.self.now.few
+
+pub returns-clause-ok : goal.returns-clause-ok
+returns-clause-ok g c =
+    was_served g.O.Opening.opening c.args.self.now.system c.serve_at.new.system c.args.claim.now c.serve_at.new.claim c.args.ask.now c.args.place.now c.args.late
+    c.serve_at.result c.serve_at.ensures.ok
+
+pub returns-clause-err : goal.returns-clause-err
+returns-clause-err g c =
+    claim_still g.O.Opening.opening c.args.self.now.system c.serve_at.new.system c.args.claim.now c.serve_at.new.claim c.args.ask.now c.args.place.now c.args.late
+    c.serve_at.result c.serve_at.ensures.kept
