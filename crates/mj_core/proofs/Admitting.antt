@@ -22,6 +22,7 @@ use Rattle.mj_core.specs.Ties.{Placed, stand_of}
 use Rattle.mj_core.specs.Kept.{AreKept, claim_of, logs_of, turns_of, stands_of}
 use Rattle.mj_core.proofs.Keeping.{keeps_claim, tied_first, keeps_slot, shows_slot}
 use Rattle.mj_core.proofs.Giving.{each_more}
+use Rattle.mj_core.proofs.Stepping.{stands_nowhere}
 
 -- where none waited, one waits now, or all were claimed
 pub claims : {A : Type 0} (ans : Answering A) (image : Loaded) (opening : Shared) (old new : Recorded) (slots : List (Placed A)) (order : List Happened)
@@ -65,7 +66,7 @@ first_has false = refl
 module _ {A : Type 0} (ans : Answering A) (image : Loaded) (opening : Shared) (system : Recorded) (slots : List (Placed A)) (order : List Happened) (waiting : Option (Claimed × Heard))
     (kept : AreKept ans image opening system slots (claim_of waiting) order) (claim : Claimed) (session : Heard) (is : waiting ≡ Some (claim, session))
     (number : ℕ) (entry : Entry) (values : List (Option (List ℕ))) (numbered : number ≡ claim.job) (at : entry ≡ claim.start.entry) (with : values ≡ claim.start.values)
-    (job : Running) (first : job.run.log ≡ []) (rests : job.run.spent ≡ 0)
+    (job : Running) (first : job.run.log ≡ []) (rests : job.run.spent ≡ 0) (idle : job.run.pending ≡ None)
     (run : IsRunOfAfter image (record { job = number; entry = entry; values = values }) 0 job)
     (x : A) (told : ans.IsOf x []) (held : HasAll ans x (bytes_eq principal))
     (more : List (Placed A)) (end : more ≡ slots ++ record { claim = claim; job = job; answerer = x; at_ask = false } ∷ []) where
@@ -92,18 +93,18 @@ module _ {A : Type 0} (ans : Answering A) (image : Loaded) (opening : Shared) (s
       let P : List (Placed A) → Type 0 = λ l. AreKept ans image opening system l None order in
       let Q : Option (Claimed × Heard) → Type 0 = λ w. AreKept ans image opening system more (claim_of w) order in
       subst Q (sym none) (subst P (sym end) (keeps_slot ans image opening system slots claim order kept_so slot refl first
-      (tied_first ans image opening system slots claim order kept_so job x runs first told_so) (inl refl) held))
+      (tied_first ans image opening system slots claim order kept_so job x runs first told_so) (inl (refl, idle)) held))
 
   pub slot_woven : woven (logs_of more) order ≡ woven (logs_of slots) order
   slot_woven =
       ap (λ l. woven (logs_of l) order) end
-      ∙ shows_slot ans image opening system slots claim order kept_so slot refl first (tied_first ans image opening system slots claim order kept_so job x runs first told_so) (inl refl) held
+      ∙ shows_slot ans image opening system slots claim order kept_so slot refl first (tied_first ans image opening system slots claim order kept_so job x runs first told_so) (inl (refl, idle)) held
 
   pub slot_turns : (n : ℕ) → turns_of n more ≡ turns_of n slots
   slot_turns n = ap (turns_of n) end ∙ each_more 0 (λ (s : Placed A). s.job.run.spent) n slots slot rests
 
   pub slot_stands : (n : ℕ) → stands_of n more ≡ stands_of n slots
-  slot_stands n = ap (stands_of n) end ∙ each_more None (λ (s : Placed A). stand_of s) n slots slot refl
+  slot_stands n = ap (stands_of n) end ∙ each_more None (λ (s : Placed A). stand_of s) n slots slot (stands_nowhere job.run.pending job.run.at.state idle)
 
 -- ---- one row after the other
 

@@ -6,7 +6,7 @@ use Rattle.std.proofs.lemmas.Option.{slice_get_within}
 use denote.Enum.Bare.{sameb}
 use Rattle.mj_ask.specs.declared.ask.Reply.{Reply}
 use Rattle.mj_load.specs.Image.{Loaded}
-use Rattle.mj_jobs.specs.Rows.{Row, row_at, IsLive}
+use Rattle.mj_jobs.specs.Rows.{Row, row_at, IsLive, rows_limit}
 use Rattle.mj_jobvm.specs.declared.job.Turn.{Turn}
 use Rattle.mj_jobvm.specs.declared.job.Turn.TheVariants as turns
 use Rattle.mj_sys.specs.Shared.{Shared}
@@ -47,12 +47,12 @@ shown_same image slots slots' order over n history turns stands =
     ∙ ap (λ (d : List (Option AtAsk)). let s : Shown = record { image = image; history = h; over = over; spent = turns_of n slots; stands = d } in s) stands
 
 -- what is seen of a core of which nothing was asked
-pub shown_first : {A : Type 0} (image : Loaded) (slots : List (Placed A)) (order : List Happened) (over : List Bool) → slots ≡ [] → order ≡ [] → over ≡ replicate 255 false
-    → shown image slots order over 255 ≡ record { image = image; history = []; over = replicate 255 false; spent = replicate 255 0; stands = replicate 255 None }
+pub shown_first : {A : Type 0} (image : Loaded) (slots : List (Placed A)) (order : List Happened) (over : List Bool) → slots ≡ [] → order ≡ [] → over ≡ replicate rows_limit false
+    → shown image slots order over rows_limit ≡ record { image = image; history = []; over = replicate rows_limit false; spent = replicate rows_limit 0; stands = replicate rows_limit None }
 shown_first {A = A} image slots order over none_there none_yet nobody =
-    ap (λ (s : List (Placed A)). shown image s order over 255) none_there
-    ∙ ap (λ o. shown {A = A} image [] o over 255) none_yet
-    ∙ ap (λ v. shown {A = A} image [] [] v 255) nobody
+    ap (λ (s : List (Placed A)). shown image s order over rows_limit) none_there
+    ∙ ap (λ o. shown {A = A} image [] o over rows_limit) none_yet
+    ∙ ap (λ v. shown {A = A} image [] [] v rows_limit) nobody
 
 module _ (means : Means) (given : Option Reply) (opening : Shared) (old : Shown) (step : Step) where
   pub no_job : row_at (state_of opening old.history).rows step.job ≡ None → StepGivesBy means opening old step given (Err refusals.NoJob) old

@@ -2,6 +2,7 @@
 use Rattle.std.specs.Prelude.{IsSome, slice_get, slice_set, Result, Ok, Err, IfOk}
 use Rattle.std.proofs.Common.{◌≡◌, ℕ, suc, ◌<◌, List, Bool, true, false, Option, Some, None, refl, sym, ap, ◌∙◌, subst, inl, inr}
 use Rattle.std.specs.declared.alloc.AllocError.{AllocError}
+use Rattle.mj_ask.specs.declared.ask.Ask.{Ask}
 use Rattle.mj_load.specs.Image.{Loaded, routines_of}
 use Rattle.mj_jobs.specs.Rows.{Row, row_at, IsLive}
 use Rattle.mj_semantics.specs.State.{places}
@@ -9,7 +10,7 @@ use Rattle.mj_semantics.specs.Outcome.{Needs}
 use Rattle.mj_semantics.specs.Job.{Start, next}
 use Rattle.mj_jobvm.specs.Run.{Log, replies_of, GoesOn, HasEnded}
 use Rattle.mj_jobvm.specs.Jobs.{Running, IsRunOf}
-use Rattle.mj_jobvm.specs.Told.{AdvanceTells, spent_after}
+use Rattle.mj_jobvm.specs.Told.{AdvanceTells, IsWaitingAt, spent_after}
 use Rattle.mj_jobvm.specs.declared.job.Turn.{Turn}
 use Rattle.mj_jobvm.specs.declared.job.Turn.TheVariants as turns
 use Rattle.mj_sys.specs.Shared.{Shared}
@@ -31,7 +32,7 @@ use Rattle.mj_core.proofs.Keeping.{keeps_still}
 use Rattle.mj_core.proofs.Owning.{own_still}
 use Rattle.mj_core.proofs.Ended.{has_halted}
 use Rattle.mj_core.proofs.Giving.{shown_still, may_go_shown, gives_ran, move}
-use Rattle.mj_core.proofs.Stepping.{unasked, may_go}
+use Rattle.mj_core.proofs.Stepping.{unasked, may_go, stands_nowhere}
 use Rattle.mj_core.proofs.Views.{shown_run}
 
 -- whether a job that was let go on stands at an ask then
@@ -40,6 +41,11 @@ is_at_ask (Ok turns.Asks) = true
 is_at_ask (Ok turns.Ran) = false
 is_at_ask (Ok turns.Ended) = false
 is_at_ask (Err e) = false
+
+-- It waits then just where it asks: where memory was refused on its way, it doesn't.
+abbrev pub WaitsThen : Result Turn AllocError → Option Ask → Type 0
+WaitsThen (Ok turn) pending = IsWaitingAt turn pending
+WaitsThen (Err e) pending = pending ≡ None
 
 -- and how it went, as it is told
 abbrev pub turn_told : Result Turn AllocError → Result Turn Refusal
@@ -73,7 +79,7 @@ module _ {A : Type 0} (ans : Answering A) (image : Loaded) (opening : Shared) (s
     shows = ap (λ p. stand_by p job.run.log job.run.at.state) told.1
 
     standing : IsStanding image (slot_at true)
-    standing = inr (at, shows, inl (told.2, refl))
+    standing = inr (refl, (at, shows, inl (told.2, refl)))
 
     keeps_asks : AreKept ans image opening system (slice_set slots k (slot_at true)) waiting order
     keeps_asks = keeps_still ans image opening system slots waiting order kept k slot (slot_at true) here refl (placed_on true) standing log (λ name has is. is)
@@ -91,20 +97,22 @@ module _ {A : Type 0} (ans : Answering A) (image : Loaded) (opening : Shared) (s
               ∙ ap (λ d. stands_so (shown image slots order over n) (suc k) d) shows,
         )
 
-  -- where it doesn't
-  keeps_goes : AreKept ans image opening system (slice_set slots k (slot_at false)) waiting order
-  keeps_goes = keeps_still ans image opening system slots waiting order kept k slot (slot_at false) here refl (placed_on false) (inl refl) log (λ name has is. is)
+  -- where it doesn't, and so doesn't wait
+  keeps_goes : job.run.pending ≡ None → AreKept ans image opening system (slice_set slots k (slot_at false)) waiting order
+  keeps_goes none =
+      keeps_still ans image opening system slots waiting order kept k slot (slot_at false) here refl (placed_on false) (inl (refl, none)) log (λ name has is. is)
 
   -- what is told of it
   abbrev Told : Result Turn AllocError → Type 0
   Told went = IfOk went (λ turn. AdvanceTells (routines_of image) (start_of slot) turn job.run)
 
   -- all is kept, however it went
-  pub keeps_ready : (went : Result Turn AllocError) → Told went → AreKept ans image opening system (slice_set slots k (slot_at (is_at_ask went))) waiting order
-  keeps_ready (Ok turns.Asks) told = keeps_asks told
-  keeps_ready (Ok turns.Ran) told = keeps_goes
-  keeps_ready (Ok turns.Ended) told = keeps_goes
-  keeps_ready (Err e) told = keeps_goes
+  pub keeps_ready : (went : Result Turn AllocError) → Told went → WaitsThen went job.run.pending
+      → AreKept ans image opening system (slice_set slots k (slot_at (is_at_ask went))) waiting order
+  keeps_ready (Ok turns.Asks) told waits = keeps_asks told
+  keeps_ready (Ok turns.Ran) told waits = keeps_goes waits
+  keeps_ready (Ok turns.Ended) told waits = keeps_goes waits
+  keeps_ready (Err e) told waits = keeps_goes waits
 
   module _ (over : List Bool) (n : ℕ) (few : k < n) (row : Row) (is : row_at (state_of opening (woven (logs_of slots) order)).rows (suc k) ≡ Some row)
       (live : IsLive (state_of opening system.history).rows (suc k)) where
@@ -117,11 +125,11 @@ module _ {A : Type 0} (ans : Answering A) (image : Loaded) (opening : Shared) (s
 
     -- it went on for all turns
     readies_ran : AdvanceTells (routines_of image) (start_of slot) turns.Ran job.run → job.run.spent ≡ spent_after {E = AllocError} (Ok turns.Ran) 10000 slot.job.run.spent
-        → MayGoOn (stand_of slot) → Readies opening (shown image slots order over n) (suc k) row (Ok turns.Ran) new
-    readies_ran told spent may =
+        → MayGoOn (stand_of slot) → job.run.pending ≡ None → Readies opening (shown image slots order over n) (suc k) row (Ok turns.Ran) new
+    readies_ran told spent may none =
         let L : Log → Type 0 = λ l. GoesOn (routines_of image) (start_of slot) l job.run.spent in
-        gives_ran ans image opening system slots waiting order kept over n k few slot (slot_at false) here refl row is false None log (λ name has h. h) (placed_on false) (inl refl)
-        spent (subst L log told) refl may
+        gives_ran ans image opening system slots waiting order kept over n k few slot (slot_at false) here refl row is false None log (λ name has h. h) (placed_on false)
+        (inl (refl, none)) spent (subst L log told) (stands_nowhere job.run.pending job.run.at.state none) may
 
     -- one that goes on hasn't ended
     readies_ended : AdvanceTells (routines_of image) (start_of slot) turns.Ended job.run
@@ -136,24 +144,26 @@ module _ {A : Type 0} (ans : Answering A) (image : Loaded) (opening : Shared) (s
         absurd ((has_halted (routines_of image) opening (woven (logs_of slots) order) run_is (suc k) row is over_now).1 live_there)
 
     -- memory was refused
-    readies_none : job.run.spent ≡ slot.job.run.spent → MayGoOn (stand_of slot) → Readies opening (shown image slots order over n) (suc k) row (Err refusals.Memory) new
-    readies_none spent may = (
+    readies_none : job.run.spent ≡ slot.job.run.spent → MayGoOn (stand_of slot) → job.run.pending ≡ None
+        → Readies opening (shown image slots order over n) (suc k) row (Err refusals.Memory) new
+    readies_none spent may none = (
       refl,
       inr (
         may_go_shown n k slots slot few here may,
-        shown_still ans image opening system slots waiting order kept over n k few slot (slot_at false) here refl row is false None log (λ name has h. h) (placed_on false) (inl refl)
-            spent,
+        shown_still ans image opening system slots waiting order kept over n k few slot (slot_at false) here refl row is false None log (λ name has h. h) (placed_on false)
+            (inl (refl, none)) spent
+            ∙ ap (λ d. stands_so (shown image slots order over n) (suc k) d) (stands_nowhere job.run.pending job.run.at.state none),
       ),
     )
 
     -- what it gives, however it went
     pub readies : (went : Result Turn AllocError) → Told went → job.run.spent ≡ spent_after went 10000 slot.job.run.spent
-        → (IsSome slot.job.run.pending → went ≡ Ok turns.Asks)
+        → (IsSome slot.job.run.pending → went ≡ Ok turns.Asks) → WaitsThen went job.run.pending
         → Readies opening (shown image slots order over n) (suc k) row (turn_told went) (shown image (slice_set slots k (slot_at (is_at_ask went))) order over n)
-    readies (Ok turns.Asks) told spent again = readies_asks told over n few row is spent
-    readies (Ok turns.Ran) told spent again = readies_ran told spent (goes (λ some. (let no : Ok turns.Ran ≡ Ok turns.Asks = again some in cc)))
-    readies (Ok turns.Ended) told spent again = readies_ended told
-    readies (Err e) told spent again = readies_none spent (goes (λ some. (let no : Err e ≡ Ok turns.Asks = again some in cc)))
+    readies (Ok turns.Asks) told spent again waits = readies_asks told over n few row is spent
+    readies (Ok turns.Ran) told spent again waits = readies_ran told spent (goes (λ some. (let no : Ok turns.Ran ≡ Ok turns.Asks = again some in cc))) waits
+    readies (Ok turns.Ended) told spent again waits = readies_ended told
+    readies (Err e) told spent again waits = readies_none spent (goes (λ some. (let no : Err e ≡ Ok turns.Asks = again some in cc))) waits
 
   -- where it asks, it stands at its ask
   pub at_ask : (went : Result Turn AllocError) → went ≡ Ok turns.Asks

@@ -4,7 +4,7 @@ use Rattle.std.proofs.Common.{◌≡◌, ℕ, suc, ◌<◌, ◌≤◌, List, [],
 use Rattle.std.proofs.lemmas.Option.{slice_get_within}
 use Rattle.mj_ask.specs.declared.ask.Ask.{Ask}
 use Rattle.mj_load.specs.Image.{Loaded, routines_of}
-use Rattle.mj_jobs.specs.Rows.{Row, row_at}
+use Rattle.mj_jobs.specs.Rows.{Row, row_at, rows_limit}
 use Rattle.mj_semantics.specs.State.{State, places}
 use Rattle.mj_semantics.specs.Job.{Start}
 use Rattle.mj_jobvm.specs.Run.{Log}
@@ -18,11 +18,12 @@ use Rattle.mj_core.specs.Shown.{AtAsk, Shown, stand_at}
 use Rattle.mj_core.specs.Gives.{StandsAt}
 use Rattle.mj_core.specs.Asking.{IsSeenAt}
 use Rattle.mj_core.specs.Answering.{Answering}
-use Rattle.mj_core.specs.Ties.{Placed, start_of, stand_by, stand_of}
+use Rattle.mj_core.specs.Ties.{Placed, IsStanding, stand_by, waits_by, stand_of}
 use Rattle.mj_core.specs.Kept.{AreKept, IsSeenSlot, logs_of, shown}
 use Rattle.mj_core.proofs.Histories.{same_state, starts, none_past}
 use Rattle.mj_core.proofs.Views.{shown_run}
 use Rattle.mj_core.proofs.Giving.{each_at, each_past}
+use Rattle.mj_core.proofs.Stepping.{stands_nowhere}
 
 -- what holds is so where there is none
 pub if_none : {X P : Type 0} (r : Option X) → P → IfNone r P
@@ -52,11 +53,11 @@ seen_by None log s at is = by (reverse log) is where
       subst P same (refl, refl, refl)
 
 module _ {A : Type 0} (ans : Answering A) (image : Loaded) (opening : Shared) (system : Recorded) (slots : List (Placed A)) (waiting : Option Claimed) (order : List Happened)
-    (kept : AreKept ans image opening system slots waiting order) (over : List Bool) (self : Shown) (view : shown image slots order over 255 ≡ self)
+    (kept : AreKept ans image opening system slots waiting order) (over : List Bool) (self : Shown) (view : shown image slots order over rows_limit ≡ self)
     (job k : ℕ) (number : job ≡ suc k) where
   -- the slot of a job is as it is shown
-  module _ (few : length (state_of opening system.history).rows ≤ 255) (slot : Placed A) (here : slice_get slots k ≡ Some slot) where
-    within : k < 255
+  module _ (few : length (state_of opening system.history).rows ≤ rows_limit) (slot : Placed A) (here : slice_get slots k ≡ Some slot) where
+    within : k < rows_limit
     within =
         let its = shown_run ans image opening system slots waiting order kept k slot here in
         let less : k < length (state_of opening system.history).rows =
@@ -64,7 +65,7 @@ module _ {A : Type 0} (ans : Answering A) (image : Loaded) (opening : Shared) (s
         (ap (λ (s : Shared). row_at s.rows (suc k)) (sym (same_state ans image opening system slots waiting order kept)) ∙ its.1) in
         omega (arith, few, less)
 
-    first : IsSeenSlot opening (shown image slots order over 255) (suc k) slot
+    first : IsSeenSlot opening (shown image slots order over rows_limit) (suc k) slot
     first =
         let its = shown_run ans image opening system slots waiting order kept k slot here in
         let at = kept.tied k slot here in
@@ -73,21 +74,25 @@ module _ {A : Type 0} (ans : Answering A) (image : Loaded) (opening : Shared) (s
           there = its.1;
           run = its.2;
           log = sym at.logged;
-          shown = each_at None (λ (s : Placed A). stand_of s) 255 k slots slot within here;
+          shown = each_at None (λ (s : Placed A). stand_of s) rows_limit k slots slot within here;
           stands = stands its.0 its.1 at.stands;
         } where
           stands : (row : Row) → row_at (state_of opening (woven (logs_of slots) order)).rows (suc k) ≡ Some row
-              → (slot.at_ask ≡ false) ⊎ ((to : AtAsk) × (stand_of slot ≡ Some to) × StandsAt (routines_of image) (start_of slot) slot.job.run.log to)
-              → (slot.at_ask ≡ false)
-              ⊎ ((to : AtAsk) × (stand_of slot ≡ Some to) × StandsAt (routines_of image) (start_in (suc k) row.start) (log_of (suc k) (woven (logs_of slots) order)) to)
+              → IsStanding image slot
+              → ((slot.at_ask ≡ false) × (slot.job.run.pending ≡ None))
+              ⊎ ((slot.at_ask ≡ true)
+              × ((to : AtAsk) × (stand_of slot ≡ Some to) × StandsAt (routines_of image) (start_in (suc k) row.start) (log_of (suc k) (woven (logs_of slots) order)) to))
           stands row is (inl none) = inl none
-          stands row is (inr (to, shows, so)) =
+          stands row is (inr (on, (to, shows, so))) =
               let P : Start → Type 0 = λ s. StandsAt (routines_of image) s slot.job.run.log to in
               let Q : Log → Type 0 = λ l. StandsAt (routines_of image) (start_in (suc k) row.start) l to in
               inr (
-                to,
-                shows,
-                subst Q (sym (kept.tied k slot here).logged) (subst P (starts ans image opening system slots waiting order kept k slot row here is) so),
+                on,
+                (
+                  to,
+                  shows,
+                  subst Q (sym (kept.tied k slot here).logged) (subst P (starts ans image opening system slots waiting order kept k slot row here is) so),
+                ),
               )
 
     pub seen_slot : IsSeenSlot opening self job slot
@@ -103,25 +108,37 @@ module _ {A : Type 0} (ans : Answering A) (image : Loaded) (opening : Shared) (s
       let Q : ℕ → Type 0 = λ j. (log_of j self.history ≡ []) × (stand_at self.stands j ≡ None) in
       subst Q (sym number) (subst P view (
         none_past ans image opening system slots waiting order kept k past,
-        each_past None (λ (s : Placed A). stand_of s) 255 k slots past,
+        each_past None (λ (s : Placed A). stand_of s) rows_limit k slots past,
       ))
 
 -- what is seen of a slot that stands at an ask, and of one that doesn't
 module _ {A : Type 0} (opening : Shared) (self : Shown) (job : ℕ) (slot : Placed A) (seen : IsSeenSlot opening self job slot) where
   pub stands_none : slot.at_ask ≡ false → stand_at self.stands job ≡ None
-  stands_none off = seen.shown ∙ ap (λ b. if b then stand_by slot.job.run.pending slot.job.run.log slot.job.run.at.state else None) off
+  stands_none off =
+      let run = slot.job.run in
+      seen.shown
+      ∙ ap (λ b. if b then stand_by run.pending run.log run.at.state else waits_by run.pending run.at.state) off
+      ∙ stands_nowhere run.pending run.at.state (by seen.stands) where
+        by : ((slot.at_ask ≡ false) × (slot.job.run.pending ≡ None))
+            ⊎ ((slot.at_ask ≡ true)
+            × ((at : AtAsk) × (stand_of slot ≡ Some at) × StandsAt (routines_of self.image) (start_in job seen.row.start) (log_of job self.history) at))
+            → slot.job.run.pending ≡ None
+        by (inl none) = none.1
+        by (inr some) = absurd (let no : true ≡ false = sym some.0 ∙ off in cc)
 
   pub stands_some : slot.at_ask ≡ true
       → (at : AtAsk) × (stand_at self.stands job ≡ Some at) × IsSeenAt slot.job.run at
       × StandsAt (routines_of self.image) (start_in job seen.row.start) (log_of job self.history) at
   stands_some on = by seen.stands where
-    by : (slot.at_ask ≡ false) ⊎ ((at : AtAsk) × (stand_of slot ≡ Some at) × StandsAt (routines_of self.image) (start_in job seen.row.start) (log_of job self.history) at)
+    by : ((slot.at_ask ≡ false) × (slot.job.run.pending ≡ None))
+        ⊎ ((slot.at_ask ≡ true)
+        × ((at : AtAsk) × (stand_of slot ≡ Some at) × StandsAt (routines_of self.image) (start_in job seen.row.start) (log_of job self.history) at))
         → (at : AtAsk) × (stand_at self.stands job ≡ Some at) × IsSeenAt slot.job.run at
         × StandsAt (routines_of self.image) (start_in job seen.row.start) (log_of job self.history) at
-    by (inl off) = absurd (let no : true ≡ false = sym on ∙ off in cc)
-    by (inr (at, shows, so)) =
+    by (inl off) = absurd (let no : true ≡ false = sym on ∙ off.0 in cc)
+    by (inr (also, (at, shows, so))) =
         let run = slot.job.run in
-        let is : stand_by run.pending run.log run.at.state ≡ Some at = ap (λ b. if b then stand_by run.pending run.log run.at.state else None) (sym on) ∙ shows in
+        let is : stand_by run.pending run.log run.at.state ≡ Some at = ap (λ b. if b then stand_by run.pending run.log run.at.state else waits_by run.pending run.at.state) (sym on) ∙ shows in
         (at, seen.shown ∙ shows, seen_by run.pending run.log run.at.state at is, so)
 
   pub stands_beside : slot.at_ask ≡ true → (at : AtAsk) (row : Row) → stand_at self.stands job ≡ Some at → row_at (state_of opening self.history).rows job ≡ Some row

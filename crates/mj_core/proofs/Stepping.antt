@@ -31,7 +31,7 @@ use Rattle.mj_core.specs.Shown.{AtAsk}
 use Rattle.mj_core.specs.Gives.{Waits, StandsAt, answered, MayGoOn, IsTimely, IsStepRefused}
 use Rattle.mj_core.specs.Answering.{Answering, Stays}
 use Rattle.mj_core.specs.Meaning.{IsOfDevice}
-use Rattle.mj_core.specs.Ties.{Placed, IsJobOf, IsClaimIn, IsTied, IsStanding, start_of, stand_by, stand_in, stand_of, Steps, IsStill, JobIsTold, Talks, Shares, IsMuted, GoesOnBy}
+use Rattle.mj_core.specs.Ties.{Placed, IsJobOf, IsClaimIn, IsTied, IsStanding, start_of, stand_by, stand_in, waits_by, stand_of, Steps, IsStill, JobIsTold, Talks, Shares, IsMuted, GoesOnBy}
 use Rattle.mj_core.proofs.Owning.{own_still, own_talk, own_share}
 
 -- nothing but the place in the private run changes
@@ -128,8 +128,8 @@ unasked None nothing = refl
 unasked (Some a) nothing = absurd (nothing refl)
 
 -- so it may go on, whether it stands at an ask or not
-pub may_go : (pending : Option Ask) (log : Log) (s : State) (asks : Bool) → pending ≡ None → MayGoOn (if asks then stand_by pending log s else None)
-may_go pending log s false none at is = absurd (none-some at is)
+pub may_go : (pending : Option Ask) (log : Log) (s : State) (asks : Bool) → pending ≡ None → MayGoOn (if asks then stand_by pending log s else waits_by pending s)
+may_go pending log s false none at is = absurd (none-some at (ap (λ p. waits_by p s) (sym none) ∙ is))
 may_go pending log s true none at is = by (reverse log) (ap (λ p. stand_by p log s) (sym none) ∙ is) where
   by : (r : Log) → (elim r as (λ _. Option AtAsk) [ [] ↦ None | e ∷ rest ↦ Some (record { ask = e.0; locals = s.locals; places = places s; answered = true }) ]) ≡ Some at
       → at.answered ≡ true
@@ -138,6 +138,10 @@ may_go pending log s true none at is = by (reverse log) (ap (λ p. stand_by p lo
       let some : Some (record { ask = e.0; locals = s.locals; places = places s; answered = true }) ≡ Some at = one in
       let same : record { ask = e.0; locals = s.locals; places = places s; answered = true } ≡ at = cc in
       sym (ap (λ (t : AtAsk). t.answered) same)
+
+-- and one that is said to stand at none stands at none
+pub stands_nowhere : (pending : Option Ask) (s : State) → pending ≡ None → waits_by pending s ≡ None
+stands_nowhere pending s none = ap (λ p. waits_by p s) none
 
 -- what is said of the slot of a job whose ask was served or not, and of the system: what a step ensures
 pub record IsStepped {A : Type 0} (ans : Answering A) (image : Loaded) (opening : Shared) (late : Bool) (given : Option Reply) (old : Recorded) (slot : Placed A)
@@ -185,7 +189,7 @@ module _ {A : Type 0} (ans : Answering A) (image : Loaded) (opening : Shared) (o
   stands_by to l shows from is stands =
       let P : Start → Type 0 = λ st. StandsAt (routines_of image) st job'.run.log to in
       let Q : Log → Type 0 = λ k. StandsAt (routines_of image) start k to in
-      inr (to, shows, subst P (sym from) (subst Q (sym is) stands))
+      inr (refl, (to, shows, subst P (sym from) (subst Q (sym is) stands)))
 
   -- it isn't told, and waits
   shows_still : job' ≡ mid → stand_of slot' ≡ Some at

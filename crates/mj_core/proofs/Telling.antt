@@ -62,11 +62,8 @@ module _ (xs new : List Named) (late : Bool) (reply : Reply) where
     done (inr is) = by_done (asks.Device device device_asks.End) replies.Failed is refl (λ q. cc)
 
   pub fits_answer : (ask : Ask) → Answers xs ask late (answers.Told reply) new → IsFit ask
-  fits_answer (asks.Device d device_asks.Begin) a = by_call d device_asks.Begin a
-  fits_answer (asks.Device d (device_asks.Write bytes)) a = by_call d (device_asks.Write bytes) a
-  fits_answer (asks.Device d (device_asks.Line t)) a = by_call d (device_asks.Line t) a
-  fits_answer (asks.Device d (device_asks.Byte t)) a = by_call d (device_asks.Byte t) a
   fits_answer (asks.Device d device_asks.End) a = by_end d a
+  fits_answer (asks.Device d ask) a = by_call d ask a
   fits_answer (asks.Rest t) a = by_done (asks.Rest t) replies.Done a.0 refl (λ q. cc)
   fits_answer (asks.Shared x) a = absurd a
 
@@ -120,28 +117,19 @@ module _ (xs new : List Named) (late : Bool) where
   end_short device (inr t) = not_told answers.Memory t.0.session (λ r q. cc) t.2
 
   pub waits_answer : (ask : Ask) → Answers xs ask late answers.NotYet new → Waits xs new ask late
-  waits_answer (asks.Device d device_asks.Begin) a = call_waits d device_asks.Begin a
-  waits_answer (asks.Device d (device_asks.Write bytes)) a = call_waits d (device_asks.Write bytes) a
-  waits_answer (asks.Device d (device_asks.Line t)) a = call_waits d (device_asks.Line t) a
-  waits_answer (asks.Device d (device_asks.Byte t)) a = call_waits d (device_asks.Byte t) a
   waits_answer (asks.Device d device_asks.End) a = absurd (end_waits d a)
+  waits_answer (asks.Device d ask) a = call_waits d ask a
   waits_answer (asks.Rest t) a = absurd (let no : answers.NotYet ≡ answers.Told replies.Done = a.0 in cc)
   waits_answer (asks.Shared x) a = absurd a
 
   pub unfit_answer : (ask : Ask) → Answers xs ask late answers.Unfit new → IsShut xs ask × (new ≡ xs)
-  unfit_answer (asks.Device d device_asks.Begin) a = call_unfit d device_asks.Begin refl a
-  unfit_answer (asks.Device d (device_asks.Write bytes)) a = call_unfit d (device_asks.Write bytes) refl a
-  unfit_answer (asks.Device d (device_asks.Line t)) a = call_unfit d (device_asks.Line t) refl a
-  unfit_answer (asks.Device d (device_asks.Byte t)) a = call_unfit d (device_asks.Byte t) refl a
   unfit_answer (asks.Device d device_asks.End) a = end_unfit d a
+  unfit_answer (asks.Device d ask) a = call_unfit d ask refl a
   unfit_answer (asks.Rest t) a = absurd (let no : answers.Unfit ≡ answers.Told replies.Done = a.0 in cc)
   unfit_answer (asks.Shared x) a = absurd a
 
   pub short_answer : (ask : Ask) → Answers xs ask late answers.Memory new → AreLeft xs new
-  short_answer (asks.Device d device_asks.Begin) a = call_short d device_asks.Begin a
-  short_answer (asks.Device d (device_asks.Write bytes)) a = call_short d (device_asks.Write bytes) a
-  short_answer (asks.Device d (device_asks.Line t)) a = call_short d (device_asks.Line t) a
-  short_answer (asks.Device d (device_asks.Byte t)) a = call_short d (device_asks.Byte t) a
   short_answer (asks.Device d device_asks.End) a = absurd (end_short d a)
+  short_answer (asks.Device d ask) a = call_short d ask a
   short_answer (asks.Rest t) a = inl a.1
   short_answer (asks.Shared x) a = absurd a

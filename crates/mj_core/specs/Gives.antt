@@ -77,7 +77,8 @@ pub record IsReplyTold (s : Shared) (job : ℕ) (a : Ask) (late : Bool) (reply :
   pub in_time : is_shared a ≡ false → reply ≡ replies.Late → is_timed_out (timeout_of a) late ≡ true
 
 -- When a step of a job isn't made that stood so, and how the job stands then: the step is late, and the job waits with an ask that has no timeout; or memory
--- was refused to a job that could go on, on its way, and it stands at no ask; or where it waits, and there it stands. So a job that waits stays shown.
+-- was refused to a job that could go on, on its way, and it stands at no ask, so that it doesn't wait; or where it waits, and there it stands. So a job that
+-- waits is shown, and stays shown.
 abbrev pub IsStepRefused : List Routine → Start → Log → Option AtAsk → Bool → Refusal → Option AtAsk → Type 0
 IsStepRefused image start log stood late refusals.NotTimed stand =
     (late ≡ true) × ((at : AtAsk) × Waits image start log at × (timeout_of at.ask ≡ None) × (stand ≡ Some at))

@@ -1,5 +1,5 @@
 -- What a core keeps.
-use Rattle.std.specs.Prelude.{◌≡◌, ℕ, zero, suc, ◌≤◌, List, [], ◌∷◌, length, map, slice_get, Bool, false, Option, Some, None, ◌⊎◌}
+use Rattle.std.specs.Prelude.{◌≡◌, ℕ, zero, suc, ◌≤◌, List, [], ◌∷◌, length, map, slice_get, Bool, true, false, Option, Some, None, ◌⊎◌}
 use Rattle.std.specs.Borrow.{Bor}
 use Rattle.mj_ask.specs.declared.ask.Ask.{Ask}
 use Rattle.mj_ask.specs.declared.ask.Reply.{Reply}
@@ -79,15 +79,16 @@ pub record AreKept {A : Type 0} (by : Answering A) (image : Loaded) (opening : S
   pub within : length order ≤ history_limit
 
 -- The slot is that of this job, as what is seen of a core says: its job runs from its row's start, has the log that the history has of it, and stands at
--- the ask that is shown, as its run does, or at none.
+-- the ask that is shown, as its run does, or at none, and doesn't wait.
 pub record IsSeenSlot {A : Type 0} (opening : Shared) (seen : Shown) (job : ℕ) (slot : Placed A) : Type 0 where
   pub row : Row
   pub there : row_at (state_of opening seen.history).rows job ≡ Some row
   pub run : IsRunOf seen.image (start_in job row.start) slot.job
   pub log : slot.job.run.log ≡ log_of job seen.history
   pub shown : stand_at seen.stands job ≡ stand_of slot
-  pub stands : (slot.at_ask ≡ false)
-      ⊎ ((at : AtAsk) × (stand_of slot ≡ Some at) × StandsAt (routines_of seen.image) (start_in job row.start) (log_of job seen.history) at)
+  pub stands : ((slot.at_ask ≡ false) × (slot.job.run.pending ≡ None))
+      ⊎ ((slot.at_ask ≡ true)
+      × ((at : AtAsk) × (stand_of slot ≡ Some at) × StandsAt (routines_of seen.image) (start_in job row.start) (log_of job seen.history) at))
 
 -- an event as it is shown: its job, what that asked, and what it was told
 abbrev pub shown_event : Option (ℕ × Bor Ask × Bor Reply) → Option Event

@@ -4,6 +4,7 @@ use Rattle.std.specs.List.{slice_index_or}
 use Rattle.mj_ask.specs.declared.ask.Ask.{Ask}
 use Rattle.mj_semantics.specs.State.{Locals, Place}
 use Rattle.mj_load.specs.Image.{Loaded}
+use Rattle.mj_jobs.specs.Rows.{rows_limit}
 use Rattle.mj_sys.specs.History.{History}
 
 -- A job that stands at an ask: what it asks; its locals there, and the places of its frames; and whether it has its reply, and hasn't gone on with it yet.
@@ -14,7 +15,7 @@ pub record AtAsk : Type 0 where
   pub answered : Bool
 
 -- The routines; the history of all events; and for each job that there may be, the first job first, whether a step saw its end, how many turns its steps
--- let it go on for since its last reply, and how it stands, where it stands at an ask.
+-- let it go on for since its last reply, and how it stands, where it stands at an ask. One that waits for a reply stands at its ask.
 pub record Shown : Type 0 where
   pub image : Loaded
   pub history : History
@@ -24,7 +25,7 @@ pub record Shown : Type 0 where
 
 -- a core of which nothing was asked yet, for each job that there may be
 abbrev pub begun : Loaded → Shown
-begun image = record { image = image; history = []; over = replicate 255 false; spent = replicate 255 0; stands = replicate 255 None }
+begun image = record { image = image; history = []; over = replicate rows_limit false; spent = replicate rows_limit 0; stands = replicate rows_limit None }
 
 -- whether the end of a job was seen
 abbrev pub was_over : List Bool → ℕ → Bool

@@ -81,15 +81,21 @@ stand_by None log s = elim (reverse log) [
 abbrev pub stand_in : Run → Option AtAsk
 stand_in run = stand_by run.pending run.log run.at.state
 
--- how the job of a slot stands, where it stands at an ask
-abbrev pub stand_of : {A : Type 0} → Placed A → Option AtAsk
-stand_of slot = if slot.at_ask then stand_in slot.job.run else None
+-- a job in this state at the ask that it waits with, if it waits
+abbrev pub waits_by : Option Ask → State → Option AtAsk
+waits_by None s = None
+waits_by (Some a) s = Some (record { ask = a; locals = s.locals; places = places s; answered = false })
 
--- it stands at no ask; or it stands at an ask as its private run does
+-- How the job of a slot stands, where it stands at an ask: it waits with that, whatever the slot says; or it has the reply, and the slot says that it hasn't
+-- gone on.
+abbrev pub stand_of : {A : Type 0} → Placed A → Option AtAsk
+stand_of slot = if slot.at_ask then stand_in slot.job.run else waits_by slot.job.run.pending slot.job.run.at.state
+
+-- the slot says that its job stands at no ask, and it doesn't wait; or that it stands at one, as its private run does
 abbrev pub IsStanding : {A : Type 0} → Loaded → Placed A → Type 0
 IsStanding image slot =
-    (slot.at_ask ≡ false)
-    ⊎ ((at : AtAsk) × (stand_of slot ≡ Some at) × StandsAt (routines_of image) (start_of slot) slot.job.run.log at)
+    ((slot.at_ask ≡ false) × (slot.job.run.pending ≡ None))
+    ⊎ ((slot.at_ask ≡ true) × ((at : AtAsk) × (stand_of slot ≡ Some at) × StandsAt (routines_of image) (start_of slot) slot.job.run.log at))
 
 -- nothing was asked or told: the log and the count of turns are as they were, and the job has each session that it had
 abbrev pub IsStill : {A : Type 0} → Answering A → Placed A → Placed A → Type 0

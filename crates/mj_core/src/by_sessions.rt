@@ -76,8 +76,8 @@ impl<D: Device, O: Opening> Core<D, Sessions<D>, O> {
     {
         let answers = self.answers(steps);
         // what is kept behind each step is kept behind the last
-        let _events = self.len();
-        let _locks = self.locks();
+        let _events = self.len(); // for the proof
+        let _locks = self.locks(); // for the proof
         answers
     }
 

@@ -27,7 +27,7 @@ pub use answerer::{Answerer, Fresh, Unplaced};
 pub use happened::Happened;
 pub use laws::ended_by_halt;
 pub use mj_steps::{Refusal, Step, Way};
-pub use parts::{Made, Place, make_place, serve_at, take_up, talk};
+pub use parts::{Made, Place, make_place, serve_at, take_reply, take_up, talk};
 pub use seen::{Ready, Seen};
 pub use slot::{FUEL, Slot, step_slot};
 pub use together::Core;

@@ -2,11 +2,14 @@
 //
 // What a device or the clock is asked needs no system at all (`talk`). What all jobs share is asked in three calls: `make_place` before, `serve_at` with
 // the system, and `take_up` behind. So where the system is under a lock, neither a job's own code nor a call of a session is made under it.
+// By all asks but OPEN no session goes to a job: these need no place. They are asked in `access` or `tell` of the system, and a reply is told in
+// `take_reply`.
 
 ghost use Rattle.std.specs.Prelude.{◌≡◌, true, false, Some, IfOk, IfErr, OnErr, option_copied};
-ghost use Rattle.mj_ask.specs.Fits.{is_shared};
+ghost use Rattle.mj_ask.specs.Fits.{fits, is_shared};
 ghost use Rattle.mj_ask.specs.declared.ask.Ask as asks;
 ghost use Rattle.mj_load.specs.Image.{Loaded};
+ghost use Rattle.mj_sys.specs.declared.served.Served.TheVariants as serveds;
 ghost use Rattle.mj_sys.specs.System.{Claimed};
 ghost use Rattle.mj_sys.specs.Told.{IsServiceRefused};
 ghost use Rattle.mj_core.specs.Answering.{Stays, IsPlaceFor};
@@ -164,7 +167,7 @@ pub fn take_up<D: Device, A: Answerer<Fresh<D>>>(
 {
     match served {
         Served::Reply(reply) => {
-            job.answer(reply);
+            take_reply::<D, A>(job, answerer, reply);
             Made::Event
         }
         Served::Opened(session) => {
@@ -177,4 +180,15 @@ pub fn take_up<D: Device, A: Answerer<Fresh<D>>>(
         }
         Served::Busy { holder, held } => Made::Busy(holder, held),
     }
+}
+
+/// Tells a job a reply of the system, by which no session goes to it: who answers for it has nothing to take. It needs no system, and no memory.
+pub fn take_reply<D: Device, A: Answerer<Fresh<D>>>(job: &mut Job, answerer: &A, reply: Reply)
+    requires told { (a : asks.Ask) × (job.old.run.pending ≡ Some a) × (is_shared a ≡ true) × (fits a reply ≡ true) }
+    ensures told { (a : asks.Ask) → job.old.run.pending ≡ Some a
+        → TakesUp A.answering job.old answerer.now a (serveds.Reply reply) job.new answerer.now }
+    ensures own { (image : Loaded) (claim : Claimed) → IsJobOf A.answering image claim job.old answerer.now
+        → IsJobOf A.answering image (claim_behind claim (serveds.Reply reply)) job.new answerer.now }
+{
+    job.answer(reply);
 }

@@ -1,11 +1,14 @@
 // One job among many.
 
-ghost use Rattle.std.specs.Prelude.{◌≡◌, ◌<◌, length, true, Some, IsSome, IfOk, IfErr, OnErr, option_copied};
+ghost use Rattle.std.specs.Prelude.{◌≡◌, ◌<◌, length, Bool, true, Some, IsSome, IfOk, IfErr, OnErr, option_copied};
 ghost use Rattle.mj_ask.specs.Fits.{is_shared};
-ghost use Rattle.mj_ask.specs.declared.ask.Ask as asks;
+ghost use Rattle.mj_ask.specs.declared.ask.Ask.{Ask};
+ghost use Rattle.mj_ask.specs.declared.ask.Ask.TheVariants as asks;
+ghost use Rattle.mj_ask.specs.declared.ask.SharedAsk.TheVariants as shared_asks;
 ghost use Rattle.mj_jobs.specs.Rows.{IsLive};
 ghost use Rattle.mj_load.specs.Image.{routines_of};
 ghost use Rattle.mj_sys.specs.History.{state_of};
+ghost use Rattle.mj_sys.specs.Shared.{moves_none};
 ghost use Rattle.mj_sys.specs.System.{history_limit};
 ghost use Rattle.mj_sys.specs.Told.{IsTurn};
 ghost use Rattle.mj_core.specs.Answering.{Stays};
@@ -13,13 +16,14 @@ ghost use Rattle.mj_core.specs.Gives.{IsStepRefused};
 ghost use Rattle.mj_core.specs.Ties.{IsPlaced, IsStanding, start_of, stand_of, Steps, IsStill, JobIsTold, Shares, IsMuted};
 
 use crate::answerer::{Answerer, Fresh};
-use crate::parts::{Made, make_place, serve_at, take_up, talk};
-use mj_ask::{Ask, Reply};
+use crate::parts::{Made, make_place, serve_at, take_reply, take_up, talk};
+use mj_ask::{Ask, Reply, SharedAsk};
 use mj_dev::Device;
 use mj_jobvm::{Job, Turn};
 use mj_load::Image;
 use mj_steps::Refusal;
-use mj_sys::{Claim, Opening, Refused, System};
+use mj_store::Access;
+use mj_sys::{Claim, Opening, Refused, System, Told};
 use std::marker::Model;
 
 /// The turns that a step lets a job go on for.
@@ -110,12 +114,79 @@ fn ask<D: Device, A: Answerer<Fresh<D>>, O: Opening>(
         return Err(Refusal::NotTimed);
     }
     match ask {
-        Ask::Shared(_) => share(system, claim, job, answerer, late),
+        Ask::Shared(SharedAsk::Open(_, _)) => share(system, claim, job, answerer, late),
+        Ask::Shared(SharedAsk::Access(of)) => {
+            let Ok(copy) = of.try_clone() else {
+                return Err(Refusal::Memory);
+            };
+            access(system, claim, job, answerer, copy)
+        }
+        Ask::Shared(of) => {
+            let Ok(copy) = of.try_clone() else {
+                return Err(Refusal::Memory);
+            };
+            tell(system, claim, job, answerer, copy, late)
+        }
         Ask::Device(_, _) | Ask::Rest(_) => talk::<D, A>(job, answerer, late, given),
     }
 }
 
+// Lets the system serve the access that a job asks for, and tells it.
+fn access<D: Device, A: Answerer<Fresh<D>>, O: Opening>(
+    system: &mut System<D, O>,
+    claim: &mut Claim,
+    job: &mut Job,
+    answerer: &A,
+    access: Access,
+) -> Result<Made, Refusal>
+    requires asks { job.old.run.pending ≡ Some (asks.Shared (shared_asks.Access access)) }
+    requires turn { IsTurn O.opening system.old claim.old }
+    requires room { length system.old.history < history_limit }
+    ensures ok { IfOk result (λ made. (late : Bool) → Shares A.answering O.opening system.old claim.old job.old answerer.now
+        (asks.Shared (shared_asks.Access access)) late made system.new claim.new job.new answerer.now) }
+    ensures err { IfErr result (λ why. (why ≡ Refusal.Memory) × (system.new ≡ system.old) × (claim.new ≡ claim.old) × (job.new ≡ job.old)) }
+{
+    match system.access(claim, access) {
+        Ok(reply) => {
+            take_reply::<D, A>(job, answerer, reply);
+            Ok(Made::Event)
+        }
+        Err(Refused::Memory) => Err(Refusal::Memory),
+        Err(Refused::Full) | Err(Refused::Turn { .. }) => unreachable!(),
+    }
+}
+
+// Lets the system serve what a job asks by which no session goes to it, and tells it.
+#[inline(never)]
+fn tell<D: Device, A: Answerer<Fresh<D>>, O: Opening>(
+    system: &mut System<D, O>,
+    claim: &mut Claim,
+    job: &mut Job,
+    answerer: &A,
+    ask: SharedAsk,
+    late: bool,
+) -> Result<Made, Refusal>
+    requires asks { job.old.run.pending ≡ Some (asks.Shared ask) }
+    requires moves { moves_none ask ≡ true }
+    requires turn { IsTurn O.opening system.old claim.old }
+    requires room { length system.old.history < history_limit }
+    ensures ok { IfOk result (λ made. Shares A.answering O.opening system.old claim.old job.old answerer.now
+        (asks.Shared ask) late made system.new claim.new job.new answerer.now) }
+    ensures err { IfErr result (λ why. (why ≡ Refusal.Memory) × (system.new ≡ system.old) × (claim.new ≡ claim.old) × (job.new ≡ job.old)) }
+{
+    match system.tell(claim, ask, late) {
+        Ok(Told::Reply(reply)) => {
+            take_reply::<D, A>(job, answerer, reply);
+            Ok(Made::Event)
+        }
+        Ok(Told::Busy { holder, held }) => Ok(Made::Busy(holder, held)),
+        Err(Refused::Memory) => Err(Refusal::Memory),
+        Err(Refused::Full) | Err(Refused::Turn { .. }) => unreachable!(),
+    }
+}
+
 // Lets the system serve what a job asks, and tells it. What would give the job a session with a device with which it has one isn't served.
+#[inline(never)]
 fn share<D: Device, A: Answerer<Fresh<D>>, O: Opening>(
     system: &mut System<D, O>,
     claim: &mut Claim,
@@ -123,10 +194,10 @@ fn share<D: Device, A: Answerer<Fresh<D>>, O: Opening>(
     answerer: &mut A,
     late: bool,
 ) -> Result<Made, Refusal>
-    requires asks { (a : asks.Ask) × (job.old.run.pending ≡ Some a) × (is_shared a ≡ true) }
+    requires asks { (a : Ask) × (job.old.run.pending ≡ Some a) × (is_shared a ≡ true) }
     requires turn { IsTurn O.opening system.old claim.old }
     requires room { length system.old.history < history_limit }
-    ensures ok { IfOk result (λ made. (a : asks.Ask) × (job.old.run.pending ≡ Some a)
+    ensures ok { IfOk result (λ made. (a : Ask) × (job.old.run.pending ≡ Some a)
         × Shares A.answering O.opening system.old claim.old job.old answerer.old a late made system.new claim.new job.new answerer.new) }
     ensures err { IfErr result (λ why. (why ≡ Refusal.Memory) × (system.new ≡ system.old) × (claim.new ≡ claim.old) × (job.new ≡ job.old)
         × Stays A.answering answerer.old answerer.new) }

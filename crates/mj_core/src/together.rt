@@ -59,6 +59,7 @@ impl<D: Device, A: Answerer<Fresh<D>>, O: Opening> Model for Core<D, A, O> {
     ghost use Rattle.std.specs.Prelude.{◌≡◌, length};
     ghost use Rattle.mj_ast.specs.contracts.routine.Routine as routine;
     ghost use Rattle.mj_pcode.specs.contracts.instr.Unit as unit;
+    ghost use Rattle.mj_jobs.specs.Rows.{rows_limit};
     ghost use Rattle.mj_core.specs.Woven.{woven};
     ghost use Rattle.mj_core.specs.Shown.{Shown};
     ghost use Rattle.mj_core.specs.Kept.{AreKept, logs_of, turns_of, stands_of, claim_of};
@@ -71,13 +72,13 @@ impl<D: Device, A: Answerer<Fresh<D>>, O: Opening> Model for Core<D, A, O> {
       image = c.image;
       history = woven (logs_of c.slots.items) c.order.items;
       over = c.over.items;
-      spent = turns_of 255 c.slots.items;
-      stands = stands_of 255 c.slots.items;
+      spent = turns_of rows_limit c.slots.items;
+      stands = stands_of rows_limit c.slots.items;
     } };
 
     ghost invariant = { λ c.
         AreKept A.answering c.image O.opening c.system c.slots.items (claim_of c.waiting) c.order.items
-        × (length c.over.items ≡ 255) };
+        × (length c.over.items ≡ rows_limit) };
 }
 
 impl<D: Device, A: Answerer<Fresh<D>>, O: Opening> Core<D, A, O> {
@@ -278,7 +279,7 @@ impl<D: Device, A: Answerer<Fresh<D>>, O: Opening> Core<D, A, O> {
 
     /// A job that stands at an ask, as it is shown: it waits for the reply, or has it, and hasn't gone on. It runs the routines from its row's start, and
     /// its log is what the history has of it. So its locals, its frames and its place are those of its private run beside that ask. One that waits asks
-    /// just that. One that has its reply asks nothing, and the ask is the last of its log. There is none for a job that stands at no ask.
+    /// just that. One that has its reply asks nothing, and the ask is the last of its log. There is none for a job that stands at no ask, which doesn't wait.
     pub fn job(&self, job: u32) -> Option<&Job>
         ensures none { IfNone result (stand_at self.now.stands job ≡ None) }
         ensures shown { IfSome result (λ found. (at : AtAsk) × (stand_at self.now.stands job ≡ Some at) × IsSeenAt found.now.run at) }
@@ -300,7 +301,7 @@ impl<D: Device, A: Answerer<Fresh<D>>, O: Opening> Core<D, A, O> {
         ensures some { IfSome result (λ slot. IsSeenSlot O.opening self.now job slot.now) }
     {
         // there are few of them
-        let _rows = self.system.rows();
+        let _rows = self.system.rows(); // for the proof
         match (job as usize).checked_sub(1) {
             None => None,
             Some(at) => match self.slots.get(at) {
@@ -323,7 +324,7 @@ impl<D: Device, A: Answerer<Fresh<D>>, O: Opening> Core<D, A, O> {
     // Where a job's slot is, or will be; none where it has no row.
     fn place(&self, job: u32) -> Option<usize>
         ensures none { IfNone result (row_at (state_of O.opening self.now.history).rows job ≡ None) }
-        ensures some { IfSome result (λ at. (job ≡ suc at) × (at < 255) × IsSome (row_at (state_of O.opening self.now.history).rows job)) }
+        ensures some { IfSome result (λ at. (job ≡ suc at) × (at < rows_limit) × IsSome (row_at (state_of O.opening self.now.history).rows job)) }
     {
         let at = (job as usize).checked_sub(1)?;
         if at < self.system.rows() {
@@ -345,7 +346,7 @@ fn admit<D: Device, A: Answerer<Fresh<D>>, O: Opening>(
     at: usize,
 ) -> Result<(), AllocError>
     requires kept { AreKept A.answering image.now O.opening system.old slots.old.items (claim_of waiting.old) order.now }
-    requires few { at < 255 }
+    requires few { at < rows_limit }
     requires row { at < length (state_of O.opening system.old.history).rows }
     ensures kept { AreKept A.answering image.now O.opening system.new slots.new.items (claim_of waiting.new) order.now }
     ensures history { system.new.history ≡ system.old.history }
@@ -438,9 +439,9 @@ fn go<D: Device, A: Answerer<Fresh<D>>, O: Opening>(
     late: bool,
     given: Option<&Reply>,
 ) -> Result<Seen, Refusal>
-    requires few { at < 255 }
+    requires few { at < rows_limit }
     requires there { at < length slots.old }
-    requires all { length over.old ≡ 255 }
+    requires all { length over.old ≡ rows_limit }
     requires kept { (waiting : Option Claimed) × AreKept A.answering image.now O.opening system.old slots.old waiting order.old.items }
     requires live { IsLive (state_of O.opening system.old.history).rows (suc at) }
     requires short { length order.old.items < history_limit }
@@ -448,8 +449,8 @@ fn go<D: Device, A: Answerer<Fresh<D>>, O: Opening>(
     ensures kept { (waiting : Option Claimed) → AreKept A.answering image.now O.opening system.old slots.old waiting order.old.items
         → AreKept A.answering image.now O.opening system.new slots.new waiting order.new.items }
     ensures made { (row : Row) → row_at (state_of O.opening (woven (logs_of slots.old) order.old.items)).rows (suc at) ≡ Some row
-        → JobStepGives A.answering.means O.opening (shown image.now slots.old order.old.items over.old 255) (suc at) row late
-        (option_copied given.entry) result (shown image.now slots.new order.new.items over.new 255) }
+        → JobStepGives A.answering.means O.opening (shown image.now slots.old order.old.items over.old rows_limit) (suc at) row late
+        (option_copied given.entry) result (shown image.now slots.new order.new.items over.new rows_limit) }
 {
     let slot = &mut slots[at];
     let happened = Happened {
@@ -482,7 +483,7 @@ fn go_ready<D: Device, A: Answerer<Fresh<D>>, O: Opening, R, F: FnOnce(&Job) -> 
     at: usize,
     look: F,
 ) -> Result<Ready<R>, Refusal>
-    requires few { at < 255 }
+    requires few { at < rows_limit }
     requires there { at < length slots.old }
     requires kept { (waiting : Option Claimed) × AreKept A.answering image.now O.opening system.now slots.old waiting order.now }
     requires live { IsLive (state_of O.opening system.now.history).rows (suc at) }
@@ -490,7 +491,8 @@ fn go_ready<D: Device, A: Answerer<Fresh<D>>, O: Opening, R, F: FnOnce(&Job) -> 
     ensures kept { (waiting : Option Claimed) → AreKept A.answering image.now O.opening system.now slots.old waiting order.now
         → AreKept A.answering image.now O.opening system.now slots.new waiting order.now }
     ensures readies { (over : List Bool) → (row : Row) → row_at (state_of O.opening (woven (logs_of slots.old) order.now)).rows (suc at) ≡ Some row
-        → Readies O.opening (shown image.now slots.old order.now over 255) (suc at) row (turn_of result) (shown image.now slots.new order.now over 255) }
+        → Readies O.opening (shown image.now slots.old order.now over rows_limit) (suc at) row (turn_of result)
+        (shown image.now slots.new order.now over rows_limit) }
     ensures looked { IfAsks result (λ seen. (found : _) × IsAtAsk image.now O.opening (woven (logs_of slots.old) order.now) (suc at) found
         × FnOnceReturnsAt F.FnOnce look found seen) }
 {
@@ -509,7 +511,7 @@ fn go_ready<D: Device, A: Answerer<Fresh<D>>, O: Opening, R, F: FnOnce(&Job) -> 
 
 // As many jobs as there may be, none of which was seen to end.
 fn nobody_over(alloc: Global) -> Result<Vec<bool>, AllocError>
-    ensures { IfOk result (λ over. over.items ≡ replicate 255 false) }
+    ensures { IfOk result (λ over. over.items ≡ replicate rows_limit false) }
 {
     let mut over = Vec::new(alloc);
     over.resize(ROWS_LIMIT, false)?;

@@ -137,4 +137,4 @@ module _ (opening : Shared) (mid old : Walk) (same : mid ≡ record old { ready 
 pub unshown_so : (opening : Shared) (old new : Walk) (first : Bool) (why : Unshown) → old.place ≡ length old.core.history → new ≡ record old { ready = false }
     → IsLeftUnmade opening old first why new
 unshown_so opening old new first unshown.Memory end is = (end, inl is)
-unshown_so opening old new first unshown.Long end is = is ∙ ap (λ (b : Bool). record old { ready = b }) (sym (ap (λ (w : Walk). w.ready) is))
+unshown_so opening old new first unshown.Long end is = (end, is)

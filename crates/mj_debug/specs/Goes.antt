@@ -89,8 +89,9 @@ IsPassed opening old job gone new =
     (answer : Result Seen Refusal) × (gone ≡ gones.Step job answer) × CoreStepGives opening old.core (record { job = job; way = ways.Go }) answer new.core
     × (new ≡ record old { core = new.core; place = length new.core.history; ready = new.ready; turn = suc job })
 
--- What is left where no step of a `go` is made. For want of memory, at the record's end: what stands there isn't at hand; or it is, and the job whose
--- turn it is came to its next ask, which the first step of a `go` doesn't wait for. Where a job went on for too long, what was at hand may have gone.
+-- What is left where no step of a `go` is made, at the record's end: what stands there isn't shown, for want of memory, or as a job went on for too long,
+-- so that nothing is at hand; or, for want of memory, it is at hand, and the job whose turn it is came to its next ask, which the first step of a `go`
+-- doesn't wait for.
 abbrev pub IsLeftUnmade : Shared → Walk → Bool → Unshown → Walk → Type 0
 IsLeftUnmade opening old first unshown.Memory new =
     (old.place ≡ length old.core.history)
@@ -98,4 +99,4 @@ IsLeftUnmade opening old first unshown.Memory new =
     ⊎ ((first ≡ false)
     × ((job : ℕ) × IsTurnOf (state_of opening old.core.history).rows old.turn job × GivesReady opening old.core job (Ok turns.Asks) new.core
     × (new ≡ record old { core = new.core; ready = true }))))
-IsLeftUnmade opening old first unshown.Long new = new ≡ record old { ready = new.ready }
+IsLeftUnmade opening old first unshown.Long new = (old.place ≡ length old.core.history) × (new ≡ record old { ready = false })

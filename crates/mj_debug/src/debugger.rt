@@ -37,7 +37,7 @@ use mj_jobvm::Job;
 use mj_load::Image;
 use mj_locals::Locals;
 use mj_locktab::LockTable;
-use mj_replica::{Kept, Replica, Unshown, bring, keep};
+use mj_replica::{KeptOpening, Replica, Unshown, bring, keep};
 use mj_sessions::Sessions;
 use mj_sys::{Opening, Unmade};
 use mj_text::Text;
@@ -85,7 +85,7 @@ pub struct Debugger<D: Device, A: Answerer<Fresh<D>>, O: Opening> {
     alloc: Global,
     core: Core<D, A, O>,
     place: usize,
-    kept: Kept,
+    kept: KeptOpening,
     // the run played again up to a place that was shown
     replica: Option<Replica<O>>,
     // of places before one that was shown behind a step back
@@ -424,7 +424,7 @@ impl<D: Device, O: Opening> Debugger<D, Sessions<D>, O> {
         if !is_breakpoint(self.core.image(), &self.marks, &routine, line) {
             return None;
         }
-        if is_at(then.place(), &routine, line) {
+        if is_on_line(then.place(), &routine, line) {
             return None;
         }
         Some((routine, line))
@@ -525,7 +525,7 @@ fn line_of(job: &Job) -> Result<Option<(Text, u32)>, AllocError>
 }
 
 // Whether a place is this line.
-fn is_at(place: Option<(&Text, u32)>, routine: &Text, line: u32) -> bool
+fn is_on_line(place: Option<(&Text, u32)>, routine: &Text, line: u32) -> bool
     ensures { result ≡ is_there (record { routine = routine.now; line = line }) (place_at place.entry) }
 {
     match place {

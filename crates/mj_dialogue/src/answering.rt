@@ -3,7 +3,7 @@
 ghost use Rattle.std.specs.Prelude.{◌≡◌, Bool, List, ℕ, IfOk, IfErr, OnOk, true, false};
 ghost use Rattle.std.specs.Io.KnownBytes.{Appends};
 ghost use Rattle.mj_dialogue.specs.declared.command.Command.TheVariants as commands;
-ghost use Rattle.mj_dialogue.specs.declared.answering.Trouble.TheVariants as troubles;
+ghost use Rattle.mj_dialogue.specs.declared.answering.Unanswered.TheVariants as unanswered;
 ghost use Rattle.mj_dialogue.specs.Fails.{Fails, IsOutputWritten};
 ghost use Rattle.mj_dialogue.specs.Says.{Says, AnswersGo};
 
@@ -20,7 +20,7 @@ use std::io::Write;
 
 /// Why a command isn't answered, or not to its end.
 #[derive(Clone, Copy, PartialEq, Eq, Debug)]
-pub enum Trouble {
+pub enum Unanswered {
     /// an allocation was refused
     Memory,
     /// a job went on for 10,000,000,000 turns between two of its events, and isn't followed so far
@@ -29,27 +29,27 @@ pub enum Trouble {
     Unwritten,
 }
 
-impl From<AllocError> for Trouble {
+impl From<AllocError> for Unanswered {
     ghost use Rattle.std.specs.Prelude.{◌≡◌};
-    ghost use Rattle.mj_dialogue.specs.declared.answering.Trouble.TheVariants as troubles;
+    ghost use Rattle.mj_dialogue.specs.declared.answering.Unanswered.TheVariants as unanswered;
 
-    ghost from_gives = { λ _ trouble. trouble ≡ troubles.Memory };
+    ghost from_gives = { λ _ reason. reason ≡ unanswered.Memory };
 
-    fn from(_error: AllocError) -> Trouble {
-        Trouble::Memory
+    fn from(_error: AllocError) -> Unanswered {
+        Unanswered::Memory
     }
 }
 
-impl From<Unshown> for Trouble {
+impl From<Unshown> for Unanswered {
     ghost use Rattle.std.specs.Prelude.{◌≡◌};
-    ghost use Rattle.mj_dialogue.specs.Fails.{trouble_of};
+    ghost use Rattle.mj_dialogue.specs.Fails.{unanswered_of};
 
-    ghost from_gives = { λ why trouble. trouble ≡ trouble_of why };
+    ghost from_gives = { λ why reason. reason ≡ unanswered_of why };
 
-    fn from(why: Unshown) -> Trouble {
+    fn from(why: Unshown) -> Unanswered {
         match why {
-            Unshown::Memory => Trouble::Memory,
-            Unshown::Long => Trouble::Long,
+            Unshown::Memory => Unanswered::Memory,
+            Unshown::Long => Unanswered::Long,
         }
     }
 }
@@ -61,7 +61,7 @@ pub fn answer<D: Device, O: Opening, W: Write>(
     debugger: &mut Debugger<D, Sessions<D>, O>,
     command: &Command,
     out: &mut W,
-) -> Result<bool, Trouble>
+) -> Result<bool, Unanswered>
     ensures ok { IfOk result (λ full. (bytes : List ℕ) × Says O.opening debugger.old command.now bytes full debugger.new
         × Appends (W.contents out.old) (W.contents out.new) bytes) }
     ensures err { IfErr result (λ why. (bytes : List ℕ) × Fails O.opening debugger.old command.now bytes why debugger.new
@@ -88,9 +88,9 @@ pub fn answer<D: Device, O: Opening, W: Write>(
 }
 
 // Writes an answer, which says or doesn't say that the record is full.
-fn give<W: Write>(out: &mut W, bytes: &[u8], full: bool) -> Result<bool, Trouble>
+fn give<W: Write>(out: &mut W, bytes: &[u8], full: bool) -> Result<bool, Unanswered>
     ensures ok { IfOk result (λ told. (told ≡ full) × Appends (W.contents out.old) (W.contents out.new) bytes.now) }
-    ensures err { IfErr result (λ why. why ≡ troubles.Unwritten) }
+    ensures err { IfErr result (λ why. why ≡ unanswered.Unwritten) }
 {
     put(out, bytes)?;
     Ok(full)
@@ -102,7 +102,7 @@ fn go<D: Device, O: Opening, W: Write>(
     debugger: &mut Debugger<D, Sessions<D>, O>,
     count: u32,
     out: &mut W,
-) -> Result<bool, Trouble>
+) -> Result<bool, Unanswered>
     ensures ok { IfOk result (λ full. (bytes : List ℕ) × AnswersGo O.opening count debugger.old bytes full debugger.new
         × Appends (W.contents out.old) (W.contents out.new) bytes) }
     ensures err { IfErr result (λ why. (bytes : List ℕ) × Fails O.opening debugger.old (commands.Go count) bytes why debugger.new
@@ -119,12 +119,12 @@ fn go<D: Device, O: Opening, W: Write>(
 }
 
 // Writes some bytes.
-fn put<W: Write>(out: &mut W, bytes: &[u8]) -> Result<(), Trouble>
+fn put<W: Write>(out: &mut W, bytes: &[u8]) -> Result<(), Unanswered>
     ensures ok { OnOk result (Appends (W.contents out.old) (W.contents out.new) bytes.now) }
-    ensures err { IfErr result (λ why. why ≡ troubles.Unwritten) }
+    ensures err { IfErr result (λ why. why ≡ unanswered.Unwritten) }
 {
     match out.write_all(bytes) {
         Ok(()) => Ok(()),
-        Err(_) => Err(Trouble::Unwritten),
+        Err(_) => Err(Unanswered::Unwritten),
     }
 }

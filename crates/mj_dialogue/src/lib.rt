@@ -17,6 +17,6 @@ mod shows;
 mod steps;
 mod tell;
 
-pub use answering::{Trouble, answer};
+pub use answering::{Unanswered, answer};
 pub use command::Command;
 pub use line::read;

@@ -7,7 +7,7 @@ ghost use Rattle.mj_debug.specs.declared.debugger.WalkRefusal.TheVariants as ref
 ghost use Rattle.mj_debug.specs.declared.debugger.Gone.{Gone as GoneOf};
 ghost use Rattle.mj_debug.specs.Walks.{StepGives, walk_answer as as_told};
 ghost use Rattle.mj_dialogue.specs.declared.command.Command.TheVariants as commands;
-ghost use Rattle.mj_dialogue.specs.Fails.{trouble_of, IsDone, IsCut};
+ghost use Rattle.mj_dialogue.specs.Fails.{unanswered_of, IsDone, IsCut};
 ghost use Rattle.mj_dialogue.specs.Lines.{seen_line, TellsRefusal};
 ghost use Rattle.mj_dialogue.specs.Says.{is_full, is_full_at, is_made, TellsStep, TellsGone, GoTells};
 
@@ -105,7 +105,7 @@ pub fn pass<D: Device, O: Opening>(
 ) -> Result<Passed, Unshown>
     ensures ok { IfOk result (λ passed. (gone : GoneOf) × GoTells O.opening debugger.old first gone passed.told.bytes.items debugger.new
         × (passed.told.full ≡ is_full_at gone) × (passed.made ≡ is_made gone)) }
-    ensures err { IfErr result (λ why. IsCut O.opening debugger.old first (trouble_of why) debugger.new) }
+    ensures err { IfErr result (λ why. IsCut O.opening debugger.old first (unanswered_of why) debugger.new) }
 {
     let gone = debugger.go(first)?;
     match tell_gone(alloc, debugger.core(), &gone) {

@@ -93,15 +93,12 @@ module _ (s : Shared) (name : List ℕ) (r : Reply) (link : Link) (has : Bool) (
       by false = is
 
   pub has_called : (device : List ℕ) (x : DeviceAsk) → has_behind s name (asks.Device device x) has ≡ (link_behind name (asks.Device device x) r link).session
-  has_called device device_asks.Begin = called device device_asks.Begin refl
-  has_called device (device_asks.Write bytes) = called device (device_asks.Write bytes) refl
-  has_called device (device_asks.Line timeout) = called device (device_asks.Line timeout) refl
-  has_called device (device_asks.Byte timeout) = called device (device_asks.Byte timeout) refl
   has_called device device_asks.End = by (bytes_eq device name)
     where
       by : (b : Bool) → (if b then false else has) ≡ (if b then link_called device_asks.End r link else link).session
       by true = refl
       by false = is
+  has_called device x = called device x refl
 
   pub has_opened : (device : List ℕ) (timeout : Option ℤ) → moves_session s (shared_asks.Open device timeout) ≡ is_got r
       → has_behind s name (asks.Shared (shared_asks.Open device timeout)) has ≡ (link_behind name (asks.Shared (shared_asks.Open device timeout)) r link).session
@@ -202,14 +199,7 @@ module _ (s : Shared) (job : ℕ) (r : Reply) (links : Links) (held : IsHeld job
   goes_on (asks.Shared (shared_asks.Open device timeout)) fit told = by_open device timeout fit told
   goes_on (asks.Shared (shared_asks.Close device)) fit told = by_close device
   goes_on (asks.Shared (shared_asks.Halt fault)) fit told = ((λ y there. held y (halt_gives_none s job y there)), (λ name has is. is))
-  goes_on (asks.Shared (shared_asks.Access a)) fit told = (keeps (shared_asks.Access a) tt, (λ name has is. is))
-  goes_on (asks.Shared (shared_asks.Try names timeout)) fit told = (keeps (shared_asks.Try names timeout) tt, (λ name has is. is))
-  goes_on (asks.Shared (shared_asks.Unlock names)) fit told = (keeps (shared_asks.Unlock names) tt, (λ name has is. is))
-  goes_on (asks.Shared shared_asks.UnlockAll) fit told = (keeps shared_asks.UnlockAll tt, (λ name has is. is))
-  goes_on (asks.Shared (shared_asks.Begin kind)) fit told = (keeps (shared_asks.Begin kind) tt, (λ name has is. is))
-  goes_on (asks.Shared shared_asks.Commit) fit told = (keeps shared_asks.Commit tt, (λ name has is. is))
-  goes_on (asks.Shared shared_asks.Rollback) fit told = (keeps shared_asks.Rollback tt, (λ name has is. is))
-  goes_on (asks.Shared (shared_asks.Start start timeout)) fit told = (keeps (shared_asks.Start start timeout) tt, (λ name has is. is))
+  goes_on (asks.Shared a) fit told = (keeps a tt, (λ name has is. is))
 
 -- Histories.
 

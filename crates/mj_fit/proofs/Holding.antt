@@ -112,7 +112,6 @@ KeepsDevices (shared_asks.Halt fault) = ⊥
 KeepsDevices _ = Unit {0}
 
 pub keeps_devices : (s : Shared) (job : ℕ) (a : SharedAsk) → KeepsDevices a → (left_by s (answered s job a true)).devices ≡ s.devices
-keeps_devices s job (shared_asks.Access a) keeps = refl
 keeps_devices s job (shared_asks.Try names timeout) keeps = by (outcome_of s.locks job names) (after_try s.locks job names)
   where
     by_time : (b : Bool) → (left_by s (if b then Some (replies.Late, s) else None)).devices ≡ s.devices
@@ -123,11 +122,6 @@ keeps_devices s job (shared_asks.Try names timeout) keeps = by (outcome_of s.loc
     by takes.Got locks = refl
     by (takes.Busy holder name) locks = by_time (is_timed_out timeout true)
     by takes.Limit locks = refl
-keeps_devices s job (shared_asks.Unlock names) keeps = refl
-keeps_devices s job shared_asks.UnlockAll keeps = refl
-keeps_devices s job (shared_asks.Begin kind) keeps = refl
-keeps_devices s job shared_asks.Commit keeps = refl
-keeps_devices s job shared_asks.Rollback keeps = refl
 keeps_devices s job (shared_asks.Open name timeout) keeps = absurd keeps
 keeps_devices s job (shared_asks.Close name) keeps = absurd keeps
 keeps_devices s job (shared_asks.Start start timeout) keeps = by (has_room s)
@@ -139,6 +133,7 @@ keeps_devices s job (shared_asks.Start start timeout) keeps = by (has_room s)
     by true = refl
     by false = refl
 keeps_devices s job (shared_asks.Halt fault) keeps = absurd keeps
+keeps_devices s job _ keeps = refl
 
 -- what another job asks gives this job no device
 module _ (s : Shared) (job other : ℕ) (apart : (other == job) ≡ false) (x : List ℕ) where
@@ -190,14 +185,7 @@ module _ (s : Shared) (job other : ℕ) (apart : (other == job) ≡ false) (x : 
       with_gives_none job (released_by other) (released_name other) s.devices name x (λ is. released_gives_none job other) held
   others_give_none (asks.Shared (shared_asks.Halt fault)) held =
       map_gives_none job (released_by other) (released_name other) (released_gives_none job other) s.devices x held
-  others_give_none (asks.Shared (shared_asks.Access a)) held = kept (shared_asks.Access a) tt held
-  others_give_none (asks.Shared (shared_asks.Try names timeout)) held = kept (shared_asks.Try names timeout) tt held
-  others_give_none (asks.Shared (shared_asks.Unlock names)) held = kept (shared_asks.Unlock names) tt held
-  others_give_none (asks.Shared shared_asks.UnlockAll) held = kept shared_asks.UnlockAll tt held
-  others_give_none (asks.Shared (shared_asks.Begin kind)) held = kept (shared_asks.Begin kind) tt held
-  others_give_none (asks.Shared shared_asks.Commit) held = kept shared_asks.Commit tt held
-  others_give_none (asks.Shared shared_asks.Rollback) held = kept shared_asks.Rollback tt held
-  others_give_none (asks.Shared (shared_asks.Start start timeout)) held = kept (shared_asks.Start start timeout) tt held
+  others_give_none (asks.Shared a) held = kept a tt held
 
 -- and what the job itself asks, but for an OPEN, gives it none either, and a CLOSE takes that from it
 module _ (s : Shared) (job : ℕ) (x : List ℕ) where

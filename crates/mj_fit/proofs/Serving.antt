@@ -46,10 +46,7 @@ module _ (s : Shared) (log : Log) (has : List ℕ → Bool) (all : (name : List 
   -- it doesn't end the session
   on_end : (device : List ℕ) (x : DeviceAsk) → ends_on device (asks.Device device x) ≡ false → is_end x ≡ false
   on_end device device_asks.End on = never (bytes_eq device device) (itself device) on
-  on_end device device_asks.Begin on = refl
-  on_end device (device_asks.Write bytes) on = refl
-  on_end device (device_asks.Line timeout) on = refl
-  on_end device (device_asks.Byte timeout) on = refl
+  on_end device _ on = refl
 
   not_failed : (device : List ℕ) → (links device).failed ≡ false → HasFailed log device → ⊥
   not_failed device well failed = failed.2 (is_open_by device log first_links beginning failed.0 (λ q. refl) failed.1 well)

@@ -92,7 +92,7 @@ impl Job {
         ensures opening { result ≡ opened (record { job = job; entry = entry; values = values.items }) }
         ensures run { IsRunOfAfter image.now (record { job = job; entry = entry; values = values.items }) 0 result }
     {
-        let _ = image.units();
+        let _ = image.units(); // for the proof
         Job::at(alloc, Start { job, entry, values })
     }
 

@@ -52,7 +52,7 @@ impl Snapshot {
     pub(crate) fn rises(&self)
         ensures { AreTrees self.now.1 }
     {
-        let _rows = &self.rows;
+        let _rows = &self.rows; // for the proof
     }
 
     /// A copy of it.

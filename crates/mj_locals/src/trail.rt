@@ -63,7 +63,7 @@ impl Trail {
     pub fn rises(&self)
         ensures { AreSorted self.now }
     {
-        let _pairs = &self.pairs;
+        let _pairs = &self.pairs; // for the proof
     }
 
     /// How many groups there are.

@@ -44,14 +44,14 @@ above_zero : (n : ℕ) → (n == 0) ≡ false → 0 < n
 above_zero zero e = absurd (let never : ⊥ = cc in never)
 above_zero (suc n) e = omega arith
 
-among-cons : (e : Hold × ℕ) (locks : Locks) (h : Hold) → (e.1 == 0) ≡ false → 0 < count_of locks h.job h.name → 0 < count_of (e ∷ locks) h.job h.name
+pub among-cons : (e : Hold × ℕ) (locks : Locks) (h : Hold) → (e.1 == 0) ≡ false → 0 < count_of locks h.job h.name → 0 < count_of (e ∷ locks) h.job h.name
 among-cons e locks h some below =
     elim (eq_by_cmp hold_cmp (hold_of h.job h.name) e.0) as (λ b. 0 < unwrap_or (cond b (Some e.1) (find hold_cmp (hold_of h.job h.name) locks)) 0) [
       | true ↦ above_zero e.1 some
       | false ↦ below
     ]
 
-among-head : (e : Hold × ℕ) (locks : Locks) → (e.1 == 0) ≡ false → 0 < count_of (e ∷ locks) e.0.job e.0.name
+pub among-head : (e : Hold × ℕ) (locks : Locks) → (e.1 == 0) ≡ false → 0 < count_of (e ∷ locks) e.0.job e.0.name
 among-head e locks some =
     let tie : eq_by_cmp hold_cmp (hold_of e.0.job e.0.name) e.0 ≡ true = ap is_eq (tied_itself hold_cmp_total e.0) in
     let P : Bool → Type 0 = λ b. 0 < unwrap_or (cond b (Some e.1) (find hold_cmp (hold_of e.0.job e.0.name) locks)) 0 in
@@ -60,10 +60,10 @@ among-head e locks some =
 -- ---- what is in the way of a name
 
 -- what is found is another job's hold of a name that overlaps
-pub Conflicts : Locks → ℕ → Name → Hold × ℕ → Type 0
+unfoldable pub Conflicts : Locks → ℕ → Name → Hold × ℕ → Type 0
 Conflicts locks job n e = (e.0.job ≡ job → ⊥) × (0 < count_of locks e.0.job e.0.name) × Overlaps e.0.name n
 
-conflicts : (locks : Locks) (job : ℕ) (n : Name) (e : Hold × ℕ) → IsCounted locks → conflict_with locks job n ≡ Some e → Conflicts locks job n e
+pub conflicts : (locks : Locks) (job : ℕ) (n : Name) (e : Hold × ℕ) → IsCounted locks → conflict_with locks job n ≡ Some e → Conflicts locks job n e
 unfolding Conflicts
 conflicts [] job n e c f = absurd (let never : ⊥ = cc in never)
 conflicts (g ∷ locks) job n e c f =
@@ -79,7 +79,7 @@ conflicts (g ∷ locks) job n e c f =
     ] refl f
 
 -- where none is found, no other job holds a name that overlaps
-free : (locks : Locks) (job : ℕ) (n : Name) → conflict_with locks job n ≡ None → (j : ℕ) (m : Name) → (j ≡ job → ⊥) → 0 < count_of locks j m → Overlaps m n → ⊥
+pub free : (locks : Locks) (job : ℕ) (n : Name) → conflict_with locks job n ≡ None → (j : ℕ) (m : Name) → (j ≡ job → ⊥) → 0 < count_of locks j m → Overlaps m n → ⊥
 free [] job n none j m other held over = omega (arith, held)
 free (g ∷ locks) job n none j m other held over =
     elim (is_conflict job n g) as (λ b. is_conflict job n g ≡ b → cond b (Some g) (conflict_with locks job n) ≡ None → ⊥) [

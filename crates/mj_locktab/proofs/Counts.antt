@@ -113,7 +113,7 @@ without locks job = λ j m.
 pub order-put : (locks : Locks) (h : Hold) (v : ℕ) → IsInOrder locks → IsInOrder (put hold_cmp h v locks)
 order-put locks h v o = is_sorted-put hold_cmp hold_cmp_total h v locks o
 
-order-with : (c : ℕ) (locks : Locks) (job : ℕ) (n : Name) → IsInOrder locks → IsInOrder (with_count locks job n c)
+pub order-with : (c : ℕ) (locks : Locks) (job : ℕ) (n : Name) → IsInOrder locks → IsInOrder (with_count locks job n c)
 order-with zero locks job n o = is_sorted-where_key hold_cmp (λ x. not (eq_by_cmp hold_cmp (hold_of job n) x)) locks o
 order-with (suc c) locks job n o = order-put locks (hold_of job n) (suc c) o
 
@@ -138,7 +138,7 @@ order-after_give_all locks job o = is_sorted-where_key hold_cmp (λ x. not (job_
 abbrev pub IsCounted : Locks → Type 0
 IsCounted locks = list_any (λ e. e.1 == 0) locks ≡ false
 
-above_none : (n : ℕ) → 0 < n → (n == 0) ≡ false
+pub above_none : (n : ℕ) → 0 < n → (n == 0) ≡ false
 above_none n h = at (n == 0) refl where
   at : (b : Bool) → (n == 0) ≡ b → b ≡ false
   at true e = absurd (let none : n ≡ 0 = eqb→eq n 0 (subst T (sym e) tt) in omega arith)
@@ -147,7 +147,7 @@ above_none n h = at (n == 0) refl where
 pub counted-one_more : (locks : Locks) (job : ℕ) (n : Name) → IsCounted locks → IsCounted (one_more locks job n)
 counted-one_more locks job n c = any-put_no hold_cmp (λ v. v == 0) (hold_of job n) (count_of locks job n + 1) locks (above_none (count_of locks job n + 1) (omega arith)) c
 
-counted-with : (c : ℕ) (locks : Locks) (job : ℕ) (n : Name) → IsCounted locks → IsCounted (with_count locks job n c)
+pub counted-with : (c : ℕ) (locks : Locks) (job : ℕ) (n : Name) → IsCounted locks → IsCounted (with_count locks job n c)
 counted-with zero locks job n h = any-filter hold_cmp (λ v. v == 0) (λ e. not (eq_by_cmp hold_cmp (hold_of job n) e.0)) locks h
 counted-with (suc c) locks job n h = any-put_no hold_cmp (λ v. v == 0) (hold_of job n) (suc c) locks (above_none (suc c) (omega arith)) h
 

@@ -79,15 +79,16 @@ module _ (locks : Locks) (job : ℕ) (n : Name) (order : IsInOrder locks) (withi
   pub new_over : (at : ℕ) → IsGapFor locks (hold_of job n) at → HOLDS_LIMIT ≤ names_of locks job → is_past_limit (one_more locks job n) job ≡ true
   new_over at gap full = over-new locks job n within gap.absent ∙ lt_true HOLDS_LIMIT (names_of locks job + 1) (omega (arith, full))
 
-  pub new_one : (at : ℕ) → IsGapFor locks (hold_of job n) at → names_of locks job < HOLDS_LIMIT
-      → (insert locks at (hold_of job n, 1) ≡ one_more locks job n) × (is_past_limit (one_more locks job n) job ≡ false)
-  new_one at gap room =
-      let value : count_of locks job n ≡ 0 = ap (λ (o : Option ℕ). unwrap_or o 0) gap.absent in (
-        sym (gap.written 1) ∙ ap (λ (c : ℕ). put hold_cmp (hold_of job n) c locks) {x = 1} {y = count_of locks job n + 1} (omega (arith, value)),
-        over-new locks job n within gap.absent ∙ lt_false HOLDS_LIMIT (names_of locks job + 1) (omega (arith, room)),
-      )
+  pub new_more : (at : ℕ) → IsGapFor locks (hold_of job n) at → names_of locks job < HOLDS_LIMIT → is_past_limit (one_more locks job n) job ≡ false
+  new_more at gap room = over-new locks job n within gap.absent ∙ lt_false HOLDS_LIMIT (names_of locks job + 1) (omega (arith, room))
 
 module _ (locks : Locks) (job : ℕ) (n : Name) where
+  -- a hold that is new is put at its place
+  pub new_put : (at : ℕ) → IsGapFor locks (hold_of job n) at → insert locks at (hold_of job n, 1) ≡ one_more locks job n
+  new_put at gap =
+      let value : count_of locks job n ≡ 0 = ap (λ (o : Option ℕ). unwrap_or o 0) gap.absent in
+      sym (gap.written 1) ∙ ap (λ (c : ℕ). put hold_cmp (hold_of job n) c locks) {x = 1} {y = count_of locks job n + 1} (omega (arith, value))
+
   pub less_there : (at : ℕ) (e : Hold × ℕ) → HoldStandsAt locks (hold_of job n) at → e ≡ get_or locks at e → 1 < e.1 → set locks at (e.0, e.1 - 1) ≡ one_less locks job n
   less_there at e is here more = by (e.1 - 1) refl (omega (arith, more)) where
     value : count_of locks job n ≡ e.1

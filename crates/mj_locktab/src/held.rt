@@ -1,15 +1,18 @@
-// The holds in their order.
+// The holds of all jobs, each job's by themselves.
 
-ghost use Rattle.std.specs.Prelude.{◌≡◌, map, length, true, false, IfOk, OnErr, option_copied};
-ghost use Rattle.mj_locktab.specs.Locks.{hold_cmp, hold_of, job_of, name_of, names_of, count_of, is_past_limit, IsInOrder, IsLockTable};
+ghost use Rattle.std.specs.Prelude.{◌≡◌, ℕ, ◌+◌, ◌-◌, ◌^◌, min, ◌≤◌, ◌++◌, length, map, false, IfOk, OnErr, option_copied};
+ghost use Rattle.mj_locktab.specs.Locks.{job_of, name_of, count_of, is_past_limit, IsLockTable};
 ghost use Rattle.mj_locktab.specs.Changes.{one_more, one_less, after_take, after_give, after_give_all};
-ghost use Rattle.mj_locktab.specs.Tries.{is_conflict, conflict_with, conflict_of, TakeLeaves};
-ghost use Rattle.std.specs.List.Sorted.{IsSearchInRange, IsBinarySearchResult};
+ghost use Rattle.mj_locktab.specs.Tries.{conflict_with, conflict_of, AreFree, TakeLeaves};
+ghost use Rattle.mj_locktab.specs.Told.{stands_of, Tell, IsFree, visits_limit, visits_least};
+ghost use Rattle.mj_locktab.specs.Parts.{holds_of, AreParts};
 
 use crate::hold::Hold;
+use crate::index::Index;
+use crate::part;
 use mj_subs::Name;
 use std::alloc::{AllocError, Global};
-use std::cmp::Ordering;
+use std::collections::BTreeMap;
 
 /// The most names that a job may hold.
 pub const HOLDS_LIMIT: usize = 1024;
@@ -17,12 +20,26 @@ pub const HOLDS_LIMIT: usize = 1024;
 /// The most often that a job may hold one name.
 pub const COUNT_LIMIT: u32 = u32::MAX;
 
-/// The first hold of another job that keeps this one from the names.
-pub fn conflict_of<'a>(held: &'a [(Hold, u32)], job: u32, names: &[Name]) -> Option<&'a (Hold, u32)>
-    ensures { option_copied result ≡ conflict_of held.now job names.now }
+/// Jobs, each with its holds in order. A job without one may be told or not.
+pub type Parts = BTreeMap<u32, Vec<(Hold, u32)>>;
+
+/// The first hold of another job that keeps this one from the names. For each name the trees are asked, at the node of its word and at one for each
+/// of its subscripts. Only the holds of the job that they name are looked through.
+pub fn conflict_of<'a>(
+    parts: &'a Parts,
+    index: &Index,
+    job: u32,
+    names: &[Name],
+    visits: &mut u64,
+) -> Option<&'a (Hold, u32)>
+    requires parts { AreParts parts.now.entries }
+    requires told { Tell (stands_of index.now) (holds_of parts.now.entries) }
+    ensures conflict { option_copied result ≡ conflict_of (holds_of parts.now.entries) job names.now }
+    ensures visits { visits.new ≤ visits.old + visits_limit names.now }
+    ensures looked { min (visits.old + visits_least (option_copied result) names.now) (2 ^ 64 - 1) ≤ visits.new }
 {
     for name in names {
-        if let Some(entry) = conflict_with(held, job, name) {
+        if let Some(entry) = conflict_with(parts, index, job, name, visits) {
             return Some(entry);
         }
     }
@@ -30,33 +47,55 @@ pub fn conflict_of<'a>(held: &'a [(Hold, u32)], job: u32, names: &[Name]) -> Opt
 }
 
 // The first hold of another job that keeps this one from the name.
-fn conflict_with<'a>(held: &'a [(Hold, u32)], job: u32, name: &Name) -> Option<&'a (Hold, u32)>
-    ensures { option_copied result ≡ conflict_with held.now job name.now }
+fn conflict_with<'a>(
+    parts: &'a Parts,
+    index: &Index,
+    job: u32,
+    name: &Name,
+    visits: &mut u64,
+) -> Option<&'a (Hold, u32)>
+    requires parts { AreParts parts.now.entries }
+    requires told { Tell (stands_of index.now) (holds_of parts.now.entries) }
+    ensures conflict { option_copied result ≡ conflict_with (holds_of parts.now.entries) job name.now }
+    ensures visits { visits.new ≤ visits.old + 1 + length name.now.subscripts }
+    ensures looked { min (visits.old + 1) (2 ^ 64 - 1) ≤ visits.new }
 {
-    held.iter().find(|entry| is_conflict(&entry.0, job, name))
-}
-
-fn is_conflict(hold: &Hold, job: u32, name: &Name) -> bool
-    ensures { result ≡ is_conflict job name.now (hold.now, 0) }
-{
-    hold.job != job && hold.name.overlap(name)
+    match index.least_other(job, name, visits) {
+        None => None,
+        Some(least) => match parts.get(&least) {
+            None => None,
+            Some(part) => part::first_conflict(part, job, name),
+        },
+    }
 }
 
 /// Takes each name once more for each of its places, or none where a limit would be passed, and says which.
-pub fn take_each(held: &mut Vec<(Hold, u32)>, job: u32, names: &[Name]) -> Result<bool, AllocError>
-    requires kept { IsLockTable held.old.items }
-    ensures ok { IfOk result (λ taken. TakeLeaves held.old.items (after_take held.old.items job names.now) job taken held.new.items) }
-    ensures err { OnErr result (held.new.items ≡ held.old.items) }
+pub fn take_each(
+    parts: &mut Parts,
+    index: &mut Index,
+    alloc: Global,
+    job: u32,
+    names: &[Name],
+) -> Result<bool, AllocError>
+    requires parts { AreParts parts.old.entries }
+    requires kept { IsLockTable (holds_of parts.old.entries) }
+    requires told { Tell (stands_of index.old) (holds_of parts.old.entries) }
+    requires free { AreFree (holds_of parts.old.entries) job names.now }
+    ensures ok { IfOk result (λ taken.
+        TakeLeaves (holds_of parts.old.entries) (after_take (holds_of parts.old.entries) job names.now) job taken (holds_of parts.new.entries)) }
+    ensures err { OnErr result (holds_of parts.new.entries ≡ holds_of parts.old.entries) }
+    ensures parts { AreParts parts.new.entries }
+    ensures told { Tell (stands_of index.new) (holds_of parts.new.entries) }
 {
     for (i, name) in names.iter().enumerate() {
-        match take(held, job, name) {
+        match take(parts, index, alloc, job, name) {
             Ok(true) => {}
             Ok(false) => {
-                give_each(held, job, &names[..i]);
+                give_each(parts, index, job, &names[..i]);
                 return Ok(false);
             }
             Err(error) => {
-                give_each(held, job, &names[..i]);
+                give_each(parts, index, job, &names[..i]);
                 return Err(error);
             }
         }
@@ -65,127 +104,114 @@ pub fn take_each(held: &mut Vec<(Hold, u32)>, job: u32, names: &[Name]) -> Resul
 }
 
 // Takes the name once more, or leaves it where a limit would be passed, and says which.
-fn take(held: &mut Vec<(Hold, u32)>, job: u32, name: &Name) -> Result<bool, AllocError>
-    requires order { IsInOrder held.old.items }
-    requires within { is_past_limit held.old.items job ≡ false }
-    ensures ok { IfOk result (λ taken. TakeLeaves held.old.items (one_more held.old.items job name.now) job taken held.new.items) }
-    ensures err { OnErr result (held.new.items ≡ held.old.items) }
+fn take(
+    parts: &mut Parts,
+    index: &mut Index,
+    alloc: Global,
+    job: u32,
+    name: &Name,
+) -> Result<bool, AllocError>
+    requires parts { AreParts parts.old.entries }
+    requires within { is_past_limit (holds_of parts.old.entries) job ≡ false }
+    requires told { Tell (stands_of index.old) (holds_of parts.old.entries) }
+    requires free { IsFree (holds_of parts.old.entries) job name.now }
+    ensures ok { IfOk result (λ taken.
+        TakeLeaves (holds_of parts.old.entries) (one_more (holds_of parts.old.entries) job name.now) job taken (holds_of parts.new.entries)) }
+    ensures err { OnErr result (holds_of parts.new.entries ≡ holds_of parts.old.entries) }
+    ensures parts { AreParts parts.new.entries }
+    ensures told { Tell (stands_of index.new) (holds_of parts.new.entries) }
 {
-    match place(held, job, name) {
-        Ok(at) => {
-            let entry = &mut held[at];
-            if entry.1 == COUNT_LIMIT {
-                return Ok(false);
-            }
-            entry.1 += 1;
-            Ok(true)
-        }
-        Err(at) => {
-            if names_of(held, job) >= HOLDS_LIMIT {
-                return Ok(false);
-            }
-            let hold = Hold {
-                job,
-                name: name.try_clone()?,
-            };
-            held.insert(at, (hold, 1))?;
-            Ok(true)
-        }
+    open(parts, alloc, job)?;
+    match parts.get_mut(&job) {
+        Some(part) => part::take(part, index, job, name),
+        None => Err(AllocError), // it was opened
     }
 }
 
+// Makes room for the holds of a job that has none.
+fn open(parts: &mut Parts, alloc: Global, job: u32) -> Result<(), AllocError>
+    requires { AreParts parts.old.entries }
+    ensures same { holds_of parts.new.entries ≡ holds_of parts.old.entries }
+    ensures parts { AreParts parts.new.entries }
+{
+    if parts.contains_key(&job) {
+        return Ok(());
+    }
+    parts.insert(job, Vec::new(alloc))?;
+    Ok(())
+}
+
 /// Gives each name up once for each of its places.
-pub fn give_each(held: &mut Vec<(Hold, u32)>, job: u32, names: &[Name])
-    requires { IsInOrder held.old.items }
-    ensures { held.new.items ≡ after_give held.old.items job names.now }
+pub fn give_each(parts: &mut Parts, index: &mut Index, job: u32, names: &[Name])
+    requires parts { AreParts parts.old.entries }
+    requires told { Tell (stands_of index.old) (holds_of parts.old.entries) }
+    ensures after { holds_of parts.new.entries ≡ after_give (holds_of parts.old.entries) job names.now }
+    ensures parts { AreParts parts.new.entries }
+    ensures told { Tell (stands_of index.new) (holds_of parts.new.entries) }
 {
     for name in names {
-        give(held, job, name);
+        give(parts, index, job, name);
     }
 }
 
 // Gives the name up once.
-fn give(held: &mut Vec<(Hold, u32)>, job: u32, name: &Name)
-    requires { IsInOrder held.old.items }
-    ensures { held.new.items ≡ one_less held.old.items job name.now }
+fn give(parts: &mut Parts, index: &mut Index, job: u32, name: &Name)
+    requires parts { AreParts parts.old.entries }
+    requires told { Tell (stands_of index.old) (holds_of parts.old.entries) }
+    ensures after { holds_of parts.new.entries ≡ one_less (holds_of parts.old.entries) job name.now }
+    ensures parts { AreParts parts.new.entries }
+    ensures told { Tell (stands_of index.new) (holds_of parts.new.entries) }
 {
-    let Ok(at) = place(held, job, name) else {
+    let Some(part) = parts.get_mut(&job) else {
         return;
     };
-    let entry = &mut held[at];
-    if entry.1 > 1 {
-        entry.1 -= 1;
-    } else {
-        let _gone = held.remove(at);
-    }
+    part::give(part, index, job, name);
 }
 
-/// Gives all names of the job up.
-pub fn give_all(held: &mut Vec<(Hold, u32)>, job: u32)
-    ensures { held.new.items ≡ after_give_all held.old.items job }
+/// Gives all names of the job up. No hold of another job is looked at.
+pub fn give_all(parts: &mut Parts, index: &mut Index, job: u32)
+    requires parts { AreParts parts.old.entries }
+    requires told { Tell (stands_of index.old) (holds_of parts.old.entries) }
+    ensures after { holds_of parts.new.entries ≡ after_give_all (holds_of parts.old.entries) job }
+    ensures parts { AreParts parts.new.entries }
+    ensures told { Tell (stands_of index.new) (holds_of parts.new.entries) }
 {
-    held.retain(|entry| entry.0.job != job);
+    let Some(mut part) = parts.remove(&job) else {
+        return;
+    };
+    while let Some(entry) = part.pop() {
+        index.unmark(job, &entry.0.name);
+    }
 }
 
 /// How often the job holds the name.
-pub fn count(held: &[(Hold, u32)], job: u32, name: &Name) -> u32
-    requires { IsInOrder held.now }
-    ensures { result ≡ count_of held.now job name.now }
+pub fn count(parts: &Parts, job: u32, name: &Name) -> u32
+    requires { AreParts parts.now.entries }
+    ensures { result ≡ count_of (holds_of parts.now.entries) job name.now }
 {
-    match place(held, job, name) {
-        Ok(at) => held[at].1,
-        Err(_) => 0,
+    match parts.get(&job) {
+        None => 0,
+        Some(part) => part::count(part, job, name),
     }
 }
 
-// How many names the job holds.
-fn names_of(held: &[(Hold, u32)], job: u32) -> usize
-    ensures { result ≡ names_of held.now job }
-{
-    held.iter().filter(|entry| entry.0.job == job).count()
-}
-
 /// Each job with its names and their counts.
-pub fn list(alloc: Global, held: &[(Hold, u32)]) -> Result<Vec<(u32, Name, u32)>, AllocError>
-    ensures { IfOk result (λ list. list.items ≡ map (λ e. (job_of e.0, name_of e.0, e.1)) held.now) }
+pub fn list(alloc: Global, parts: &Parts) -> Result<Vec<(u32, Name, u32)>, AllocError>
+    ensures { IfOk result (λ list. list.items ≡ map (λ e. (job_of e.0, name_of e.0, e.1)) (holds_of parts.now.entries)) }
 {
-    let mut list = Vec::with_capacity(alloc, held.len())?;
-    for (hold, count) in held {
-        list.push((hold.job, hold.name.try_clone()?, *count))?;
+    let mut list = Vec::new(alloc);
+    for (_, part) in parts {
+        part::list(&mut list, part)?;
     }
     Ok(list)
 }
 
 /// A copy.
-pub fn copy(alloc: Global, held: &[(Hold, u32)]) -> Result<Vec<(Hold, u32)>, AllocError>
-    ensures { IfOk result (λ copies. copies.items ≡ held.now) }
+pub fn copy(parts: &Parts) -> Result<Parts, AllocError>
+    requires { AreParts parts.now.entries }
+    ensures holds { IfOk result (λ copy. holds_of copy.entries ≡ holds_of parts.now.entries) }
+    ensures parts { IfOk result (λ copy. AreParts copy.entries) }
 {
-    let mut copies = Vec::with_capacity(alloc, held.len())?;
-    for (hold, count) in held {
-        let name = hold.name.try_clone()?;
-        copies.push((
-            Hold {
-                job: hold.job,
-                name,
-            },
-            *count,
-        ))?;
-    }
-    Ok(copies)
-}
-
-// Where the job's hold of the name stands, or else where it would go.
-fn place(held: &[(Hold, u32)], job: u32, name: &Name) -> Result<usize, usize>
-    requires { IsInOrder held.now }
-    ensures range { IsSearchInRange result (length held.now) }
-    ensures position { IsBinarySearchResult (λ e. hold_cmp e.0 (hold_of job name.now)) held.now result }
-{
-    held.binary_search_by(|entry| compare(&entry.0, job, name))
-}
-
-// How a hold stands to the job's hold of the name.
-fn compare(hold: &Hold, job: u32, name: &Name) -> Ordering
-    ensures { result ≡ hold_cmp hold.now (hold_of job name.now) }
-{
-    hold.job.cmp(&job).then(hold.name.cmp(name))
+    let copy = parts.clone()?;
+    Ok(copy)
 }

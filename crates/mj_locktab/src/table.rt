@@ -1,32 +1,39 @@
 // The table of locks.
 
-ghost use Rattle.std.specs.Prelude.{◌≡◌, [], map, IfOk, OnOk, OnErr};
+ghost use Rattle.std.specs.Prelude.{◌≡◌, ◌≤◌, [], map, IfOk, OnOk, OnErr};
 ghost use Rattle.mj_locktab.specs.Locks.{count_of, job_of, name_of, IsLockTable};
 ghost use Rattle.mj_locktab.specs.Changes.{after_give, after_give_all, FallsBy, IsWithout};
-ghost use Rattle.mj_locktab.specs.Tries.{outcome_of, after_try, TryGives};
+ghost use Rattle.mj_locktab.specs.Tries.{conflict_of, outcome_of, after_try, TryGives};
+ghost use Rattle.mj_locktab.specs.Told.{visits_limit, visits_least};
 
-use crate::held;
-use crate::hold::Hold;
+use crate::held::{self, Parts};
+use crate::index::Index;
 use crate::taken::Taken;
 use mj_subs::Name;
 use std::alloc::{AllocError, Global};
+use std::collections::BTreeMap;
 use std::marker::Model;
 
 /// The names that jobs hold, each with its count. Names of different jobs never overlap.
 #[derive(Drop)]
 pub struct LockTable {
-    held: Vec<(Hold, u32)>,
+    alloc: Global,
+    held: Parts,
+    index: Index,
+    visits: u64,
 }
 
 impl Model for LockTable {
     ghost use Rattle.mj_locktab.specs.Locks.{IsLockTable};
     ghost use Rattle.mj_locktab.specs.Visits.{Visited};
+    ghost use Rattle.mj_locktab.specs.Told.{stands_of, Tell};
+    ghost use Rattle.mj_locktab.specs.Parts.{holds_of, AreParts};
 
     ghost Value = { Visited };
 
-    ghost view = { λ t. record { holds = t.held.items; visits = 0 } };
+    ghost view = { λ t. record { holds = holds_of t.held.entries; visits = t.visits } };
 
-    ghost invariant = { λ t. IsLockTable t.held.items };
+    ghost invariant = { λ t. IsLockTable (holds_of t.held.entries) × AreParts t.held.entries × Tell (stands_of t.index) (holds_of t.held.entries) };
 }
 
 impl LockTable {
@@ -35,29 +42,35 @@ impl LockTable {
         ensures { result.holds ≡ [] }
     {
         LockTable {
-            held: Vec::new(alloc),
+            alloc,
+            held: BTreeMap::new(alloc),
+            index: Index::new(alloc),
+            visits: 0,
         }
     }
 
     /// Takes each name once more for each of its places in the list, or none of them. Of several holds that are in the way the one is told
-    /// that the first such name of the list meets: the lowest job's, and of its names the least. The time goes with the names that are held,
-    /// once for each name of the list.
+    /// that the first such name of the list meets: the lowest job's, and of its names the least. Whether a name is in the way is told by no more nodes
+    /// than one and the name's subscripts, however many names are held.
     pub fn try_take(&mut self, job: u32, names: &[Name]) -> Result<Taken, AllocError>
         ensures answer { IfOk result (λ taken. taken ≡ outcome_of self.old.holds job names.now) }
         ensures after { OnOk result (self.new.holds ≡ after_try self.old.holds job names.now) }
         ensures meaning { IfOk result (λ taken. TryGives self.old.holds job names.now taken self.new.holds) }
         ensures err { OnErr result (self.new.holds ≡ self.old.holds) }
+        ensures visits { OnOk result (self.new.visits ≤ visits_limit names.now) }
+        ensures looked { OnOk result (visits_least (conflict_of self.old.holds job names.now) names.now ≤ self.new.visits) }
     {
-        match held::conflict_of(&self.held, job, names) {
+        let mut visits = 0;
+        match held::conflict_of(&self.held, &self.index, job, names, &mut visits) {
             Some(entry) => {
                 let name = entry.0.name.try_clone()?;
-                Ok(Taken::Busy {
-                    holder: entry.0.job,
-                    name,
-                })
+                let holder = entry.0.job;
+                self.visits = visits;
+                Ok(Taken::Busy { holder, name })
             }
             None => {
-                if !held::take_each(&mut self.held, job, names)? {
+                self.visits = visits;
+                if !held::take_each(&mut self.held, &mut self.index, self.alloc, job, names)? {
                     return Ok(Taken::Limit);
                 }
                 Ok(Taken::Got)
@@ -65,12 +78,19 @@ impl LockTable {
         }
     }
 
+    /// How many nodes the test of the last try looked at.
+    pub fn visits(&self) -> u64
+        ensures { result ≡ self.now.visits }
+    {
+        self.visits
+    }
+
     /// Gives each name up once for each of its places in the list. Of a name that the job doesn't hold nothing changes.
     pub fn give(&mut self, job: u32, names: &[Name])
         ensures after { self.new.holds ≡ after_give self.old.holds job names.now }
         ensures counts { FallsBy self.old.holds job names.now self.new.holds }
     {
-        held::give_each(&mut self.held, job, names);
+        held::give_each(&mut self.held, &mut self.index, job, names);
     }
 
     /// Gives all names of the job up, whatever their counts.
@@ -78,7 +98,7 @@ impl LockTable {
         ensures after { self.new.holds ≡ after_give_all self.old.holds job }
         ensures counts { IsWithout self.old.holds job self.new.holds }
     {
-        held::give_all(&mut self.held, job);
+        held::give_all(&mut self.held, &mut self.index, job);
     }
 
     /// How often the job holds the name.
@@ -100,8 +120,14 @@ impl LockTable {
     pub fn try_clone(&self) -> Result<LockTable, AllocError>
         ensures { IfOk result (λ copy. copy.holds ≡ self.now.holds) }
     {
-        let held = held::copy(*self.held.allocator(), &self.held)?;
-        Ok(LockTable { held })
+        let held = held::copy(&self.held)?;
+        let index = self.index.try_clone()?;
+        Ok(LockTable {
+            alloc: self.alloc,
+            held,
+            index,
+            visits: self.visits,
+        })
     }
 
     /// That this table keeps what each does. Nothing is done.

@@ -17,7 +17,7 @@ use Rattle.mj_trace.specs.Trace.{opening_text}
 use Rattle.mj_trace.specs.Sized.{device_count_fits}
 use Rattle.mj_recorded.specs.Traces.{entries_of, IsBeginning}
 use Rattle.mj_report.specs.Traced.{IsHead}
-use Rattle.mj_main.specs.Words.{WereStarts}
+use Rattle.mj_begin.specs.Words.{WereStarts}
 
 module _ (globals : Content) (pool : List Shelf) (starts : List Started) (words : List (Bor (List ℕ))) (were : WereStarts words starts) (content : is_content globals ≡ true)
     (whole : AreWhole pool) (some : 1 ≤ length starts) (few : length starts ≤ rows_limit) (fits : length starts ≤ left_of principal pool) where

@@ -1,50 +1,13 @@
--- The exit statuses of the program.
+-- Why the program stops where workers ran jobs, and the exit status of a replay.
 use Rattle.std.specs.Prelude.{ℕ, Option, Some, None}
-use Rattle.mj_steps.specs.declared.drive.Ending.{Ending}
-use Rattle.mj_steps.specs.declared.drive.Ending.TheVariants as endings
-use Rattle.mj_steps.specs.declared.step.Refusal.{Refusal}
-use Rattle.mj_steps.specs.declared.step.Refusal.TheVariants as refusals
 use Rattle.mj_replica.specs.declared.replaying.Verdict.{Verdict}
 use Rattle.mj_replica.specs.declared.replaying.Verdict.TheVariants as verdicts
-use Rattle.mj_work.specs.declared.gathering.Ungathered.{Ungathered}
-use Rattle.mj_work.specs.declared.gathering.Ungathered.TheVariants as ungathered
+use Rattle.mj_gather.specs.declared.gathering.Ungathered.{Ungathered}
+use Rattle.mj_gather.specs.declared.gathering.Ungathered.TheVariants as ungathered
 use Rattle.mj_threads.specs.declared.cuts.Cut.{Cut}
 use Rattle.mj_threads.specs.declared.cuts.Cut.TheVariants as cuts
-use Rattle.mj_main.specs.declared.stop.ProgramError.{ProgramError}
-use Rattle.mj_main.specs.declared.stop.ProgramError.TheVariants as stops
-
--- the status where it stops before its end: 2 where a routine, a listing, a trace, a file of steps or a step is refused, 3 where the command line is
--- wrong, 4 where memory or a file fails, where another run has a file, where all jobs wait, where they
--- go on for too long, or where what workers did isn't one run
-abbrev pub status_of : ProgramError → ℕ
-status_of (stops.Value value) = 3
-status_of (stops.File file) = 4
-status_of (stops.Busy file) = 4
-status_of (stops.Name file) = 2
-status_of (stops.Routine refusal) = 2
-status_of (stops.Twice name) = 2
-status_of (stops.Listing refusal) = 2
-status_of (stops.Trace refusal) = 2
-status_of (stops.Steps refusal) = 2
-status_of (stops.Step why step) = 2
-status_of stops.Stuck = 4
-status_of stops.Full = 4
-status_of stops.Long = 4
-status_of (stops.Differs job) = 4
-status_of stops.Memory = 4
-
--- why the program stops where a step isn't made: an event too many, refused memory, or the step of this number
-abbrev pub stop_at : Refusal → ℕ → ProgramError
-stop_at refusals.Full step = stops.Full
-stop_at refusals.Memory step = stops.Memory
-stop_at why step = stops.Step why step
-
--- why it stops where stepping ends so, if it does
-abbrev pub stop_of : Ending → Option ProgramError
-stop_of endings.Over = None
-stop_of endings.Stuck = Some stops.Stuck
-stop_of endings.Full = Some stops.Full
-stop_of (endings.Refused why step) = Some (stop_at why step)
+use Rattle.mj_drafts.specs.declared.stop.ProgramError.{ProgramError}
+use Rattle.mj_drafts.specs.declared.stop.ProgramError.TheVariants as stops
 
 -- why it stops where jobs that workers ran stopped before their end, if some did
 abbrev pub cut_stop : Option Cut → Option ProgramError
@@ -58,11 +21,6 @@ abbrev pub ungathered_stop : Ungathered → ProgramError
 ungathered_stop (ungathered.Differs job place) = stops.Differs job
 ungathered_stop (ungathered.Twice job) = stops.Differs job
 ungathered_stop ungathered.Memory = stops.Memory
-
--- the status of a reason to stop, if there is one
-abbrev pub ending_status : Option ProgramError → ℕ
-ending_status None = 0
-ending_status (Some stop) = status_of stop
 
 -- the status of what a replay says
 abbrev pub verdict_status : Verdict → ℕ

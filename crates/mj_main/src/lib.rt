@@ -2,30 +2,18 @@
 // gives.
 //
 // `run` is the whole program, and its result is the exit status. It reads the words (by `mj_command_line`), then the file of steps, the files of the
-// routines, the listing of globals and standard input, and then has jobs run: by workers (`mj_threads`), or in turn or as the file says (`mj_run`). Their
-// devices are over lines and files (`mj_files`). What the jobs wrote is taken from the run's history (`mj_report`); the globals that they left and the trace
-// of the run (`traces.rt`) are written last.
+// routines, the listing of globals and standard input (`mj_begin`), and then has jobs run: by workers (`mj_threads`), or in turn or as the file says
+// (`mj_run`), or by the commands of a debugger (`mj_prompt`). Their devices are over lines and files (`mj_files`). What the jobs wrote is taken from the run's
+// history (`mj_report`); the globals that they left and the trace of the run are written last. What the jobs leave besides is forgotten, not dropped, since
+// the process ends behind `run`.
 #![tactic(auto)]
 
-mod apart;
-mod begin;
-mod debugs;
-mod drafts;
-mod files;
 mod jobs;
-mod listings;
-mod locks;
-mod places;
-mod printing;
 mod program;
-mod prompts;
 mod replays;
-mod routines;
-mod stop;
 mod telling;
-mod traces;
 mod wait;
 mod workers;
 
-pub use locks::Lockable;
+pub use mj_drafts::Lockable;
 pub use program::run;

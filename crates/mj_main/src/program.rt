@@ -1,12 +1,9 @@
 // The program.
 
-ghost use Rattle.std.specs.Prelude.{◌≡◌, ◌≤◌, length, map, option_map, true, All, IfOk, IfSome, if◌then◌else◌};
+ghost use Rattle.std.specs.Prelude.{◌≡◌, ◌≤◌, map, true, IfOk, IfSome};
 ghost use Rattle.std.specs.List.{list_all};
-ghost use Rattle.mj_ask.specs.Fitting.{is_content};
-ghost use Rattle.mj_dev.specs.Shelves.{AreRising, count_of, principal, left_of};
-ghost use Rattle.mj_jobs.specs.Rows.{rows_limit};
-ghost use Rattle.mj_sys.specs.Opening.{opening_of, are_bare};
-ghost use Rattle.mj_sys.specs.Shared.{are_global};
+ghost use Rattle.mj_dev.specs.Shelves.{AreRising, count_of};
+ghost use Rattle.mj_sys.specs.Opening.{opening_of};
 ghost use Rattle.mj_rou.specs.Words.{Each, IsRoutineWorded};
 ghost use Rattle.mj_load.specs.Image.{routines_of};
 ghost use Rattle.mj_replica.specs.Replicas.{AreWhole};
@@ -14,35 +11,27 @@ ghost use Rattle.mj_trace.specs.Trace.{opening_text};
 ghost use Rattle.mj_trace.specs.Sized.{device_count_fits};
 ghost use Rattle.mj_recorded.specs.Traces.{entries_of};
 ghost use Rattle.mj_report.specs.Traced.{IsHead};
-ghost use Rattle.mj_main.specs.Words.{WasRead, WereListed, WereStarts, WereSteps, AreOrdered, IsPoolOf};
+ghost use Rattle.mj_begin.specs.Words.{WereGiven};
 
-use crate::begin::{Beginning, begin, trace_from};
-use crate::debugs::debug;
 use crate::jobs::waits;
-use crate::locks::{Lockable, LockedFile};
-use crate::printing::{print, stopped};
 use crate::replays::replayed;
-use crate::routines::loaded;
-use crate::stop::{ProgramError, WORDS};
 use crate::telling::tell_run;
 use crate::workers::with_workers;
-use mj_ask::Start;
+use mj_begin::{Beginning, Outlet, begin, loaded};
 use mj_command_line::{NoOrder, Order, Replay, Run, read_words};
 use mj_core::Core;
-use mj_dev::{Device, Pool};
-use mj_files::{Named, Port};
-use mj_globs::Globals;
-use mj_jobs::ROWS_LIMIT;
-use mj_load::Image;
-use mj_report::Trace;
+use mj_dev::Device;
+use mj_drafts::{Lockable, ProgramError, WORDS, print, stopped};
+use mj_files::Port;
+use mj_prompt::debug;
 use mj_run::run_jobs;
 use mj_sessions::Sessions;
-use mj_steps::{Ending, Step};
+use mj_steps::Ending;
 use mj_sys::Opening;
-use std::alloc::{AllocError, Global};
 use std::convert::AsStr;
 use std::io::{Read, Write};
 use std::marker::Brand;
+use std::mem::forget;
 use std::rt::{Clock, Files};
 use std::sync::Wait;
 use std::thread::Threads;
@@ -103,7 +92,7 @@ where
     ensures { result ≤ 4 }
 {
     match begin(rt, order, input) {
-        Ok(beginning) => run_from(rt, order, workers, beginning, out, err),
+        Ok((beginning, outlet)) => run_from(rt, order, workers, beginning, outlet, out, err),
         Err(stop) => stopped(&stop, err),
     }
 }
@@ -113,7 +102,8 @@ fn run_from<R, O, E>(
     rt: R,
     order: &Run<'_>,
     workers: Option<u32>,
-    beginning: Beginning<R>,
+    beginning: Beginning<Port<R>>,
+    outlet: Outlet<'_, R::File>,
     out: &mut O,
     err: &mut E,
 ) -> u8
@@ -123,61 +113,30 @@ where
     R::Dir: Send,
     O: Write,
     E: Write,
-    requires starts { WereStarts order.now.starts.items beginning.starts.items }
-    requires devices { IsPoolOf order.now.devices.items beginning.pool }
-    requires routines { All WasRead beginning.image.routines }
-    requires listed { WereListed order.now.globals beginning.globals.content }
-    requires steps { WereSteps order.now.steps beginning.steps }
+    requires given { WereGiven order.now beginning.starts.items beginning.pool beginning.image.routines beginning.globals.content beginning.steps }
     requires worded { Each IsRoutineWorded (routines_of beginning.image) }
     requires whole { AreWhole beginning.pool }
+    requires text { IfSome outlet.trace (λ t. t.opening.items ≡ opening_text (map count_of beginning.pool) (entries_of beginning.starts.items)) }
+    requires sized { IfSome outlet.trace (λ t. list_all device_count_fits (map count_of beginning.pool) ≡ true) }
+    requires rising { IfSome outlet.trace (λ t. AreRising beginning.pool) }
     ensures { result ≤ 4 }
 {
-    let starts = &beginning.starts;
-    if starts.is_empty() || starts.len() > ROWS_LIMIT || !beginning.pool.fits(starts.len() as u32) {
-        drop(beginning);
-        return stopped(&ProgramError::Memory, err);
-    }
-    let Ok(trace) = trace_from(rt.alloc(), order.trace, &beginning) else {
-        drop(beginning);
-        return stopped(&ProgramError::Memory, err);
-    };
-    let Beginning {
-        steps,
-        image,
-        globals,
-        pool,
-        starts,
-        lock,
-    } = beginning;
-    let list = match &steps {
-        None => None,
-        Some(steps) => Some(steps.as_slice()),
-    };
     let status = match workers {
-        None => with_files::<R, O, E, Port<R>, Brand>(
-            &rt, order, list, &trace, &lock, image, globals, pool, starts, out, err,
-        ),
-        Some(n) => with_workers::<R, O, E, Port<R>, Brand>(
-            &rt, order, n, &trace, &lock, image, globals, pool, starts, out, err,
-        ),
+        None => { with_files::<R, O, E, Port<R>, Brand>(&rt, order, beginning, &outlet, out, err) }
+        Some(n) => {
+            with_workers::<R, O, E, Port<R>, Brand>(&rt, order, n, beginning, &outlet, out, err)
+        }
     };
-    drop(steps);
-    drop(trace);
-    drop(lock);
+    drop(outlet);
     status
 }
 
-// Steps the jobs, and writes what comes of them.
+// Steps the jobs, and writes what comes of them. What they leave is forgotten: the process ends behind this, and a drop of it all takes a tenth of a run.
 fn with_files<R, O, E, D, G>(
     rt: &R,
     order: &Run<'_>,
-    steps: Option<&[Step]>,
-    trace: &Option<Trace<'_>>,
-    lock: &Option<LockedFile<R::File>>,
-    image: Image,
-    globals: Globals,
-    pool: Pool<D>,
-    starts: Vec<Start>,
+    beginning: Beginning<D>,
+    outlet: &Outlet<'_, R::File>,
     out: &mut O,
     err: &mut E,
 ) -> u8
@@ -188,36 +147,39 @@ where
     E: Write,
     D: Device,
     G: Opening,
-    requires opening { opening_of globals.content pool starts.items ≡ G.opening }
-    requires global { are_global globals.content ≡ true }
-    requires some { 1 ≤ length starts.items }
-    requires few { length starts.items ≤ rows_limit }
-    requires fits { length starts.items ≤ left_of principal pool }
-    requires bare { are_bare starts.items ≡ true }
-    requires starts { WereStarts order.now.starts.items starts.items }
-    requires devices { IsPoolOf order.now.devices.items pool }
-    requires routines { All WasRead image.routines }
-    requires listed { WereListed order.now.globals globals.content }
-    requires steps { AreOrdered order.now.steps (option_map (λ steps. steps.now) steps) }
-    requires content { is_content globals.content ≡ true }
-    requires worded { Each IsRoutineWorded (routines_of image) }
-    requires whole { AreWhole pool }
-    requires text { IfSome trace.now (λ t. t.opening.items ≡ opening_text (map count_of pool) (entries_of starts.items)) }
-    requires sized { IfSome trace.now (λ t. list_all device_count_fits (map count_of pool) ≡ true) }
-    requires rising { IfSome trace.now (λ t. AreRising pool) }
+    requires opening { opening_of beginning.globals.content beginning.pool beginning.starts.items ≡ G.opening }
+    requires given { WereGiven order.now beginning.starts.items beginning.pool beginning.image.routines beginning.globals.content beginning.steps }
+    requires worded { Each IsRoutineWorded (routines_of beginning.image) }
+    requires whole { AreWhole beginning.pool }
+    requires text { IfSome outlet.now.trace (λ t. t.opening.items ≡ opening_text (map count_of beginning.pool) (entries_of beginning.starts.items)) }
+    requires sized { IfSome outlet.now.trace (λ t. list_all device_count_fits (map count_of beginning.pool) ≡ true) }
+    requires rising { IfSome outlet.now.trace (λ t. AreRising beginning.pool) }
     ensures { result ≤ 4 }
 {
-    match run_jobs::<D, G>(rt.alloc(), image, globals, pool, starts, steps) {
+    let Beginning {
+        steps,
+        image,
+        globals,
+        pool,
+        starts,
+    } = beginning;
+    let list = match &steps {
+        None => None,
+        Some(steps) => Some(steps.as_slice()),
+    };
+    let status = match run_jobs::<D, G>(rt.alloc(), image, globals, pool, starts, list) {
         Ok((mut core, ending)) => {
-            let status = finish(rt, &mut core, ending, order, trace, lock, out, err);
-            drop(core);
+            let status = finish(rt, &mut core, ending, order, outlet, out, err);
+            forget(core);
             status
         }
         Err(back) => {
-            drop(back);
+            forget(back);
             stopped(&ProgramError::Memory, err)
         }
-    }
+    };
+    drop(steps);
+    status
 }
 
 // Tells of the run of a core, then what each job waits for, if that was asked for, and gives the exit status.
@@ -226,8 +188,7 @@ fn finish<R, O, E, D, G>(
     core: &mut Core<D, Sessions<D>, G>,
     ending: Ending,
     order: &Run<'_>,
-    trace: &Option<Trace<'_>>,
-    lock: &Option<LockedFile<R::File>>,
+    outlet: &Outlet<'_, R::File>,
     out: &mut O,
     err: &mut E,
 ) -> u8
@@ -238,10 +199,10 @@ where
     E: Write,
     D: Device,
     G: Opening,
-    requires { IfSome trace.now (λ t. IsHead core.old.image G.opening t.opening.items) }
+    requires { IfSome outlet.now.trace (λ t. IsHead core.old.image G.opening t.opening.items) }
     ensures { result ≤ 4 }
 {
-    let Some(status) = tell_core(rt, core, ending, order, trace, lock, out, err) else {
+    let Some(status) = tell_core(rt, core, ending, order, outlet, out, err) else {
         return stopped(&ProgramError::Memory, err);
     };
     // To ask what each job waits for is to step it once more, so it comes last.
@@ -257,8 +218,7 @@ fn tell_core<R, O, E, D, G>(
     core: &Core<D, Sessions<D>, G>,
     ending: Ending,
     order: &Run<'_>,
-    trace: &Option<Trace<'_>>,
-    lock: &Option<LockedFile<R::File>>,
+    outlet: &Outlet<'_, R::File>,
     out: &mut O,
     err: &mut E,
 ) -> Option<u8>
@@ -269,18 +229,17 @@ where
     E: Write,
     D: Device,
     G: Opening,
-    requires { IfSome trace.now (λ t. IsHead core.now.image G.opening t.opening.items) }
+    requires { IfSome outlet.now.trace (λ t. IsHead core.now.image G.opening t.opening.items) }
     ensures { IfSome result (λ status. status ≤ 4) }
 {
     // its history is a run
-    let _run = core.len();
+    let _run = core.len(); // for the proof
     let jobs = core.jobs() as u32;
     let stop = ProgramError::of_ending(ending);
     tell_run::<R, O, E, Core<D, Sessions<D>, G>, G>(
         rt,
         order,
-        trace,
-        lock,
+        outlet,
         core.image(),
         core,
         jobs,

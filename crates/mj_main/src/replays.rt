@@ -7,17 +7,16 @@ ghost use Rattle.mj_trace.specs.Lines.{IsTrace};
 ghost use Rattle.mj_main.specs.Printed.{verdict_text};
 ghost use Rattle.mj_main.specs.Statuses.{verdict_status};
 
-use crate::files::file_bytes;
-use crate::listings::listed;
-use crate::routines::loaded;
-use crate::stop::{DIFFERS, ProgramError};
+use mj_begin::{file_bytes, listed, loaded};
 use mj_command_line::Replay;
+use mj_drafts::{DIFFERS, ProgramError};
 use mj_globs::Globals;
 use mj_load::Image;
 use mj_replay::replay_trace;
 use mj_replica::Verdict;
 use mj_trace::{Trace, TraceError, read_trace};
 use std::alloc::{AllocError, Global};
+use std::mem::forget;
 use std::rt::Files;
 
 /// Replays a trace: what is to be printed, and the exit status. The trace is read first, then the routines, then the globals.
@@ -31,11 +30,11 @@ pub fn replayed<'a, R: Files + AllocGlobal>(
     match verdict(rt, order, &trace) {
         Ok(verdict) => {
             let told = verdict_text(rt.alloc(), &trace, verdict);
-            drop(trace);
+            forget(trace);
             Ok(told?)
         }
         Err(stop) => {
-            drop(trace);
+            forget(trace);
             Err(stop)
         }
     }
@@ -66,7 +65,7 @@ fn verdict<'a, R: Files + AllocGlobal>(
         Ok(globals) => replay_verdict(rt.alloc(), &image, globals, trace),
         Err(stop) => Err(stop),
     };
-    drop(image);
+    forget(image);
     verdict
 }
 

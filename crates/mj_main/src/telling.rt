@@ -6,15 +6,12 @@ ghost use Rattle.mj_core.specs.Runs.{IsRun};
 ghost use Rattle.mj_report.specs.Faults.{has_faulted};
 ghost use Rattle.mj_report.specs.Traced.{IsHead};
 
-use crate::listings::save;
-use crate::locks::{Lockable, LockedFile};
-use crate::printing::{print, stopped, tell_stop, tell_trouble};
-use crate::stop::{FAULTED, ProgramError};
-use crate::traces::write_trace;
+use mj_begin::{Outlet, save, write_trace};
 use mj_command_line::Run;
+use mj_drafts::{FAULTED, Lockable, ProgramError, print, stopped, tell_stop, tell_trouble};
 use mj_globs::Globals;
 use mj_load::Image;
-use mj_report::{Events, Trace, has_faulted, printed};
+use mj_report::{Events, has_faulted, printed};
 use mj_sys::Opening;
 use std::io::Write;
 use std::rt::Files;
@@ -25,8 +22,7 @@ use std::rt::Files;
 pub fn tell_run<R, O, E, H, G>(
     rt: &R,
     order: &Run<'_>,
-    trace: &Option<Trace<'_>>,
-    lock: &Option<LockedFile<R::File>>,
+    outlet: &Outlet<'_, R::File>,
     image: &Image,
     told: &H,
     jobs: u32,
@@ -42,7 +38,7 @@ where
     E: Write,
     H: Events,
     G: Opening,
-    requires head { IfSome trace.now (λ t. IsHead image.now G.opening t.opening.items) }
+    requires head { IfSome outlet.now.trace (λ t. IsHead image.now G.opening t.opening.items) }
     requires run { IsRun (routines_of image.now) G.opening (H.history told.now) }
     ensures { IfSome result (λ status. status ≤ 4) }
 {
@@ -56,11 +52,11 @@ where
     if is_for_memory {
         return Some(shown.max(ended));
     }
-    let saved = match save(rt, globals, order.save, lock) {
+    let saved = match save(rt, globals, order.save, &outlet.lock) {
         Err(ProgramError::Memory) => return None,
         done => tell_trouble(done, err),
     };
-    let traced = tell_trouble(write_trace::<R, G, H>(rt, trace, image, told), err);
+    let traced = tell_trouble(write_trace::<R, G, H>(rt, &outlet.trace, image, told), err);
     Some(shown.max(ended).max(saved).max(traced))
 }
 

@@ -10,7 +10,7 @@ use Rattle.std.proofs.lemmas.List.{append_assoc}
 use Rattle.mj_ask.proofs.Lists.{and_true}
 use Rattle.mj_dev.specs.Shelves.{Shelf, IsBelow, AreRising, added, count_of, is_named, left_of, new_shelf, one_more, principal}
 use Rattle.mj_dev.specs.Pools.{with_more, with_all, shelves_of}
-use Rattle.mj_replica.specs.Replicas.{shelf_of, AreWhole}
+use Rattle.mj_replica.specs.Replicas.{counted_shelf, AreWhole}
 use Rattle.mj_trace.specs.Lines.{is_before, rises}
 use Rattle.mj_trace.specs.Lines as lines
 
@@ -46,41 +46,41 @@ abbrev AllBefore : List ℕ → List Shelf → Type 0
 AllBefore name [] = Unit {0}
 AllBefore name (s ∷ ss) = (slice_cmp nat_cmp s.name name ≡ Less) × AllBefore name ss
 
-first_added : (name : List ℕ) (ss : List Shelf) → AllBefore name ss → added name ss ≡ ss ++ shelf_of (name, 1) ∷ []
+first_added : (name : List ℕ) (ss : List Shelf) → AllBefore name ss → added name ss ≡ ss ++ counted_shelf (name, 1) ∷ []
 first_added name [] h = refl
 first_added name (s ∷ ss) h =
     ap (λ o. match_ordering o (s ∷ added name ss) (one_more s ∷ ss) (new_shelf name ∷ s ∷ ss)) h.0
     ∙ ap (λ (l : List Shelf). s ∷ l) (first_added name ss h.1)
 
-next_added : (name : List ℕ) (n : ℕ) (ss : List Shelf) → AllBefore name ss → added name (ss ++ shelf_of (name, n) ∷ []) ≡ ss ++ shelf_of (name, suc n) ∷ []
+next_added : (name : List ℕ) (n : ℕ) (ss : List Shelf) → AllBefore name ss → added name (ss ++ counted_shelf (name, n) ∷ []) ≡ ss ++ counted_shelf (name, suc n) ∷ []
 next_added name n [] h =
     let many : n + 1 ≡ suc n = omega arith in
-    ap (λ o. match_ordering o (shelf_of (name, n) ∷ added name []) (one_more (shelf_of (name, n)) ∷ []) (new_shelf name ∷ shelf_of (name, n) ∷ []))
+    ap (λ o. match_ordering o (counted_shelf (name, n) ∷ added name []) (one_more (counted_shelf (name, n)) ∷ []) (new_shelf name ∷ counted_shelf (name, n) ∷ []))
     (tied_itself nat_list_cmp_total name)
-    ∙ ap (λ (m : ℕ). shelf_of (name, m) ∷ []) many
+    ∙ ap (λ (m : ℕ). counted_shelf (name, m) ∷ []) many
 next_added name n (s ∷ ss) h =
-    let rest : List Shelf = ss ++ shelf_of (name, n) ∷ [] in
+    let rest : List Shelf = ss ++ counted_shelf (name, n) ∷ [] in
     ap (λ o. match_ordering o (s ∷ added name rest) (one_more s ∷ rest) (new_shelf name ∷ s ∷ rest)) h.0
     ∙ ap (λ (l : List Shelf). s ∷ l) (next_added name n ss h.1)
 
-more_added : (n : ℕ) (name : List ℕ) (k : ℕ) (ss : List Shelf) → AllBefore name ss → with_more n name (ss ++ shelf_of (name, k) ∷ []) ≡ ss ++ shelf_of (name, k + n) ∷ []
-more_added zero name k ss h = let same : k ≡ k + 0 = omega arith in ap (λ (m : ℕ). ss ++ shelf_of (name, m) ∷ []) same
+more_added : (n : ℕ) (name : List ℕ) (k : ℕ) (ss : List Shelf) → AllBefore name ss → with_more n name (ss ++ counted_shelf (name, k) ∷ []) ≡ ss ++ counted_shelf (name, k + n) ∷ []
+more_added zero name k ss h = let same : k ≡ k + 0 = omega arith in ap (λ (m : ℕ). ss ++ counted_shelf (name, m) ∷ []) same
 more_added (suc n) name k ss h =
     let same : suc k + n ≡ k + suc n = omega arith in
     ap (λ (l : List Shelf). with_more n name l) (next_added name k ss h)
     ∙ more_added n name (suc k) ss h
-    ∙ ap (λ (m : ℕ). ss ++ shelf_of (name, m) ∷ []) same
+    ∙ ap (λ (m : ℕ). ss ++ counted_shelf (name, m) ∷ []) same
 
-all_added : (n : ℕ) (name : List ℕ) (ss : List Shelf) → AllBefore name ss → with_more (suc n) name ss ≡ ss ++ shelf_of (name, suc n) ∷ []
+all_added : (n : ℕ) (name : List ℕ) (ss : List Shelf) → AllBefore name ss → with_more (suc n) name ss ≡ ss ++ counted_shelf (name, suc n) ∷ []
 all_added n name ss h =
     let same : 1 + n ≡ suc n = omega arith in
     ap (λ (l : List Shelf). with_more n name l) (first_added name ss h)
     ∙ more_added n name 1 ss h
-    ∙ ap (λ (m : ℕ). ss ++ shelf_of (name, m) ∷ []) same
+    ∙ ap (λ (m : ℕ). ss ++ counted_shelf (name, m) ∷ []) same
 
 -- a shelf that nothing was taken of
 module _ (s : Shelf) (front : List Shelf) (some : 1 ≤ s.left) (none : s.taken ≡ 0) (before : AllBefore s.name front) where
-  counted : (n : ℕ) → s.left + s.taken ≡ suc n → shelf_of (s.name, suc n) ≡ s
+  counted : (n : ℕ) → s.left + s.taken ≡ suc n → counted_shelf (s.name, suc n) ≡ s
   counted n e =
       let left : suc n ≡ s.left = omega (arith, none, e) in
       let taken : 0 ≡ s.taken = sym none in

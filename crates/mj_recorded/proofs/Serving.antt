@@ -317,22 +317,14 @@ leaves s (Some told) h t = t.1
 
 -- neither an answer nor a clash is a reply to it
 answers_none : (a : Ask) (y : Answer) → fits a (replies.Answer y) ≡ true → is_shared a ≡ false → is_reply (replies.Answer y) ≡ true
+answers_none (asks.Shared a) y f p = absurd (let no : true ≡ false = p in cc)
 answers_none (asks.Device d device_asks.Begin) y f p = absurd (let no : false ≡ true = f in cc)
-answers_none (asks.Device d (device_asks.Write bytes)) y f p = absurd (let no : false ≡ true = f in cc)
-answers_none (asks.Device d (device_asks.Line timeout)) y f p = absurd (let no : false ≡ true = f in cc)
-answers_none (asks.Device d (device_asks.Byte timeout)) y f p = absurd (let no : false ≡ true = f in cc)
-answers_none (asks.Device d device_asks.End) y f p = absurd (let no : false ≡ true = f in cc)
-answers_none (asks.Rest time) y f p = absurd (let no : false ≡ true = f in cc)
-answers_none _ y f p = absurd (let no : true ≡ false = p in cc)
+answers_none _ y f p = absurd (let no : false ≡ true = f in cc)
 
 clashes_none : (a : Ask) (y : Clash) → fits a (replies.Clash y) ≡ true → is_shared a ≡ false → is_reply (replies.Clash y) ≡ true
+clashes_none (asks.Shared a) y f p = absurd (let no : true ≡ false = p in cc)
 clashes_none (asks.Device d device_asks.Begin) y f p = absurd (let no : false ≡ true = f in cc)
-clashes_none (asks.Device d (device_asks.Write bytes)) y f p = absurd (let no : false ≡ true = f in cc)
-clashes_none (asks.Device d (device_asks.Line timeout)) y f p = absurd (let no : false ≡ true = f in cc)
-clashes_none (asks.Device d (device_asks.Byte timeout)) y f p = absurd (let no : false ≡ true = f in cc)
-clashes_none (asks.Device d device_asks.End) y f p = absurd (let no : false ≡ true = f in cc)
-clashes_none (asks.Rest time) y f p = absurd (let no : false ≡ true = f in cc)
-clashes_none _ y f p = absurd (let no : true ≡ false = p in cc)
+clashes_none _ y f p = absurd (let no : false ≡ true = f in cc)
 
 pub unshared : (a : Ask) (x : Reply) → fits a x ≡ true → is_shared a ≡ false → is_reply x ≡ true
 unshared a (replies.Answer y) f p = answers_none a y f p

@@ -6,7 +6,7 @@ use Rattle.std.specs.declared.cmp.Ordering.{Ordering}
 use Rattle.std.specs.declared.cmp.Ordering.TheVariants.{Less, Equal, Greater}
 use Rattle.std.proofs.Common.{◌≡◌, ℕ, zero, suc, ◌+◌, ◌<◌, ◌≤◌, List, [], ◌∷◌, length, map, refl, sym, ap, ◌∙◌, arith}
 use Rattle.mj_dev.specs.Shelves.{Shelf, new_shelf, one_more, added, count_of}
-use Rattle.mj_replica.specs.Replicas.{shelf_of, AreWhole}
+use Rattle.mj_replica.specs.Replicas.{counted_shelf, AreWhole}
 
 -- so it is with one device more
 pub added_whole : (name : List ℕ) (shelves : List Shelf) → AreWhole shelves → AreWhole (added name shelves)
@@ -18,10 +18,10 @@ added_whole name (shelf ∷ shelves) whole = by (added_whole name shelves whole.
   by rest Greater = (omega arith, refl, whole)
 
 -- its counts say all of it
-pub counts_say : (shelves : List Shelf) → AreWhole shelves → map shelf_of (map count_of shelves) ≡ shelves
+pub counts_say : (shelves : List Shelf) → AreWhole shelves → map counted_shelf (map count_of shelves) ≡ shelves
 counts_say [] whole = refl
 counts_say (shelf ∷ shelves) whole = λ i. its i ∷ counts_say shelves whole.2 i where
-  its : shelf_of (count_of shelf) ≡ shelf
+  its : counted_shelf (count_of shelf) ≡ shelf
   its =
       let none = whole.1 in
       let left : shelf.left + shelf.taken ≡ shelf.left = omega (arith, none) in

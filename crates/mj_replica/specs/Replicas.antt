@@ -2,7 +2,7 @@
 use Rattle.std.specs.Prelude.{◌≡◌, ℕ, zero, suc, ◌<◌, ◌≤◌, List, [], ◌∷◌, length, map, take, slice_get, All, true, Option, Some, None, option_map}
 use Rattle.mj_ask.specs.Started.{Started}
 use Rattle.mj_store.specs.Questions.{Content}
-use Rattle.mj_dev.specs.Shelves.{Shelf, AreRising, principal, left_of}
+use Rattle.mj_dev.specs.Shelves.{Shelf, shelf_of, AreRising, principal, left_of}
 use Rattle.mj_jobs.specs.Rows.{rows_limit}
 use Rattle.mj_load.specs.Image.{Loaded, routines_of}
 use Rattle.mj_jobvm.specs.Jobs.{Running}
@@ -23,11 +23,11 @@ pub record Keeping : Type 0 where
   pub starts : List Started
 
 -- a name with so many devices, of which none was taken
-abbrev pub shelf_of : List ℕ × ℕ → Shelf
-shelf_of count = record { name = count.0; left = count.1; taken = 0 }
+abbrev pub counted_shelf : List ℕ × ℕ → Shelf
+counted_shelf count = shelf_of count.1 count.0
 
 abbrev pub shelves_of : Keeping → List Shelf
-shelves_of kept = map shelf_of kept.counts
+shelves_of kept = map counted_shelf kept.counts
 
 -- each name has devices, of which none was taken
 abbrev pub AreWhole : List Shelf → Type 0

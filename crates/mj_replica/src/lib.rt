@@ -16,4 +16,4 @@ mod replica;
 
 pub use laws::fronts_are_runs;
 pub use replaying::{Verdict, replay};
-pub use replica::{Kept, Replica, Unshown, bring, keep};
+pub use replica::{KeptOpening, Replica, Unshown, bring, keep};

@@ -7,7 +7,7 @@ ghost use Rattle.mj_jobs.specs.Rows.{rows_limit};
 ghost use Rattle.mj_sys.specs.History.{History, state_of};
 ghost use Rattle.mj_sys.specs.System.{history_limit};
 ghost use Rattle.mj_replica.specs.InTurn.{AreOver, IsLowest, IsTurnOf};
-ghost use Rattle.mj_replica.specs.Replicas.{BeginsRun, shelf_of, shelves_of, AreWhole, job_of, IsReplica, IsFull, IsUnshown};
+ghost use Rattle.mj_replica.specs.Replicas.{BeginsRun, counted_shelf, shelves_of, AreWhole, job_of, IsReplica, IsFull, IsUnshown};
 ghost use Rattle.mj_replica.specs.Views.{view_of, AreViews};
 ghost use Rattle.mj_views.specs.Views.{frames_seen, locals_seen, job_in, view_at};
 
@@ -41,13 +41,13 @@ pub enum Unshown {
 
 /// What a run can be begun with once more.
 #[derive(Drop)]
-pub struct Kept {
+pub struct KeptOpening {
     globals: Globals,
     counts: Vec<(Text, u32)>,
     starts: Vec<Start>,
 }
 
-impl Model for Kept {
+impl Model for KeptOpening {
     ghost use Rattle.mj_replica.specs.Replicas.{Keeping};
 
     ghost Value = { Keeping };
@@ -73,7 +73,7 @@ impl<O: Opening> Model for Replica<O> {
 
 impl<O: Opening> Replica<O> {
     // A run of which no event was played yet.
-    fn begin(alloc: Global, kept: &Kept) -> Result<Replica<O>, AllocError>
+    fn begin(alloc: Global, kept: &KeptOpening) -> Result<Replica<O>, AllocError>
         requires { BeginsRun O.opening kept.now }
         ensures { IfOk result (λ replica. replica ≡ record { system = record { history = []; claimed = 0 }; jobs = []; made = 0 }) }
     {
@@ -122,7 +122,7 @@ impl<O: Opening> Replica<O> {
         };
         if !made {
             // what is recorded is a run
-            let _events = core.len();
+            let _events = core.len(); // for the proof
             return Err(Unshown::Long);
         }
         self.made += 1;
@@ -257,7 +257,7 @@ impl<O: Opening> Replica<O> {
 pub fn bring<D: Device, O: Opening>(
     alloc: Global,
     core: &Core<D, Sessions<D>, O>,
-    kept: &Kept,
+    kept: &KeptOpening,
     views: &mut Views,
     replica: Option<Replica<O>>,
     place: usize,
@@ -323,7 +323,7 @@ fn behind<O: Opening>(replica: Option<Replica<O>>, place: usize) -> Option<Repli
 fn again<D: Device, O: Opening>(
     alloc: Global,
     core: &Core<D, Sessions<D>, O>,
-    kept: &Kept,
+    kept: &KeptOpening,
     views: &mut Views,
     place: usize,
     most: usize,
@@ -367,7 +367,7 @@ pub fn keep<D: Device>(
     globals: &Globals,
     pool: &Pool<D>,
     starts: &[Start],
-) -> Result<Kept, AllocError>
+) -> Result<KeptOpening, AllocError>
     requires { AreWhole pool.now }
     ensures globals { IfOk result (λ kept. kept.globals ≡ globals.now.content) }
     ensures pool { IfOk result (λ kept. shelves_of kept ≡ pool.now) }
@@ -376,7 +376,7 @@ pub fn keep<D: Device>(
     ensures rising { AreRising pool.now }
 {
     let counts = pool.counts()?;
-    Ok(Kept {
+    Ok(KeptOpening {
         globals: globals.try_clone()?,
         counts,
         starts: clone_starts(alloc, starts)?,
@@ -385,9 +385,9 @@ pub fn keep<D: Device>(
 
 // Devices of which nothing will be asked, so many of each name.
 fn pool_of(alloc: Global, counts: &[(Text, u32)]) -> Result<Pool<Memory>, AllocError>
-    requires rising { AreRising (map shelf_of counts.now) }
+    requires rising { AreRising (map counted_shelf counts.now) }
     requires counted { All (λ count. 1 ≤ count.1) counts.now }
-    ensures { IfOk result (λ pool. pool ≡ map shelf_of counts.now) }
+    ensures { IfOk result (λ pool. pool ≡ map counted_shelf counts.now) }
 {
     let mut pool = Pool::new(alloc);
     // from the last name on, so that each comes before those that are there
@@ -402,7 +402,7 @@ fn pool_of(alloc: Global, counts: &[(Text, u32)]) -> Result<Pool<Memory>, AllocE
 fn add(alloc: Global, pool: &mut Pool<Memory>, name: &Text, count: u32) -> Result<(), AllocError>
     requires below { IsBelow name.now pool.old }
     requires some { 1 ≤ count }
-    ensures { OnOk result (pool.new ≡ shelf_of (name.now, count) ∷ pool.old) }
+    ensures { OnOk result (pool.new ≡ counted_shelf (name.now, count) ∷ pool.old) }
 {
     for _ in 0..count {
         if pool.add(name, Memory::new(alloc, Vec::new(alloc))).is_err() {

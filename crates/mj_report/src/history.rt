@@ -8,10 +8,10 @@ ghost use Rattle.mj_core.specs.Runs.{out_of};
 use mj_ask::{Ask, Reply};
 use mj_core::{Answerer, Core, Fresh};
 use mj_dev::Device;
+use mj_gather::Run;
 use mj_sessions::output;
 use mj_sys::Opening;
 use mj_text::Text;
-use mj_work::Run;
 use std::alloc::{AllocError, Global};
 
 /// What jobs did, event by event.

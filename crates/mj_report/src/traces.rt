@@ -1,6 +1,6 @@
 // The trace of a run.
 
-ghost use Rattle.std.specs.Prelude.{◌≡◌, ◌≤◌, ◌++◌, true, map, length, IfOk, IfSome, OnOk};
+ghost use Rattle.std.specs.Prelude.{◌≡◌, ◌≤◌, ◌++◌, true, map, option_map, length, IfOk, IfSome, OnOk};
 ghost use Rattle.std.specs.List.{list_all};
 ghost use Rattle.mj_dev.specs.Shelves.{AreRising, count_of};
 ghost use Rattle.mj_load.specs.Image.{routines_of};
@@ -29,7 +29,7 @@ pub struct Trace<'a> {
     pub opening: Vec<u8>,
 }
 
-/// The trace of a run that begins with these, where a file is named for it.
+/// The trace of a run that begins with these, exactly where a file is named for it, and it goes to that file.
 pub fn trace_of<'a, D: Device>(
     alloc: Global,
     file: Option<&'a str>,
@@ -39,6 +39,7 @@ pub fn trace_of<'a, D: Device>(
     ensures text { IfOk result (λ trace. IfSome trace (λ trace. trace.opening.items ≡ opening_text (map count_of pool.now) (entries_of starts.now))) }
     ensures sized { IfOk result (λ trace. IfSome trace (λ trace. list_all device_count_fits (map count_of pool.now) ≡ true)) }
     ensures rising { IfOk result (λ trace. IfSome trace (λ trace. AreRising pool.now)) }
+    ensures traced { IfOk result (λ trace. option_map (λ t. t.file.now) trace ≡ option_map (λ word. word.now) file.entry) }
 {
     let Some(file) = file else {
         return Ok(None);

@@ -20,6 +20,10 @@ use Rattle.mj_steps.specs.declared.drive.Ending.{Ending}
 use Rattle.mj_steps.specs.declared.step.Refusal.{Refusal}
 use Rattle.mj_steps.specs.Driven.{InTurn, new_round, fresh}
 
+-- how many steps are made in turn at most (this profile)
+abbrev pub in_turn_limit : ℕ
+in_turn_limit = 1000000
+
 -- the job waits at an ask with a timeout
 abbrev pub is_timed : Option AtAsk → Bool
 is_timed None = false

@@ -5,7 +5,7 @@ ghost use Rattle.mj_dev.specs.Told.{IsToldBy};
 ghost use Rattle.mj_sys.specs.History.{state_of};
 ghost use Rattle.mj_steps.specs.Driven.{ByList};
 ghost use Rattle.mj_core.specs.Shown.{stand_at};
-ghost use Rattle.mj_run.specs.Stepping.{StepsAs, StandsSo, IsFitting, IsInTurn, AreSteps, jobs_of, ends_its_job, is_timed};
+ghost use Rattle.mj_run.specs.Stepping.{StepsAs, StandsSo, IsFitting, IsInTurn, in_turn_limit, AreSteps, jobs_of, ends_its_job, is_timed};
 
 use mj_ask::{Ask, SharedAsk};
 use mj_core::{Answerer, Core, Fresh, Seen};
@@ -16,8 +16,8 @@ use mj_steps::{Ending, Refusal, Standing, Step, Stepped, step_by, step_in_turn};
 use mj_sys::Opening;
 use std::marker::Model;
 
-/// The most steps that are made in turn.
-pub const STEPS_LIMIT: usize = 1_000_000;
+/// The most steps that are made in turn. A step that only lets a job wait counts too, so it is another limit than that of the events in a history.
+pub const IN_TURN_LIMIT: usize = 1_000_000;
 
 // The jobs of a core.
 #[derive(Drop)]
@@ -53,7 +53,7 @@ impl<D: Device, O: Opening> Stepped for Jobs<D, Sessions<D>, O> {
 
     fn step(&mut self, step: Step) -> Result<Standing, Refusal> {
         // the history is a run, as the core keeps it, and in a run no step is unfit
-        let _run = self.core.len();
+        let _run = self.core.len(); // for the proof
         no_step_is_unfit();
         match self.core.step(step) {
             Ok(seen) => Ok(self.standing(step.job, &seen)),
@@ -68,11 +68,11 @@ impl<D: Device, O: Opening> Jobs<D, Sessions<D>, O> {
         ensures listed { IfSome steps.entry (λ list.
             ByList (StepsAs (IsToldBy D.inside D.failures D.taken D.given D.IsTold) O.opening) 0 list.now self.old result self.new) }
         ensures in_turn { IfNone steps.entry
-            (IsInTurn (IsToldBy D.inside D.failures D.taken D.given D.IsTold) O.opening STEPS_LIMIT self.old result self.new) }
+            (IsInTurn (IsToldBy D.inside D.failures D.taken D.given D.IsTold) O.opening in_turn_limit self.old result self.new) }
         ensures run { AreSteps (IsToldBy D.inside D.failures D.taken D.given D.IsTold) O.opening self.old self.new }
     {
         match steps {
-            None => self.in_turn(STEPS_LIMIT),
+            None => self.in_turn(IN_TURN_LIMIT),
             Some(steps) => self.listed(steps),
         }
     }

@@ -1,4 +1,4 @@
-// Jobs run from their beginning: what `mj run` does, and what is promised of it.
+// Jobs run from their beginning: what `mj step` does, and what is promised of it.
 //
 // `run_jobs` makes a core, and steps its jobs by a list or in turn. Its contract says what was stepped (`specs/Stepping.antt`), and has the promises on
 // what comes of it: the history is a run, the locks are apart, and the transactions are as if each had run alone.
@@ -7,5 +7,5 @@
 mod jobs;
 mod running;
 
-pub use jobs::STEPS_LIMIT;
+pub use jobs::IN_TURN_LIMIT;
 pub use running::run_jobs;

@@ -13,9 +13,9 @@ ghost use Rattle.mj_sys.specs.Shared.{are_global};
 ghost use Rattle.mj_core.specs.Runs.{IsRun};
 ghost use Rattle.mj_core.specs.Shown.{begun};
 ghost use Rattle.mj_serial.specs.Laws.{IsAsAlone, AllMustClash};
-ghost use Rattle.mj_run.specs.Stepping.{StepsAs, IsInTurn, AreSteps};
+ghost use Rattle.mj_run.specs.Stepping.{StepsAs, IsInTurn, in_turn_limit, AreSteps};
 
-use crate::jobs::{Jobs, STEPS_LIMIT};
+use crate::jobs::Jobs;
 use mj_ask::Start;
 use mj_core::Core;
 use mj_dev::{Device, Pool};
@@ -53,7 +53,7 @@ pub fn run_jobs<D: Device, O: Opening>(
     ensures listed { IfOk result (λ ran. IfSome steps.entry (λ list.
         ByList (StepsAs (IsToldBy D.inside D.failures D.taken D.given D.IsTold) O.opening) 0 list.now (begun image) ran.1 ran.0)) }
     ensures in_turn { IfOk result (λ ran. IfNone steps.entry
-        (IsInTurn (IsToldBy D.inside D.failures D.taken D.given D.IsTold) O.opening STEPS_LIMIT (begun image) ran.1 ran.0)) }
+        (IsInTurn (IsToldBy D.inside D.failures D.taken D.given D.IsTold) O.opening in_turn_limit (begun image) ran.1 ran.0)) }
     ensures gives { IfOk result (λ ran. AreSteps (IsToldBy D.inside D.failures D.taken D.given D.IsTold) O.opening (begun image) ran.0) }
     ensures run { IfOk result (λ ran. IsRun (routines_of image) O.opening ran.0.history) }
     ensures apart { IfOk result (λ ran. LocksApart (state_of O.opening ran.0.history).locks) }
@@ -69,8 +69,8 @@ pub fn run_jobs<D: Device, O: Opening>(
     let ending = jobs.go(steps);
     let Jobs { core } = jobs;
     // what is kept behind each step is kept behind the last
-    let _run = core.len();
-    let _locks = core.locks();
+    let _run = core.len(); // for the proof
+    let _locks = core.locks(); // for the proof
     // and what holds of every core holds of this one
     holds(&core);
     Ok((core, ending))

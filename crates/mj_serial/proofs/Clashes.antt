@@ -20,12 +20,13 @@ use Rattle.mj_ask.specs.declared.ask.Reply.TheVariants as replies
 use Rattle.mj_txlog.specs.Accesses.{Accesses, is_write, seen, Transaction}
 use Rattle.mj_txlog.specs.declared.entry.Entry.{Entry}
 use Rattle.mj_txlog.specs.declared.entry.Entry.TheVariants as entry
+use Rattle.mj_txlog.specs.declared.entry.Unlock.{Unlock}
 use Rattle.mj_txn.specs.Commits.{Hold, DiffersNow}
 use Rattle.mj_txn.specs.Closing.{is_local_write, clash_of}
 use Rattle.mj_txn.specs.declared.changed.Changed.{Changed}
 use Rattle.mj_sys.specs.History.{History}
 use Rattle.mj_serial.specs.Programs.{Log, replies_of, Program, IsSteady, Asks, AreAsked}
-use Rattle.mj_serial.specs.Blocks.{Block, stands_from, nowhere, open_after, entry_of, accesses_of}
+use Rattle.mj_serial.specs.Blocks.{Block, stands_from, nowhere, open_after, unlock_of, unlock_entry, entry_of, accesses_of}
 use Rattle.mj_serial.specs.Alone.{Desk, told_alone, used_after, go, desk_of, others_of}
 use Rattle.mj_serial.specs.Serial.{MustClash}
 use Rattle.mj_serial.specs.Rules.{Exactly, IsKindTold, IsCommitTold, sight_of, sight_behind, committed_by, clashes_at, ClashesMustBy}
@@ -50,14 +51,16 @@ taken_is false false z a y v l e =
     let q : y ≡ v = cc in
     record { is = λ i. (asks.Shared (shared_asks.Access (p i)), replies.Answer (q i)); within = subst (λ x. is_limit x ≡ false) q l }
 
+-- no unlock is one
+no_access : (u : Option Unlock) (r : Reply) (a : Access) (v : Answer) → unlock_entry u r ≡ Some (entry.Access a v) → ⊥
+no_access None r a v e = cc
+no_access (Some u) replies.Done a v e = cc
+no_access (Some u) r a v e = cc
+
 entry_is : (q : Ask) (r : Reply) (a : Access) (v : Answer) → entry_of q r ≡ Some (entry.Access a v) → IsAsked q r a v
 entry_is (asks.Shared (shared_asks.Access z)) (replies.Answer y) a v e = taken_is (is_limit y) (is_local_write z) z a y v refl e
 entry_is (asks.Shared (shared_asks.Access z)) r a v e = absurd cc
-entry_is (asks.Shared (shared_asks.Unlock names)) replies.Done a v e = absurd cc
-entry_is (asks.Shared (shared_asks.Unlock names)) r a v e = absurd cc
-entry_is (asks.Shared shared_asks.UnlockAll) replies.Done a v e = absurd cc
-entry_is (asks.Shared shared_asks.UnlockAll) r a v e = absurd cc
-entry_is q r a v e = absurd cc
+entry_is q r a v e = absurd (no_access (unlock_of q) r a v e)
 
 -- a log with an access among those that were taken
 record Split (es : Log) (earlier : Accesses) (a : Access) (v : Answer) : Type 0 where

@@ -1,5 +1,5 @@
 -- A program that runs alone makes the asks that it made.
-use Rattle.std.proofs.Common.{◌≡◌, ℕ, zero, suc, ◌+◌, ◌≤◌, Bool, true, false, List, [], ◌∷◌, ◌++◌, length, max, Some, None, refl, sym, ap, ◌∙◌, subst, arith, append_assoc, append-nil}
+use Rattle.std.proofs.Common.{Option, ◌≡◌, ℕ, zero, suc, ◌+◌, ◌≤◌, Bool, true, false, List, [], ◌∷◌, ◌++◌, length, max, Some, None, refl, sym, ap, ◌∙◌, subst, arith, append_assoc, append-nil}
 use Rattle.std.specs.Prelude.{◌||◌, ◌&&◌, not, if◌then◌else◌}
 use Rattle.std.specs.List.{cons_option}
 use Rattle.mj_store.specs.Questions.{Content}
@@ -18,12 +18,11 @@ use Rattle.mj_txlog.specs.Accesses.{Accesses, is_write, seen}
 use Rattle.mj_txlog.specs.declared.entry.Entry.{Entry}
 use Rattle.mj_txlog.specs.declared.entry.Entry.TheVariants as entry
 use Rattle.mj_txlog.specs.declared.entry.Unlock.{Unlock}
-use Rattle.mj_txlog.specs.declared.entry.Unlock.TheVariants as unlock
 use Rattle.mj_txlog.proofs.Alike.{seen_more}
 use Rattle.mj_txn.specs.Commits.{Hold}
 use Rattle.mj_txn.specs.Closing.{is_local_write}
 use Rattle.mj_serial.specs.Programs.{Log, replies_of, Program, IsSteady, AreAsked}
-use Rattle.mj_serial.specs.Blocks.{is_taken, accesses_of}
+use Rattle.mj_serial.specs.Blocks.{is_taken, unlock_of, unlock_entry, accesses_of}
 use Rattle.mj_serial.specs.Alone.{Desk, used_after, told_alone, access_alone, serve_alone, in_front, go, others_of}
 use Rattle.mj_serial.proofs.Logs.{still_needs, used_all, IsKept, Kept, seen_access}
 
@@ -105,9 +104,21 @@ serves_access u a v es more g earlier false e k rest h = (
       (rest (suc u) (earlier ++ entry.Access a v ∷ []) (sym (used_by u a v false e)) h.1)),
 )
 
--- an unlock that waits changes nothing that is seen
-unlock_seen : (g : Content) (earlier : Accesses) (u : Unlock) → seen g (earlier ++ entry.Unlock u ∷ []) ≡ seen g earlier
-unlock_seen g earlier u = seen_more g earlier (entry.Unlock u)
+-- how many were taken behind an entry
+abbrev counted : ℕ → Option Entry → ℕ
+counted u o = elim o as (λ _. ℕ) [ None ↦ u | Some e ↦ suc u ]
+
+-- An ask that is no access, and the rest: an unlock that waits changes nothing that is seen
+serves_other : (u : ℕ) (o : Option Unlock) (r : Reply) (es : Log) (more : List Reply) (g : Content) (earlier : Accesses)
+    → ((w : ℕ) (before : Accesses) → Kept w es → Hold g before (accesses_of es)
+    → Serves (desk w (others_of es ++ more) (seen g before)) es (desk (used_all w es) more (seen g (before ++ accesses_of es))))
+    → Kept (counted u (unlock_entry o r)) es → Hold g earlier (cons_option (unlock_entry o r) (accesses_of es))
+    → Serves (desk (counted u (unlock_entry o r)) (others_of es ++ more) (seen g earlier)) es
+    (desk (used_all (counted u (unlock_entry o r)) es) more (seen g (earlier ++ cons_option (unlock_entry o r) (accesses_of es))))
+serves_other u None r es more g earlier rest k h = rest u earlier k h
+serves_other u (Some v) replies.Done es more g earlier rest k h =
+    on_from (suc u) (used_all (suc u) es) es more g (seen g earlier) earlier (entry.Unlock v) (seen_more g earlier (entry.Unlock v)) (rest (suc u) (earlier ++ entry.Unlock v ∷ []) k h.1)
+serves_other u (Some v) r es more g earlier rest k h = rest u earlier k h
 
 -- a log whose accesses hold is served so
 pub serves : (u : ℕ) (es : Log) (more : List Reply) (g : Content) (earlier : Accesses) → Kept u es → Hold g earlier (accesses_of es)
@@ -121,24 +132,14 @@ serves u ((asks.Shared (shared_asks.Access a), r) ∷ es) more g earlier k h =
     (λ w before is hold. serves w es more g before
     (subst (λ x. Kept x es) (sym is) (subst (λ s. Kept (used_after u (asks.Shared (shared_asks.Access a)) s) es) k.0.1 k.1)) hold)
     (subst (λ s. Hold g earlier (accesses_of ((asks.Shared (shared_asks.Access a), s) ∷ es))) k.0.1 h))
-serves u ((asks.Shared (shared_asks.Unlock names), replies.Done) ∷ es) more g earlier k h = (
-  desk (suc u) (others_of es ++ more) (seen g earlier),
-  refl,
-  on_from (suc u) (used_all (suc u) es) es more g (seen g earlier) earlier (entry.Unlock (unlock.Names names)) (unlock_seen g earlier (unlock.Names names))
-      (serves (suc u) es more g (earlier ++ entry.Unlock (unlock.Names names) ∷ []) k.1 h.1),
-)
-serves u (((asks.Shared shared_asks.UnlockAll), replies.Done) ∷ es) more g earlier k h = (
-  desk (suc u) (others_of es ++ more) (seen g earlier),
-  refl,
-  on_from (suc u) (used_all (suc u) es) es more g (seen g earlier) earlier (entry.Unlock unlock.All) (unlock_seen g earlier unlock.All)
-      (serves (suc u) es more g (earlier ++ entry.Unlock unlock.All ∷ []) k.1 h.1),
-)
 serves u (((asks.Shared shared_asks.Commit), r) ∷ es) more g earlier k h = absurd k.0
 serves u (((asks.Shared shared_asks.Rollback), r) ∷ es) more g earlier k h = absurd k.0
 serves u ((asks.Shared (shared_asks.Halt fault), r) ∷ es) more g earlier k h = absurd k.0
-serves u ((asks.Shared (shared_asks.Unlock names), r) ∷ es) more g earlier k h = (desk u (others_of es ++ more) (seen g earlier), refl, serves u es more g earlier k.1 h)
-serves u (((asks.Shared shared_asks.UnlockAll), r) ∷ es) more g earlier k h = (desk u (others_of es ++ more) (seen g earlier), refl, serves u es more g earlier k.1 h)
-serves u ((a, r) ∷ es) more g earlier k h = (desk u (others_of es ++ more) (seen g earlier), refl, serves u es more g earlier k.1 h)
+serves u ((a, r) ∷ es) more g earlier k h = (
+  desk (used_after u a r) (others_of es ++ more) (seen g earlier),
+  refl,
+  serves_other u (unlock_of a) r es more g earlier (λ w before kept hold. serves w es more g before kept hold) k.1 h,
+)
 
 -- one more ask than in the log, and so on
 abbrev pub past : Log → ℕ → ℕ

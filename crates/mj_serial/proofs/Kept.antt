@@ -1,8 +1,7 @@
 -- What the scan knows of the transactions that are open.
-use Rattle.std.proofs.Common.{◌≡◌, ℕ, suc, Bool, true, false, cond, List, [], ◌∷◌, ◌++◌, length, Option, Some, None, refl, ap, sym, ◌∙◌, subst, arith, append_assoc, append-nil, eq-eqb, eqb-true}
+use Rattle.std.proofs.Common.{◌≡◌, ℕ, suc, Bool, true, false, cond, [], ◌∷◌, ◌++◌, length, Option, Some, None, refl, ap, sym, ◌∙◌, subst, arith, append_assoc, append-nil, eq-eqb, eqb-true}
 use Rattle.std.specs.Prelude.{⊤, ◌==◌, ◌||◌, ◌&&◌, not, nat_lt, if◌then◌else◌}
 use Rattle.std.specs.List.{cons_option}
-use Rattle.mj_subs.specs.Name.{Name}
 use Rattle.mj_store.specs.Questions.{Content}
 use Rattle.mj_store.specs.Runs.{name_of, answer_of}
 use Rattle.mj_store.specs.declared.access.Access.{Access}
@@ -19,14 +18,13 @@ use Rattle.mj_ask.specs.declared.ask.Reply.TheVariants as replies
 use Rattle.mj_txlog.specs.Accesses.{Transaction, is_write, is_full, seen, reply_in, with_reply, with_entry}
 use Rattle.mj_txlog.specs.declared.entry.Entry.TheVariants as entry
 use Rattle.mj_txlog.specs.declared.entry.Unlock.{Unlock}
-use Rattle.mj_txlog.specs.declared.entry.Unlock.TheVariants as unlock
 use Rattle.mj_txn.specs.Closing.{is_local_write, told_in, after_told}
 use Rattle.mj_sys.specs.Transactions.{is_serial}
 use Rattle.mj_sys.specs.declared.event.Event.{Event}
 use Rattle.mj_sys.specs.History.{History, log_of}
 use Rattle.mj_serial.specs.Programs.{Log, Program, Asks, AreAsked}
-use Rattle.mj_serial.specs.Blocks.{Block, ScanStand, taken, longer, block_after, stand_after, stands_from, entry_of, accesses_of}
-use Rattle.mj_serial.specs.Rules.{Rule, Sight, IsToldByRule, transaction_after, sight_after, sight_behind, AreTold}
+use Rattle.mj_serial.specs.Blocks.{Block, ScanStand, taken, longer, block_after, stand_after, stands_from, unlock_of, unlock_entry, entry_of, accesses_of}
+use Rattle.mj_serial.specs.Rules.{Rule, Sight, IsUnlockTold, IsToldByRule, after_unlock_of, transaction_after, sight_after, sight_behind, AreTold}
 use Rattle.mj_serial.proofs.Logs.{asked_more, used_all, used_is, IsKept, KeptAt, Kept, kept_more, accesses_append}
 
 -- a transaction that is open, and what the scan has of it
@@ -162,31 +160,16 @@ access_open programs j log t b g a r o k e =
     (told_in t g a, refl, kept_told (used_all 0 b.since) t g a (is_local_write a) (nat_lt (length t.accesses) 65536) (count o) refl refl)
     (told_serial t g a (is_local_write a)) (told_accesses t g a (is_local_write a) refl))
 
--- an unlock in a transaction
-unlock_serial : (t : Transaction) (u : Unlock) (full : Bool) → (cond full t (with_entry t (entry.Unlock u))).serial ≡ t.serial
-unlock_serial t u true = refl
-unlock_serial t u false = refl
-
-names_open : (programs : ℕ → Program) (j : ℕ) (log : Log) (t : Transaction) (b : Block) (names : List Name) (r : Reply) (full : Bool)
-    → IsOpen programs j log t b → Asks (programs j) log (asks.Shared (shared_asks.Unlock names)) → r ≡ (if full then replies.Limit else replies.Done)
-    → IsOpen programs j (log ++ (asks.Shared (shared_asks.Unlock names), r) ∷ []) (cond full t (with_entry t (entry.Unlock (unlock.Names names)))) (longer b (asks.Shared (shared_asks.Unlock names)) r)
-names_open programs j log t b names r true o k e =
-    subst (λ s. IsOpen programs j (log ++ (asks.Shared (shared_asks.Unlock names), s) ∷ []) t (longer b (asks.Shared (shared_asks.Unlock names)) s)) (sym e)
-    (more_open programs j log t t b (asks.Shared (shared_asks.Unlock names)) replies.Limit o k tt refl (sym (append-nil t.accesses)))
-names_open programs j log t b names r false o k e =
-    subst (λ s. IsOpen programs j (log ++ (asks.Shared (shared_asks.Unlock names), s) ∷ []) (with_entry t (entry.Unlock (unlock.Names names)))
-    (longer b (asks.Shared (shared_asks.Unlock names)) s)) (sym e)
-    (more_open programs j log t (with_entry t (entry.Unlock (unlock.Names names))) b (asks.Shared (shared_asks.Unlock names)) replies.Done o k tt refl refl)
-
-all_open : (programs : ℕ → Program) (j : ℕ) (log : Log) (t : Transaction) (b : Block) (r : Reply) (full : Bool)
-    → IsOpen programs j log t b → Asks (programs j) log (asks.Shared shared_asks.UnlockAll) → r ≡ (if full then replies.Limit else replies.Done)
-    → IsOpen programs j (log ++ ((asks.Shared shared_asks.UnlockAll), r) ∷ []) (cond full t (with_entry t (entry.Unlock unlock.All))) (longer b (asks.Shared shared_asks.UnlockAll) r)
-all_open programs j log t b r true o k e =
-    subst (λ s. IsOpen programs j (log ++ ((asks.Shared shared_asks.UnlockAll), s) ∷ []) t (longer b (asks.Shared shared_asks.UnlockAll) s)) (sym e)
-    (more_open programs j log t t b (asks.Shared shared_asks.UnlockAll) replies.Limit o k tt refl (sym (append-nil t.accesses)))
-all_open programs j log t b r false o k e =
-    subst (λ s. IsOpen programs j (log ++ ((asks.Shared shared_asks.UnlockAll), s) ∷ []) (with_entry t (entry.Unlock unlock.All)) (longer b (asks.Shared shared_asks.UnlockAll) s)) (sym e)
-    (more_open programs j log t (with_entry t (entry.Unlock unlock.All)) b (asks.Shared shared_asks.UnlockAll) replies.Done o k tt refl refl)
+-- an ask that is no access, in a transaction: an unlock, which waits if there is room for it, or what leaves the accesses
+other_open : (programs : ℕ → Program) (j : ℕ) (log : Log) (t : Transaction) (b : Block) (a : Ask) (r : Reply) (o : Option Unlock)
+    → entry_of a r ≡ unlock_entry o r → KeptAt (used_all 0 b.since) a r → IsOpen programs j log t b → Asks (programs j) log a → IsUnlockTold (Some t) o r
+    → Fits programs j (log ++ (a, r) ∷ []) (after_unlock_of (Some t) o) (Some (longer b a r))
+other_open programs j log t b a r None e h i k s = more_open programs j log t t b a r i k h refl (sym (ap (λ x. t.accesses ++ cons_option x []) e ∙ append-nil t.accesses))
+other_open programs j log t b a r (Some u) e h i k s = by (is_full t) s
+  where
+    by : (full : Bool) → r ≡ (if full then replies.Limit else replies.Done) → IsOpen programs j (log ++ (a, r) ∷ []) (cond full t (with_entry t (entry.Unlock u))) (longer b a r)
+    by true l = more_open programs j log t t b a r i k h refl (sym (ap (λ x. t.accesses ++ cons_option x []) (e ∙ ap (unlock_entry (Some u)) l) ∙ append-nil t.accesses))
+    by false l = more_open programs j log t (with_entry t (entry.Unlock u)) b a r i k h refl (sym (ap (λ x. t.accesses ++ cons_option x []) (e ∙ ap (unlock_entry (Some u)) l)))
 
 -- ---- one ask
 
@@ -216,8 +199,6 @@ fits_none rule programs j place log g a r f s k = tt
 fits_some : (rule : Rule) (programs : ℕ → Program) (j place : ℕ) (log : Log) (t : Transaction) (b : Block) (g : Content) (a : Ask) (r : Reply)
     → FitsAfter rule programs j place log (Some t) (Some b) g a r
 fits_some rule programs j place log t b g (asks.Shared (shared_asks.Access a)) r f s k = access_open programs j log t b g a r f k s
-fits_some rule programs j place log t b g (asks.Shared (shared_asks.Unlock names)) r f s k = names_open programs j log t b names r (is_full t) f k s
-fits_some rule programs j place log t b g (asks.Shared shared_asks.UnlockAll) r f s k = all_open programs j log t b r (is_full t) f k s
 fits_some rule programs j place log t b g (asks.Shared (shared_asks.Try names timeout)) replies.Got f s k =
     more_open programs j log t (record t { gained = t.gained ++ names }) b (asks.Shared (shared_asks.Try names timeout)) replies.Got f k tt refl (sym (append-nil t.accesses))
 fits_some rule programs j place log t b g (asks.Shared (shared_asks.Try names timeout)) r f s k =
@@ -225,7 +206,7 @@ fits_some rule programs j place log t b g (asks.Shared (shared_asks.Try names ti
 fits_some rule programs j place log t b g (asks.Shared shared_asks.Commit) r f s k = tt
 fits_some rule programs j place log t b g (asks.Shared shared_asks.Rollback) r f s k = tt
 fits_some rule programs j place log t b g (asks.Shared (shared_asks.Halt fault)) r f s k = tt
-fits_some rule programs j place log t b g a r f s k = more_open programs j log t t b a r f k tt refl (sym (append-nil t.accesses))
+fits_some rule programs j place log t b g a r f s k = other_open programs j log t b a r (unlock_of a) refl tt f k s
 
 fits_after : (rule : Rule) (programs : ℕ → Program) (j place : ℕ) (log : Log) (t : Option Transaction) (block : Option Block) (g : Content) (a : Ask) (r : Reply)
     → FitsAfter rule programs j place log t block g a r

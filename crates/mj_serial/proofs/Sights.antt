@@ -11,7 +11,6 @@ use Rattle.mj_ask.specs.Late.{is_timed_out}
 use Rattle.mj_ask.specs.declared.ask.Ask.{Ask}
 use Rattle.mj_ask.specs.declared.ask.Ask.TheVariants as asks
 use Rattle.mj_ask.specs.declared.ask.SharedAsk.TheVariants as shared_asks
-use Rattle.mj_ask.specs.declared.ask.DeviceAsk.TheVariants as device_asks
 use Rattle.mj_ask.specs.declared.ask.Reply.{Reply}
 use Rattle.mj_ask.specs.declared.ask.Reply.TheVariants as replies
 use Rattle.mj_locktab.specs.Locks.{Locks}
@@ -21,16 +20,16 @@ use Rattle.mj_locktab.specs.declared.taken.Taken.TheVariants as takes
 use Rattle.mj_jobs.specs.Rows.{Row, opened, with_ended, IsLive}
 use Rattle.mj_dev.specs.Shelves.{principal}
 use Rattle.mj_txlog.specs.Accesses.{Transaction}
-use Rattle.mj_txlog.specs.declared.entry.Unlock.TheVariants as unlock
 use Rattle.mj_txn.specs.Closing.{commit_closed}
 use Rattle.mj_txn.specs.Testing.{first_changed, outcome_by}
 use Rattle.mj_txn.specs.declared.changed.Changed.{Changed}
 use Rattle.mj_txn.specs.declared.committing.Outcome.TheVariants as outcome
-use Rattle.mj_sys.specs.Transactions.{Transactions, transaction_of, with_transaction, with_access, with_names, with_waiting, begun_as, closed_as}
+use Rattle.mj_sys.specs.Transactions.{Transactions, transaction_of, with_transaction, with_access, with_names, begun_as, closed_as}
 use Rattle.mj_sys.specs.Devices.{Device, Devices, device_at}
 use Rattle.mj_sys.specs.Shared.{Shared, open_of, busy, tried, open_free, open_known, has_room, served}
 use Rattle.mj_sys.specs.History.{left_by}
-use Rattle.mj_serial.specs.Rules.{Exactly, IsKindTold, IsCommitTold, committed_as, IsToldByRule, transaction_after, globals_left}
+use Rattle.mj_serial.specs.Blocks.{unlock_of}
+use Rattle.mj_serial.specs.Rules.{Exactly, IsKindTold, IsCommitTold, committed_as, IsToldByRule, after_unlock_of, transaction_after, globals_left}
 use Rattle.mj_serial.proofs.Tests.{first_none, some_first}
 
 -- there is a place for the transaction of each job
@@ -204,9 +203,6 @@ module _ (s : Shared) (job : ℕ) (places : HasPlaces s) (live : IsLive s.rows j
   obeys (asks.Shared (shared_asks.Access a)) late =
       record { told = refl; globals = refl; transactions = put (with_access O s.globals a); places = put_room (with_access O s.globals a) }
   obeys (asks.Shared (shared_asks.Try names timeout)) late = by_try names timeout late (try_of s.locks job names) (after_try s.locks job names)
-  obeys (asks.Shared (shared_asks.Unlock names)) late =
-      record { told = refl; globals = refl; transactions = put (with_waiting O (unlock.Names names)); places = put_room (with_waiting O (unlock.Names names)) }
-  obeys (asks.Shared shared_asks.UnlockAll) late = record { told = refl; globals = refl; transactions = put (with_waiting O unlock.All); places = put_room (with_waiting O unlock.All) }
   obeys (asks.Shared (shared_asks.Open name timeout)) late = by_name name timeout late (bytes_eq name principal)
   obeys (asks.Shared (shared_asks.Close name)) late = record { told = tt; globals = refl; transactions = still; places = places }
   obeys (asks.Shared (shared_asks.Start start timeout)) late = by_room start timeout (has_room s)
@@ -215,14 +211,13 @@ module _ (s : Shared) (job : ℕ) (places : HasPlaces s) (live : IsLive s.rows j
   obeys (asks.Shared (shared_asks.Begin kind)) late = record { told = tt; globals = refl; transactions = put (begun_as O kind); places = put_room (begun_as O kind) }
   obeys (asks.Shared shared_asks.Commit) late = record { told = (by_commit O).0; globals = (by_commit O).1; transactions = put None; places = put_room None }
   obeys (asks.Shared shared_asks.Rollback) late = record { told = tt; globals = refl; transactions = put None; places = put_room None }
+  -- what is left is an unlock
+  obeys (asks.Shared a) late =
+      record { told = refl; globals = refl; transactions = put (after_unlock_of O (unlock_of (asks.Shared a))); places = put_room (after_unlock_of O (unlock_of (asks.Shared a))) }
   obeys _ late = tt
 
   -- what isn't served changes nothing
   pub unshared : (ask : Ask) (r : Reply) → is_shared ask ≡ false → Obeys s job ask r (left_by s (served s job ask true))
-  unshared (asks.Device device device_asks.Begin) r e = record { told = tt; globals = refl; transactions = still; places = places }
-  unshared (asks.Device device (device_asks.Write bytes)) r e = record { told = tt; globals = refl; transactions = still; places = places }
-  unshared (asks.Device device (device_asks.Line timeout)) r e = record { told = tt; globals = refl; transactions = still; places = places }
-  unshared (asks.Device device (device_asks.Byte timeout)) r e = record { told = tt; globals = refl; transactions = still; places = places }
-  unshared (asks.Device device device_asks.End) r e = record { told = tt; globals = refl; transactions = still; places = places }
+  unshared (asks.Device device a) r e = record { told = tt; globals = refl; transactions = still; places = places }
   unshared (asks.Rest time) r e = record { told = tt; globals = refl; transactions = still; places = places }
   unshared ask r e = absurd cc

@@ -12,7 +12,7 @@ use Rattle.mj_ask.specs.declared.ask.Reply.TheVariants as replies
 use Rattle.mj_txlog.specs.Accesses.{Accesses, is_write, seen, Transaction}
 use Rattle.mj_txlog.specs.declared.entry.Entry.{Entry}
 use Rattle.mj_txlog.specs.declared.entry.Entry.TheVariants as entry
-use Rattle.mj_txlog.specs.declared.entry.Unlock.TheVariants as unlock
+use Rattle.mj_txlog.specs.declared.entry.Unlock.{Unlock}
 use Rattle.mj_txn.specs.Commits.{HoldsNow, Hold, Differs}
 use Rattle.mj_txn.specs.Closing.{clash_of}
 use Rattle.mj_txn.specs.declared.changed.Changed.{Changed}
@@ -21,6 +21,7 @@ use Rattle.mj_sys.specs.Shared.{globals_after}
 use Rattle.mj_sys.specs.declared.event.Event.{Event}
 use Rattle.mj_sys.specs.History.{History, log_of}
 use Rattle.mj_serial.specs.Programs.{Program, IsSteady, AreAsked}
+use Rattle.mj_serial.specs.Blocks.{unlock_of}
 use Rattle.mj_serial.specs.Serial.{AsAlone, MustClash}
 
 -- what the commit of a SERIAL transaction may be told, on these globals and with these accesses
@@ -42,25 +43,31 @@ abbrev pub IsCommitTold : Rule → Option Transaction → Content → Reply → 
 IsCommitTold rule None globals r = r ≡ replies.Done
 IsCommitTold rule (Some t) globals r = IsKindTold rule t.serial globals t.accesses r
 
+-- what an unlock is told
+abbrev pub IsUnlockTold : Option Transaction → Option Unlock → Reply → Type 0
+IsUnlockTold t None r = ⊤
+IsUnlockTold t (Some u) r = r ≡ unlock_told t
+
 -- what an ask may be told, as far as it is a matter of the globals and the transactions
 abbrev pub IsToldByRule : Rule → Option Transaction → Content → Ask → Reply → Type 0
 IsToldByRule rule t globals (asks.Shared (shared_asks.Access a)) r = r ≡ replies.Answer (told_to t globals a)
-IsToldByRule rule t globals (asks.Shared (shared_asks.Unlock names)) r = r ≡ unlock_told t
-IsToldByRule rule t globals (asks.Shared shared_asks.UnlockAll) r = r ≡ unlock_told t
 IsToldByRule rule t globals (asks.Shared shared_asks.Commit) r = IsCommitTold rule t globals r
-IsToldByRule rule t globals _ r = ⊤
+IsToldByRule rule t globals a r = IsUnlockTold t (unlock_of a) r
+
+-- the transaction after an unlock
+abbrev pub after_unlock_of : Option Transaction → Option Unlock → Option Transaction
+after_unlock_of t None = t
+after_unlock_of t (Some u) = with_waiting t u
 
 -- the transaction after an ask
 abbrev pub transaction_after : Option Transaction → Content → Ask → Reply → Option Transaction
 transaction_after t globals (asks.Shared (shared_asks.Access a)) r = with_access t globals a
-transaction_after t globals (asks.Shared (shared_asks.Unlock names)) r = with_waiting t (unlock.Names names)
-transaction_after t globals (asks.Shared shared_asks.UnlockAll) r = with_waiting t unlock.All
 transaction_after t globals (asks.Shared (shared_asks.Try names timeout)) replies.Got = with_names t names
 transaction_after t globals (asks.Shared (shared_asks.Begin kind)) r = begun_as t kind
 transaction_after t globals (asks.Shared shared_asks.Commit) r = None
 transaction_after t globals (asks.Shared shared_asks.Rollback) r = None
 transaction_after t globals (asks.Shared (shared_asks.Halt fault)) r = None
-transaction_after t globals _ r = t
+transaction_after t globals a r = after_unlock_of t (unlock_of a)
 
 -- the globals after a commit that is told this
 abbrev pub committed_as : Option Transaction → Content → Reply → Content

@@ -14,7 +14,7 @@ pub fn holds<D: Device, A: Answerer<Fresh<D>>, O: Opening>(core: &Core<D, A, O>)
     ensures clashes { AllMustClash (routines_of core.now.image) O.opening core.now.history }
 {
     // that its history is a run, and that no transaction was open at its opening, comes with its length
-    let _run = core.len();
+    let _run = core.len(); // for the proof
 }
 
 /// Every run of many jobs is as its blocks run alone, in the order of their commits.

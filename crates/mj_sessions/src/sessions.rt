@@ -99,7 +99,7 @@ impl<D: Device> Sessions<D> {
         ensures there { (name : List ℕ) (reply : replies.Reply) → result ≡ Answer.Told reply
             → is_some (session_of name self.new.sessions) ≡ (if ends_on name ask.now then false else is_some (session_of name self.old.sessions)) }
     {
-        let _held = &self.held;
+        let _held = &self.held; // for the proof
         self.asked(ask, late)
     }
 

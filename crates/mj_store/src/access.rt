@@ -4,7 +4,7 @@ ghost use Rattle.std.specs.Prelude.{◌≡◌, ℕ, take, IfOk, OnOk, OnErr};
 ghost use Rattle.mj_store.specs.Runs.{name_of, answer_of, after_access, answers_of, after_accesses};
 
 use crate::nodes::Nodes;
-use crate::store::{Direction, Store};
+use crate::store::{Direction, Store, is_too_deep};
 use mj_subs::{Name, Sub};
 use mj_text::{Failure, Fault, Text};
 use std::alloc::{AllocError, Global};
@@ -125,17 +125,6 @@ pub fn perform<S: Store>(store: &mut S, access: &Access) -> Result<Answer, Alloc
     ensures unchanged { OnErr result (S.contents store.new ≡ S.contents store.old) }
 {
     Ok(match access {
-        Access::Value(name) => match store.value(name) {
-            None => Answer::Value(None),
-            Some(text) => Answer::Value(Some(text.try_clone()?)),
-        },
-        Access::Data(name) => Answer::Data(store.data(name)),
-        Access::Order(name, direction) => match store.order(name, *direction) {
-            None => Answer::Order(None),
-            Some(next) => Answer::Order(Some(next.try_clone()?)),
-        },
-        Access::Query(name) => Answer::Query(store.query(name)?),
-        Access::Subtree(name) => Answer::Subtree(store.subtree(name)?),
         Access::Set(name, text) => {
             store.set(name, text)?;
             Answer::Done
@@ -149,6 +138,38 @@ pub fn perform<S: Store>(store: &mut S, access: &Access) -> Result<Answer, Alloc
                 Ok(()) => Answer::Done,
                 Err(Failure::Fault(Fault::Limit)) => Answer::Limit,
                 Err(_) => return Err(AllocError),
+            }
+        }
+        Access::Value(_)
+        | Access::Data(_)
+        | Access::Order(_, _)
+        | Access::Query(_)
+        | Access::Subtree(_) => ask(store, access)?,
+    })
+}
+
+/// The answer to an access, which isn't made.
+pub fn ask<S: Store>(store: &S, access: &Access) -> Result<Answer, AllocError>
+    ensures { IfOk result (λ a. a ≡ answer_of access.now (S.contents store.now)) }
+{
+    Ok(match access {
+        Access::Value(name) => match store.value(name) {
+            None => Answer::Value(None),
+            Some(text) => Answer::Value(Some(text.try_clone()?)),
+        },
+        Access::Data(name) => Answer::Data(store.data(name)),
+        Access::Order(name, direction) => match store.order(name, *direction) {
+            None => Answer::Order(None),
+            Some(next) => Answer::Order(Some(next.try_clone()?)),
+        },
+        Access::Query(name) => Answer::Query(store.query(name)?),
+        Access::Subtree(name) => Answer::Subtree(store.subtree(name)?),
+        Access::Set(_, _) | Access::Kill(_) => Answer::Done,
+        Access::Put(name, nodes) => {
+            if is_too_deep(name, nodes.as_slice()) {
+                Answer::Limit
+            } else {
+                Answer::Done
             }
         }
     })

@@ -12,7 +12,7 @@ mod nodes;
 mod same;
 mod store;
 
-pub use access::{Access, Answer, perform, run};
+pub use access::{Access, Answer, ask, perform, run};
 pub use flat::Flat;
 pub use nodes::Nodes;
 pub use same::{are_same_nodes, is_same_answer};

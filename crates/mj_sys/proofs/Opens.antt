@@ -9,9 +9,9 @@ use Rattle.mj_dev.specs.Shelves.{principal}
 use Rattle.mj_sys.specs.Devices.{Device, device_at, with_device, opened_by, holder_of}
 use Rattle.mj_ask.specs.Late.{is_timed_out}
 use Rattle.mj_sys.specs.Shared.{Shared, answered, moves_session}
-use Rattle.mj_sys.specs.Kept.{Service, ComesOfAsk}
+use Rattle.mj_sys.specs.Kept.{Service, ComesOfAsk, outcome_as}
 use Rattle.mj_sys.specs.declared.served.Held.TheVariants as helds
-use Rattle.mj_sys.specs.declared.shared.Outcome.TheVariants as outcomes
+use Rattle.mj_sys.specs.declared.shared.Answered.TheVariants as answereds
 
 -- whether two jobs are the same, as a test
 pub same_job : (h job : ℕ) → h ≡ job → (h == job) ≡ true
@@ -65,10 +65,10 @@ free s name timeout d e there nobody = rw (e, there, nobody) refl
 -- what a busy device comes to
 module _ (v : Service) (job : ℕ) (name : List ℕ) (timeout : Option ℤ) (late : Bool) (d : Device) (h : ℕ) where
   pub others : (n : List ℕ) → n ≡ name → bytes_eq name principal ≡ false → device_at v.state.devices name ≡ Some d → d.holder ≡ Some h → (h ≡ job → ⊥)
-      → ComesOfAsk v job (shared_asks.Open name timeout) late (if is_timed_out timeout late then outcomes.Told replies.Late replies.Late else outcomes.Busy h (helds.Device n)) v
+      → ComesOfAsk v job (shared_asks.Open name timeout) late (outcome_as (if is_timed_out timeout late then answereds.Told replies.Late replies.Late else answereds.Busy h (helds.Device n))) v
   others n same e there held other = by_time (is_timed_out timeout late) refl where
     by_time : (over : Bool) → is_timed_out timeout late ≡ over
-        → ComesOfAsk v job (shared_asks.Open name timeout) late (if over then outcomes.Told replies.Late replies.Late else outcomes.Busy h (helds.Device n)) v
+        → ComesOfAsk v job (shared_asks.Open name timeout) late (outcome_as (if over then answereds.Told replies.Late replies.Late else answereds.Busy h (helds.Device n))) v
     by_time true over = let t = late_for v.state job name timeout late d h e there held other over in (t.0, t.1, refl, refl)
     by_time false soon =
         let t = busy_by v.state job name timeout late d h e there held other soon in

@@ -32,6 +32,16 @@ module _ (opening : Shared) (old : Service) (history : History) (counts : List �
     pub turn : IsTurn opening before claim
     pub room : length history < history_limit
 
+  -- it is so by what is seen
+  pub ready_by : (seen : Recorded) → before ≡ seen → MatchesHistory opening old.state before → AreCounts counts before → IsTurn opening seen claim
+      → length seen.history < history_limit → IsReady
+  ready_by seen is kept are turn room = record {
+    kept = kept;
+    are = are;
+    turn = subst (λ (r : Recorded). IsTurn opening r claim) (sym is) turn;
+    room = subst (λ (r : Recorded). length r.history < history_limit) (sym is) room;
+  }
+
   -- what is known then
   pub record AreServed (told : Served Heard) (new : Service) (history' : History) (counts' : List ℕ) (claim' : Claimed) : Type 0 where
     pub kept : MatchesHistory opening new.state (record { history = history'; claimed = new.claimed })
@@ -126,19 +136,22 @@ module _ (opening : Shared) (old : Service) (history : History) (counts : List �
   are_served t goes = subst (λ u. AreServed opening old history counts claim ask late u new history' counts' claim') (sym goes.is_told)
       (by_outcome goes.outcome goes.comes goes.is_written)
 
-  pub kept_if : (result : Result (Served Heard) Refused) → IfOk result (λ t. ServesAndRecords old history counts claim ask late t new history' counts' claim')
+  -- and so where it is told as what any ask is told
+  pub kept_if : {T : Type 0} (told_by : T → Served Heard) (result : Result T Refused)
+      → IfOk result (λ t. ServesAndRecords old history counts claim ask late (told_by t) new history' counts' claim')
       → OnErr result ((new ≡ old) × (history' ≡ history) × (counts' ≡ counts) × (claim' ≡ claim))
       → MatchesHistory opening new.state (record { history = history'; claimed = new.claimed }) × AreCounts counts' (record { history = history'; claimed = new.claimed })
-  kept_if (Ok t) goes same = let a = are_served t goes in (a.kept, a.are)
-  kept_if (Err e) goes same =
+  kept_if told_by (Ok t) goes same = let a = are_served (told_by t) goes in (a.kept, a.are)
+  kept_if told_by (Err e) goes same =
       let of : History → Service → Recorded = λ h v. record { history = h; claimed = v.claimed } in
       let seen : of history' new ≡ of history old = ap (λ h. of h new) same.1 ∙ ap (λ v. of history v) same.0 in (
         subst (λ r. MatchesHistory opening new.state r) (sym seen) (subst (λ (v : Service). MatchesHistory opening v.state (before opening old history counts claim ask late)) (sym same.0) ready.kept),
         subst (λ l. AreCounts l (of history' new)) (sym same.2) (subst (λ r. AreCounts counts r) (sym seen) ready.are),
       )
 
-  pub serves_if : (result : Result (Served Heard) Refused) → IfOk result (λ t. ServesAndRecords old history counts claim ask late t new history' counts' claim')
-      → IfOk result (λ t. Serves opening (before opening old history counts claim ask late) claim (asks.Shared ask) late t
+  pub serves_if : {T : Type 0} (told_by : T → Served Heard) (result : Result T Refused)
+      → IfOk result (λ t. ServesAndRecords old history counts claim ask late (told_by t) new history' counts' claim')
+      → IfOk result (λ t. Serves opening (before opening old history counts claim ask late) claim (asks.Shared ask) late (told_by t)
       (record { history = history'; claimed = new.claimed }) claim')
-  serves_if (Ok t) goes = (are_served t goes).serves
-  serves_if (Err e) goes = tt
+  serves_if told_by (Ok t) goes = (are_served (told_by t) goes).serves
+  serves_if told_by (Err e) goes = tt

@@ -12,8 +12,9 @@ use Rattle.mj_locktab.specs.declared.taken.Taken.{Taken}
 use Rattle.mj_locktab.specs.declared.taken.Taken.TheVariants as takes
 use Rattle.mj_sys.specs.Transactions.{Transactions, with_transaction, with_names}
 use Rattle.mj_sys.specs.Shared.{Shared, open_of}
-use Rattle.mj_sys.specs.Kept.{Service, ComesOfAsk, transaction_after_try}
+use Rattle.mj_sys.specs.Kept.{Service, ComesOfAsk, outcome_as, transaction_after_try}
 use Rattle.mj_sys.specs.declared.served.Held.TheVariants as helds
+use Rattle.mj_sys.specs.declared.shared.Answered.TheVariants as answereds
 use Rattle.mj_sys.specs.declared.shared.Outcome.{Outcome}
 use Rattle.mj_sys.specs.declared.shared.Outcome.TheVariants as outcomes
 use Rattle.mj_sys.proofs.Places.{with_same}
@@ -28,7 +29,7 @@ module _ (s : Shared) (claimed job : ℕ) (names : List Name) (timeout : Option 
   -- what comes of it
   abbrev pub outcome : Taken → Outcome Heard
   outcome takes.Got = outcomes.Told replies.Got replies.Got
-  outcome (takes.Busy holder name) = if is_timed_out timeout late then outcomes.Told replies.Late replies.Late else outcomes.Busy holder (helds.Name name)
+  outcome (takes.Busy holder name) = outcome_as (if is_timed_out timeout late then answereds.Told replies.Late replies.Late else answereds.Busy holder (helds.Name name))
   outcome takes.Limit = outcomes.Told replies.Limit replies.Limit
 
   got : try_of s.locks job names ≡ takes.Got
@@ -41,7 +42,7 @@ module _ (s : Shared) (claimed job : ℕ) (names : List Name) (timeout : Option 
 
   busy_by : (holder : ℕ) (name : Name) (over : Bool) → is_timed_out timeout late ≡ over → try_of s.locks job names ≡ takes.Busy holder name
       → IsInTheWay s.locks job names holder name
-      → ComesOfAsk before job (shared_asks.Try names timeout) late (if over then outcomes.Told replies.Late replies.Late else outcomes.Busy holder (helds.Name name)) before
+      → ComesOfAsk before job (shared_asks.Try names timeout) late (outcome_as (if over then answereds.Told replies.Late replies.Late else answereds.Busy holder (helds.Name name))) before
   busy_by holder name true over is way = (rw (is, over) refl, refl, refl, refl)
   busy_by holder name false over is way = (rw (is, over) refl, way, refl)
 

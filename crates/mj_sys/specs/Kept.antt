@@ -26,6 +26,8 @@ use Rattle.mj_sys.specs.History.{History}
 use Rattle.mj_sys.specs.System.{Blocks, Claimed}
 use Rattle.mj_sys.specs.declared.served.Served.{Served}
 use Rattle.mj_sys.specs.declared.served.Served.TheVariants as serveds
+use Rattle.mj_sys.specs.declared.shared.Answered.{Answered}
+use Rattle.mj_sys.specs.declared.shared.Answered.TheVariants as answereds
 use Rattle.mj_sys.specs.declared.shared.Outcome.{Outcome}
 use Rattle.mj_sys.specs.declared.shared.Outcome.TheVariants as outcomes
 
@@ -63,6 +65,11 @@ ComesOfAsk old job ask late (outcomes.Opened session) new =
     × (new.claimed ≡ old.claimed)
 ComesOfAsk old job ask late (outcomes.Busy holder held) new =
     (answered old.state job ask late ≡ None) × Blocks old.state job ask holder held × (new ≡ old)
+
+-- what comes of an ask by which no session goes to a job, as what comes of any
+abbrev pub outcome_as : {S : Type 0} → Answered → Outcome S
+outcome_as (answereds.Told reply again) = outcomes.Told reply again
+outcome_as (answereds.Busy holder held) = outcomes.Busy holder held
 
 -- the globals and the transactions after an access of the job
 abbrev pub with_accessed : Transacted → ℕ → Access → Transacted

@@ -1,5 +1,5 @@
 -- What all jobs share, and how it answers.
-use Rattle.std.specs.Prelude.{ℕ, ◌+◌, ℤ, nat_lt, ◌==◌, List, [], ◌∷◌, ◌++◌, Bool, false, ◌&&◌, Option, Some, None, length, is_none, if◌then◌else◌}
+use Rattle.std.specs.Prelude.{ℕ, ◌+◌, ℤ, nat_lt, ◌==◌, List, [], ◌∷◌, ◌++◌, Bool, true, false, ◌&&◌, Option, Some, None, length, is_none, if◌then◌else◌}
 use Rattle.std.specs.Str.{bytes_eq}
 use Rattle.std.specs.List.{list_all}
 use Rattle.mj_store.specs.Questions.{Content}
@@ -161,6 +161,11 @@ abbrev pub moves_session : Shared → SharedAsk → Bool
 moves_session s (shared_asks.Open name timeout) =
     if bytes_eq name principal then false else elim (device_at s.devices name) [ None ↦ false | Some d ↦ has_session d ]
 moves_session s _ = false
+
+-- whether no session goes to a job by an ask of this kind, whatever is shared: one goes by OPEN alone
+abbrev pub moves_none : SharedAsk → Bool
+moves_none (shared_asks.Open name timeout) = false
+moves_none _ = true
 
 -- and so of any ask
 abbrev pub takes_session : Shared → Ask → Bool

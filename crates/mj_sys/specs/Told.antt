@@ -1,4 +1,4 @@
--- What a call of `serve` tells.
+-- What a call tells that serves an ask.
 use Rattle.std.specs.Prelude.{◌≡◌, ℕ, ◌+◌, ◌<◌, ◌≤◌, length, [], ◌∷◌, ◌++◌, Bool, true, false, Option, Some, None}
 use Rattle.mj_ask.specs.declared.ask.Ask.{Ask}
 use Rattle.mj_ask.specs.declared.ask.Reply.{Reply}
@@ -7,11 +7,18 @@ use Rattle.mj_dev.specs.Heard.{Heard, IsNew}
 use Rattle.mj_jobs.specs.Rows.{IsLive}
 use Rattle.mj_sys.specs.declared.served.Served.{Served}
 use Rattle.mj_sys.specs.declared.served.Served.TheVariants as serveds
+use Rattle.mj_sys.specs.declared.served.Told.{Told}
+use Rattle.mj_sys.specs.declared.served.Told.TheVariants as tolds
 use Rattle.mj_sys.specs.declared.served.Refused.{Refused}
 use Rattle.mj_sys.specs.declared.served.Refused.TheVariants as refusals
 use Rattle.mj_sys.specs.Shared.{Shared, served, takes_session}
 use Rattle.mj_sys.specs.History.{state_of, events_of}
 use Rattle.mj_sys.specs.System.{KeepsBusy, Recorded, Claimed, history_limit}
+
+-- what is told without a session, as what any ask is told
+abbrev pub served_as : Told → Served Heard
+served_as (tolds.Reply reply) = serveds.Reply reply
+served_as (tolds.Busy holder held) = serveds.Busy holder held
 
 -- The ask is told its reply, and what is shared is what that leaves; or it has got a device by a session with which nothing was done yet; or it
 -- is busy, by what another has, and nothing changes.

@@ -26,5 +26,5 @@ mod transactions;
 pub use claim::Claim;
 pub use event::Event;
 pub use opening::{Opening, Unmade};
-pub use served::{Held, Refused, Served};
+pub use served::{Held, Refused, Served, Told};
 pub use system::{HISTORY_LIMIT, System};

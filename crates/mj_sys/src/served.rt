@@ -29,6 +29,20 @@ pub enum Served<S> {
     },
 }
 
+/// What comes of an ask by which no session goes to a job.
+#[derive(Drop)]
+pub enum Told {
+    /// the job is told this
+    Reply(Reply),
+    /// another job has what is asked for, and nothing is told
+    Busy {
+        /// the job that has it
+        holder: u32,
+        /// what it has
+        held: Held,
+    },
+}
+
 /// Why an ask isn't served.
 #[derive(Clone, Copy, PartialEq, Eq, Debug)]
 pub enum Refused {

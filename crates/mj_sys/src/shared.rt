@@ -7,14 +7,15 @@ ghost use Rattle.mj_ask.specs.Late.{is_timed_out};
 ghost use Rattle.mj_ask.specs.declared.ask.SharedAsk.TheVariants as shared_asks;
 ghost use Rattle.mj_dev.specs.Heard.{IsNew};
 ghost use Rattle.mj_dev.specs.Shelves.{principal, left_of};
-ghost use Rattle.mj_jobs.specs.Rows.{start_at, HasStart, IsLive};
+ghost use Rattle.mj_jobs.specs.Rows.{start_at, HasStart, IsLive, rows_limit};
 ghost use Rattle.mj_locktab.specs.Locks.{LocksApart};
 ghost use Rattle.mj_ask.specs.declared.ask.Reply.TheVariants as replies;
-ghost use Rattle.mj_sys.specs.Shared.{transaction_begun as begun_in, undone, halted, device_closed, moves_session};
+ghost use Rattle.mj_sys.specs.Shared.{transaction_begun as begun_in, undone, halted, device_closed, moves_session, moves_none};
 ghost use Rattle.mj_txlog.specs.declared.entry.Unlock.TheVariants as unlocks;
+ghost use Rattle.mj_sys.specs.declared.shared.Answered.TheVariants as answereds;
 ghost use Rattle.mj_sys.specs.declared.shared.Outcome.TheVariants as outcomes;
 ghost use Rattle.mj_sys.specs.Opening.{opening_of};
-ghost use Rattle.mj_sys.specs.Kept.{ComesOfAsk, without};
+ghost use Rattle.mj_sys.specs.Kept.{ComesOfAsk, outcome_as, without};
 
 use crate::opening::Unmade;
 use crate::passed::none_passed;
@@ -31,6 +32,13 @@ use mj_store::Access;
 use mj_text::Text;
 use std::alloc::{AllocError, Global};
 use std::marker::Model;
+
+// What comes of an ask by which no session goes to a job. A reply is there twice, for the job and for the history.
+#[derive(Drop)]
+pub enum Answered {
+    Told(Reply, Reply),
+    Busy(u32, Held),
+}
 
 // What comes of an ask. A reply is there twice, for the job and for the history.
 #[derive(Drop)]
@@ -83,7 +91,7 @@ impl<D: Device> Shared<D> {
         pool: Pool<D>,
         starts: Vec<Start>,
     ) -> Result<Shared<D>, Unmade<D>>
-        requires few { length starts.items ≤ 255 }
+        requires few { length starts.items ≤ rows_limit }
         requires fits { length starts.items ≤ left_of principal pool }
         ensures ok { IfOk result (λ s. s ≡ record { state = opening_of globals.content pool starts.items; claimed = 0 }) }
         ensures globals { IfErr result (λ back. back.globals ≡ globals) }
@@ -152,7 +160,7 @@ impl<D: Device> Shared<D> {
     // How many rows there are.
     pub fn rows(&self) -> usize
         ensures value { result ≡ length self.now.state.rows }
-        ensures bound { result ≤ 255 }
+        ensures bound { result ≤ rows_limit }
     {
         self.jobs.len()
     }
@@ -228,56 +236,73 @@ impl<D: Device> Shared<D> {
         ensures apart { LocksApart self.new.state.locks }
         ensures err { OnErr result (self.new ≡ self.old) }
     {
-        let outcome = self.answer(job, ask, late);
+        match ask {
+            SharedAsk::Open(name, timeout) => {
+                let outcome = self.open(job, name, *timeout, late);
+                self.locks.keeps();
+                outcome
+            }
+            _ => Ok(widened(self.tell(job, ask, late)?)),
+        }
+    }
+
+    // Serves an ask of a job by which no session goes to it. Names of different jobs don't overlap then either.
+    pub fn tell(&mut self, job: u32, ask: &SharedAsk, late: bool) -> Result<Answered, AllocError>
+        requires { moves_none ask.now ≡ true }
+        ensures ok { IfOk result (λ answered. ComesOfAsk self.old job ask.now late (outcome_as answered) self.new) }
+        ensures apart { LocksApart self.new.state.locks }
+        ensures err { OnErr result (self.new ≡ self.old) }
+    {
+        let answered = self.answer(job, ask, late);
         self.locks.keeps();
-        outcome
+        answered
     }
 
     // Answers it by its kind.
-    fn answer(
-        &mut self,
-        job: u32,
-        ask: &SharedAsk,
-        late: bool,
-    ) -> Result<Outcome<Session<D>>, AllocError>
-        ensures ok { IfOk result (λ outcome. ComesOfAsk self.old job ask.now late outcome self.new) }
+    fn answer(&mut self, job: u32, ask: &SharedAsk, late: bool) -> Result<Answered, AllocError>
+        requires { moves_none ask.now ≡ true }
+        ensures ok { IfOk result (λ answered. ComesOfAsk self.old job ask.now late (outcome_as answered) self.new) }
         ensures err { OnErr result (self.new ≡ self.old) }
     {
         match ask {
-            SharedAsk::Access(access) => self.access(job, access),
+            SharedAsk::Access(access) => {
+                let (reply, again) = self.access(job, access)?;
+                Ok(Answered::Told(reply, again))
+            }
             SharedAsk::Try(names, timeout) => self.try_take(job, names, *timeout, late),
             SharedAsk::Unlock(names) => self.unlock(job, names),
             SharedAsk::UnlockAll => self.unlock_all(job),
-            SharedAsk::Open(name, timeout) => self.open(job, name, *timeout, late),
+            SharedAsk::Open(_, _) => unreachable!(),
             SharedAsk::Close(name) => {
                 self.close(job, name);
-                Ok(Outcome::Told(Reply::Done, Reply::Done))
+                Ok(Answered::Told(Reply::Done, Reply::Done))
             }
             SharedAsk::Start(start, timeout) => self.start(job, start, *timeout, late),
             SharedAsk::Halt(_) => {
                 self.roll_back(job);
                 self.halt(job);
-                Ok(Outcome::Told(Reply::Done, Reply::Done))
+                Ok(Answered::Told(Reply::Done, Reply::Done))
             }
             SharedAsk::Begin(kind) => {
                 self.begin(job, *kind);
-                Ok(Outcome::Told(Reply::Done, Reply::Done))
+                Ok(Answered::Told(Reply::Done, Reply::Done))
             }
             SharedAsk::Commit => self.commit(job),
             SharedAsk::Rollback => {
                 self.roll_back(job);
-                Ok(Outcome::Told(Reply::Done, Reply::Done))
+                Ok(Answered::Told(Reply::Done, Reply::Done))
             }
         }
     }
 
-    // An access, in the job's transaction if it has one open.
-    fn access(&mut self, job: u32, of: &Access) -> Result<Outcome<Session<D>>, AllocError>
-        ensures ok { IfOk result (λ outcome. ComesOfAsk self.old job (shared_asks.Access of.now) false outcome self.new) }
+    // An access, in the job's transaction if it has one open: what it is told, once for the job and once for the history.
+    pub fn access(&mut self, job: u32, of: &Access) -> Result<(Reply, Reply), AllocError>
+        ensures ok { IfOk result (λ told. ComesOfAsk self.old job (shared_asks.Access of.now) false (outcomes.Told told.0 told.1) self.new) }
+        ensures apart { LocksApart self.new.state.locks }
         ensures err { OnErr result (self.new ≡ self.old) }
     {
-        let (reply, again) = self.transacted.access(job, of)?;
-        Ok(Outcome::Told(reply, again))
+        self.locks.keeps();
+        self.transacted.access(job, of)
     }
 
     // LOCK of names.
@@ -287,38 +312,38 @@ impl<D: Device> Shared<D> {
         names: &Names,
         timeout: Option<Num>,
         late: bool,
-    ) -> Result<Outcome<Session<D>>, AllocError>
-        ensures ok { IfOk result (λ outcome. ComesOfAsk self.old job (shared_asks.Try names.now timeout) late outcome self.new) }
+    ) -> Result<Answered, AllocError>
+        ensures ok { IfOk result (λ answered. ComesOfAsk self.old job (shared_asks.Try names.now timeout) late (outcome_as answered) self.new) }
         ensures err { OnErr result (self.new ≡ self.old) }
     {
         let taken = self
             .transacted
             .try_take(&mut self.locks, job, names.as_slice());
         Ok(match taken? {
-            Taken::Got => Outcome::Told(Reply::Got, Reply::Got),
-            Taken::Limit => Outcome::Told(Reply::Limit, Reply::Limit),
+            Taken::Got => Answered::Told(Reply::Got, Reply::Got),
+            Taken::Limit => Answered::Told(Reply::Limit, Reply::Limit),
             Taken::Busy { holder, name } => busy(timeout, late, holder, Held::Name(name)),
         })
     }
 
     // An unlock of names.
-    fn unlock(&mut self, job: u32, names: &Names) -> Result<Outcome<Session<D>>, AllocError>
-        ensures ok { IfOk result (λ outcome. ComesOfAsk self.old job (shared_asks.Unlock names.now) false outcome self.new) }
+    fn unlock(&mut self, job: u32, names: &Names) -> Result<Answered, AllocError>
+        ensures ok { IfOk result (λ answered. ComesOfAsk self.old job (shared_asks.Unlock names.now) false (outcome_as answered) self.new) }
         ensures err { OnErr result (self.new ≡ self.old) }
     {
         let (reply, again) = self
             .transacted
             .unlock(&mut self.locks, job, names.as_slice())?;
-        Ok(Outcome::Told(reply, again))
+        Ok(Answered::Told(reply, again))
     }
 
     // An unlock of all names.
-    fn unlock_all(&mut self, job: u32) -> Result<Outcome<Session<D>>, AllocError>
-        ensures ok { IfOk result (λ outcome. ComesOfAsk self.old job shared_asks.UnlockAll false outcome self.new) }
+    fn unlock_all(&mut self, job: u32) -> Result<Answered, AllocError>
+        ensures ok { IfOk result (λ answered. ComesOfAsk self.old job shared_asks.UnlockAll false (outcome_as answered) self.new) }
         ensures err { OnErr result (self.new ≡ self.old) }
     {
         let (reply, again) = self.transacted.unlock_all(&mut self.locks, job)?;
-        Ok(Outcome::Told(reply, again))
+        Ok(Answered::Told(reply, again))
     }
 
     // TSTART: a transaction begins, unless one is open.
@@ -329,12 +354,12 @@ impl<D: Device> Shared<D> {
     }
 
     // TCOMMIT: a transaction isn't open any more, and its changes are made where it doesn't clash.
-    fn commit(&mut self, job: u32) -> Result<Outcome<Session<D>>, AllocError>
-        ensures ok { IfOk result (λ outcome. ComesOfAsk self.old job shared_asks.Commit false outcome self.new) }
+    fn commit(&mut self, job: u32) -> Result<Answered, AllocError>
+        ensures ok { IfOk result (λ answered. ComesOfAsk self.old job shared_asks.Commit false (outcome_as answered) self.new) }
         ensures err { OnErr result (self.new ≡ self.old) }
     {
         let (reply, again) = self.transacted.commit(&mut self.locks, job)?;
-        Ok(Outcome::Told(reply, again))
+        Ok(Answered::Told(reply, again))
     }
 
     // TROLLBACK: a transaction isn't open any more, and what it gained goes back.
@@ -370,7 +395,12 @@ impl<D: Device> Shared<D> {
                 }
             },
             Some(holder) if holder == job => Ok(Outcome::Told(Reply::Got, Reply::Got)),
-            Some(holder) => Ok(busy(timeout, late, holder, Held::Device(name.try_clone()?))),
+            Some(holder) => Ok(widened(busy(
+                timeout,
+                late,
+                holder,
+                Held::Device(name.try_clone()?),
+            ))),
         }
     }
 
@@ -391,18 +421,18 @@ impl<D: Device> Shared<D> {
         start: &Start,
         timeout: Option<Num>,
         late: bool,
-    ) -> Result<Outcome<Session<D>>, AllocError>
-        ensures ok { IfOk result (λ outcome. ComesOfAsk self.old job (shared_asks.Start start.now timeout) late outcome self.new) }
+    ) -> Result<Answered, AllocError>
+        ensures ok { IfOk result (λ answered. ComesOfAsk self.old job (shared_asks.Start start.now timeout) late (outcome_as answered) self.new) }
         ensures err { OnErr result (self.new ≡ self.old) }
     {
         let rows = self.jobs.len();
         if rows >= ROWS_LIMIT || rows >= self.principals as usize {
-            return Ok(Outcome::Told(Reply::Limit, Reply::Limit));
+            return Ok(Answered::Told(Reply::Limit, Reply::Limit));
         }
         let start = start.try_clone()?;
         self.transacted.add_row()?;
         match self.jobs.add(start) {
-            Ok(number) => Ok(Outcome::Told(Reply::Job(number), Reply::Job(number))),
+            Ok(number) => Ok(Answered::Told(Reply::Job(number), Reply::Job(number))),
             Err((error, _)) => {
                 self.transacted.drop_row();
                 Err(error)
@@ -421,13 +451,23 @@ impl<D: Device> Shared<D> {
 }
 
 // An ask that another job is in the way of. Where its timeout is over it is told so.
-fn busy<S>(timeout: Option<Num>, late: bool, holder: u32, held: Held) -> Outcome<S>
-    ensures { result ≡ (if is_timed_out timeout late then outcomes.Told replies.Late replies.Late else outcomes.Busy holder held) }
+fn busy(timeout: Option<Num>, late: bool, holder: u32, held: Held) -> Answered
+    ensures { result ≡ (if is_timed_out timeout late then answereds.Told replies.Late replies.Late else answereds.Busy holder held) }
 {
     if is_timed_out(timeout, late) {
-        Outcome::Told(Reply::Late, Reply::Late)
+        Answered::Told(Reply::Late, Reply::Late)
     } else {
-        Outcome::Busy(holder, held)
+        Answered::Busy(holder, held)
+    }
+}
+
+// It as what comes of any ask.
+fn widened<S>(answered: Answered) -> Outcome<S>
+    ensures { result ≡ outcome_as answered }
+{
+    match answered {
+        Answered::Told(reply, again) => Outcome::Told(reply, again),
+        Answered::Busy(holder, held) => Outcome::Busy(holder, held),
     }
 }
 

@@ -1,30 +1,34 @@
 // The system: what is shared, beside the history that left it so.
 
-ghost use Rattle.std.specs.Prelude.{◌≡◌, ℕ, true, ◌+◌, ◌<◌, ◌≤◌, ◌↔◌, ◌-◌, ◌^◌, ◌∷◌, ◌++◌, [], length, slice_set, slice_index_or, vec_len, vec_capacity, Some};
+ghost use Rattle.std.specs.Prelude.{◌≡◌, ℕ, true, false, ◌+◌, ◌<◌, ◌≤◌, ◌↔◌, ◌-◌, ◌^◌, ◌∷◌, ◌++◌, [], length};
+ghost use Rattle.std.specs.Prelude.{slice_set, slice_index_or, vec_len, vec_capacity, Some};
 ghost use Rattle.std.specs.Prelude.{IfOk, IfErr, OnOk, OnErr, IfSome, IfNone, IsTrue, option_copied};
 ghost use Rattle.mj_ask.specs.Fits.{is_shared};
 ghost use Rattle.mj_ask.specs.declared.ask.Ask.TheVariants as asks;
+ghost use Rattle.mj_ask.specs.declared.ask.SharedAsk.TheVariants as shared_asks;
 ghost use Rattle.mj_dev.specs.Heard.{IsNew};
 ghost use Rattle.mj_dev.specs.Shelves.{principal, left_of};
 ghost use Rattle.mj_jobs.specs.Rows.{start_at, HasStart, IsLive, rows_limit};
 ghost use Rattle.mj_locktab.specs.Locks.{LocksApart};
 ghost use Rattle.mj_sys.specs.Opening.{opening_of, are_bare, NoneIsOpen, NoneHasEnded};
-ghost use Rattle.mj_sys.specs.Shared.{are_global, takes_session};
+ghost use Rattle.mj_sys.specs.Shared.{are_global, takes_session, moves_none};
 ghost use Rattle.mj_sys.specs.History.{state_of, AreServed, events_of, log_of};
 ghost use Rattle.mj_sys.specs.System.{history_limit, KeepsRows};
-ghost use Rattle.mj_sys.specs.Told.{Serves, IsServiceRefused, IsTurn};
+ghost use Rattle.mj_sys.specs.Told.{Serves, IsServiceRefused, IsTurn, served_as};
 ghost use Rattle.mj_sys.specs.Kept.{ServesAndRecords, IsWrittenDown, kept_reply, told_of};
 ghost use Rattle.mj_sys.specs.declared.served.Refused.TheVariants as refusals;
+ghost use Rattle.mj_sys.specs.declared.served.Served.TheVariants as serveds;
 
 use crate::claim::Claim;
 use crate::event::Event;
 use crate::opening::{Opening, Unmade};
-use crate::served::{Refused, Served};
-use crate::shared::{Outcome, Shared};
+use crate::served::{Refused, Served, Told};
+use crate::shared::{Answered, Outcome, Shared};
 use mj_ask::{Ask, Reply, SharedAsk, Start};
 use mj_dev::{Device, Pool, Session};
 use mj_globs::Globals;
 use mj_locktab::LockTable;
+use mj_store::Access;
 use std::alloc::{AllocError, Global};
 use std::marker::{Model, PhantomData};
 
@@ -123,14 +127,7 @@ impl<D: Device, O: Opening> System<D, O> {
         ensures refused { IfErr result (λ why. IsServiceRefused O.opening self.old claim.old why) }
         ensures kept { OnErr result ((self.new ≡ self.old) × (claim.new ≡ claim.old)) }
     {
-        if !self.is_turn(claim) {
-            return Err(Refused::Turn {
-                expected: self.events(claim.job()),
-            });
-        }
-        if self.history.len() >= HISTORY_LIMIT {
-            return Err(Refused::Full);
-        }
+        self.may_follow(claim)?;
         serve_next(
             &mut self.shared,
             &mut self.history,
@@ -157,6 +154,58 @@ impl<D: Device, O: Opening> System<D, O> {
             Ask::Shared(ask) => self.serve_shared(claim, ask, late),
             Ask::Device(_, _) | Ask::Rest(_) => unreachable!(),
         }
+    }
+
+    /// Serves an access of a claim's job, as `serve_shared` does. The history keeps the access itself: who has the system under a lock makes a copy
+    /// of what is asked before.
+    pub fn access(&mut self, claim: &mut Claim, access: Access) -> Result<Reply, Refused>
+        ensures ok { IfOk result (λ reply.
+            Serves O.opening self.old claim.old (asks.Shared (shared_asks.Access access)) false (serveds.Reply reply) self.new claim.new) }
+        ensures refused { IfErr result (λ why. IsServiceRefused O.opening self.old claim.old why) }
+        ensures kept { OnErr result ((self.new ≡ self.old) × (claim.new ≡ claim.old)) }
+    {
+        self.may_follow(claim)?;
+        access_next(
+            &mut self.shared,
+            &mut self.history,
+            &mut self.counts,
+            claim,
+            access,
+        )
+    }
+
+    /// Serves an ask of a claim's job by which no session goes to it, as `serve_shared` does. The history keeps the ask itself, as in `access`.
+    pub fn tell(&mut self, claim: &mut Claim, ask: SharedAsk, late: bool) -> Result<Told, Refused>
+        requires { moves_none ask ≡ true }
+        ensures ok { IfOk result (λ told. Serves O.opening self.old claim.old (asks.Shared ask) late (served_as told) self.new claim.new) }
+        ensures refused { IfErr result (λ why. IsServiceRefused O.opening self.old claim.old why) }
+        ensures kept { OnErr result ((self.new ≡ self.old) × (claim.new ≡ claim.old)) }
+    {
+        self.may_follow(claim)?;
+        tell_next(
+            &mut self.shared,
+            &mut self.history,
+            &mut self.counts,
+            claim,
+            ask,
+            late,
+        )
+    }
+
+    // Whether an event of the claim's job may follow: it is its turn, and the history isn't full.
+    fn may_follow(&self, claim: &Claim) -> Result<(), Refused>
+        ensures ok { OnOk result (IsTurn O.opening self.now claim.now × (length self.now.history < history_limit)) }
+        ensures refused { IfErr result (λ why. IsServiceRefused O.opening self.now claim.now why) }
+    {
+        if !self.is_turn(claim) {
+            return Err(Refused::Turn {
+                expected: self.events(claim.job()),
+            });
+        }
+        if self.history.len() >= HISTORY_LIMIT {
+            return Err(Refused::Full);
+        }
+        Ok(())
     }
 
     // Whether it is the claim's turn.
@@ -279,6 +328,81 @@ fn serve_next<D: Device>(
     }
 }
 
+// Serves the access, and writes down what comes of it.
+fn access_next<D: Device>(
+    shared: &mut Shared<D>,
+    history: &mut Vec<Event>,
+    counts: &mut Vec<u64>,
+    claim: &mut Claim,
+    access: Access,
+) -> Result<Reply, Refused>
+    requires place { claim.old.job ≤ length counts.old.items }
+    requires few { slice_index_or counts.old.items (claim.old.job - 1) 0 < 2 ^ 64 - 1 }
+    requires few_claimed { claim.old.events < 2 ^ 64 - 1 }
+    ensures ok { IfOk result (λ reply. ServesAndRecords shared.old history.old.items counts.old.items claim.old (shared_asks.Access access) false
+        (serveds.Reply reply) shared.new history.new.items counts.new.items claim.new) }
+    ensures apart { LocksApart shared.new.state.locks }
+    ensures err { IfErr result (λ why. why ≡ refusals.Memory) }
+    ensures kept { OnErr result
+        ((shared.new ≡ shared.old) × (history.new.items ≡ history.old.items) × (counts.new.items ≡ counts.old.items) × (claim.new ≡ claim.old)) }
+{
+    let Ok(()) = history.reserve(1) else {
+        shared.locks();
+        return Err(Refused::Memory);
+    };
+    match shared.access(claim.job(), &access) {
+        Ok((reply, again)) => {
+            let ask = Ask::Shared(SharedAsk::Access(access));
+            write_down(history, counts, claim, ask, again);
+            Ok(reply)
+        }
+        Err(_) => {
+            drop(access);
+            Err(Refused::Memory)
+        }
+    }
+}
+
+// Serves the ask, by which no session goes to its job, and writes down what comes of it.
+fn tell_next<D: Device>(
+    shared: &mut Shared<D>,
+    history: &mut Vec<Event>,
+    counts: &mut Vec<u64>,
+    claim: &mut Claim,
+    ask: SharedAsk,
+    late: bool,
+) -> Result<Told, Refused>
+    requires moves { moves_none ask ≡ true }
+    requires place { claim.old.job ≤ length counts.old.items }
+    requires few { slice_index_or counts.old.items (claim.old.job - 1) 0 < 2 ^ 64 - 1 }
+    requires few_claimed { claim.old.events < 2 ^ 64 - 1 }
+    ensures ok { IfOk result (λ told. ServesAndRecords shared.old history.old.items counts.old.items claim.old ask late (served_as told)
+        shared.new history.new.items counts.new.items claim.new) }
+    ensures apart { LocksApart shared.new.state.locks }
+    ensures err { IfErr result (λ why. why ≡ refusals.Memory) }
+    ensures kept { OnErr result
+        ((shared.new ≡ shared.old) × (history.new.items ≡ history.old.items) × (counts.new.items ≡ counts.old.items) × (claim.new ≡ claim.old)) }
+{
+    let Ok(()) = history.reserve(1) else {
+        shared.locks();
+        return Err(Refused::Memory);
+    };
+    match shared.tell(claim.job(), &ask, late) {
+        Ok(Answered::Told(reply, again)) => {
+            write_down(history, counts, claim, Ask::Shared(ask), again);
+            Ok(Told::Reply(reply))
+        }
+        Ok(Answered::Busy(holder, held)) => {
+            drop(ask);
+            Ok(Told::Busy { holder, held })
+        }
+        Err(_) => {
+            drop(ask);
+            Err(Refused::Memory)
+        }
+    }
+}
+
 // Makes room for an event of this ask, and copies it.
 fn room_and_copy(history: &mut Vec<Event>, ask: &SharedAsk) -> Result<Ask, AllocError>
     ensures same { history.new.items ≡ history.old.items }
@@ -321,6 +445,7 @@ fn tell<S>(
 }
 
 // Writes an event of the claim's job down, and counts it.
+#[inline(always)]
 fn write_down(
     history: &mut Vec<Event>,
     counts: &mut Vec<u64>,

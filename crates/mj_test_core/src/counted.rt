@@ -125,7 +125,8 @@ fn opened(alloc: Global, listing: Option<&str>) -> Result<(Globals, Vec<Start>),
     }
 }
 
-fn globals(alloc: Global, listing: Option<&str>) -> Result<Globals, Failure>
+/// The globals of a listing, or none.
+pub fn globals(alloc: Global, listing: Option<&str>) -> Result<Globals, Failure>
     ensures { IfOk result (λ globals. are_global globals.content ≡ true) }
 {
     let Some(listing) = listing else {

@@ -7,6 +7,8 @@
 #[cfg(test)]
 mod locals;
 #[cfg(test)]
+mod locks;
+#[cfg(test)]
 mod texts;
 #[cfg(test)]
 mod trees;

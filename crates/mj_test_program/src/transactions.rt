@@ -18,6 +18,7 @@ Y=7,W=W+1 IF 1 FOR  TRE:$TR<1  QUIT~ => 11100 11110 25121 25131  => 0
  BREAK  WRITE 1 B:0  WRITE 2~ => 12 => 0
  SET ^A(1)=1,^A(2)=2,^A(3)=3~ TSTART  KILL ^A(2) WRITE $ORDER(^A(1)),$ORDER(^A(2)) TROLLBACK  WRITE $ORDER(^A(1))~ => 332 => 0
  SET ^A(1)=1,^A(2)=2,^A(3)=3~ TSTART  KILL ^A(2) SET ^A(2,5)=\"\" WRITE $ORDER(^A(1)),$DATA(^A(2)),$QUERY(^A(1)) TROLLBACK~ => 210^A(2,5) => 0
+ SET ^A(1)=1,^A(2)=2,^A(3)=3~ TSTART  KILL ^A(2) SET ^A(2,5)=\"\" TCOMMIT  WRITE $ORDER(^A(1)),$DATA(^A(2)),$QUERY(^A(1)),$ORDER(^A(2))~ => 210^A(2,5)3 => 0
 ";
     judge(&rt, "transactions", Wanted::Printed, rows)
 }

@@ -3,7 +3,7 @@
 ghost use Rattle.std.specs.Prelude.{◌≡◌};
 ghost use Rattle.mj_threads.specs.Cuts.{is_stop, was, first_refused, cut_of};
 
-use mj_work::{Ran, Stop};
+use mj_gather::{Ran, Stop};
 
 /// Why jobs stopped before their end.
 #[derive(Clone, Copy, PartialEq, Eq, Debug)]
@@ -12,7 +12,7 @@ pub enum Cut {
     Memory,
     /// there are as many events as there may be
     Full,
-    /// the system said that it isn't this job's turn
+    /// the system said that it isn't this job's turn, nobody could answer what it asked, or it asked behind its halt
     Refused { job: u32 },
 }
 
@@ -41,7 +41,7 @@ fn was(rans: &[Ran<'_>], stop: Stop) -> bool
     false
 }
 
-// The first job that stopped as it wasn't its turn, if one did.
+// The first job that stopped refused, if one did.
 fn first_refused(rans: &[Ran<'_>]) -> Option<Cut>
     ensures { result ≡ first_refused rans.now }
 {

@@ -1,3 +1,4 @@
+pub mod Devices
 pub mod Spelling
 pub mod Trace
 pub mod Reading

@@ -33,6 +33,9 @@ use Rattle.mj_gfile.specs.declared.field.Field.{Field}
 use Rattle.mj_gfile.specs.declared.field.Field.TheVariants.{Within, Over}
 use Rattle.mj_gfile.specs.Reading.{front_by, rest_by, is_number_byte, is_word_byte, text_at, subscript_at}
 use Rattle.mj_gfile.specs.Listing.{text_field}
+use Rattle.mj_trace.specs.Devices.{timed_ask, given_by}
+use Rattle.mj_trace.specs.declared.devices.Given.{Given}
+use Rattle.mj_trace.specs.declared.devices.Given.TheVariants as givens
 use Rattle.mj_trace.specs.declared.run.Run.{Run}
 use Rattle.mj_trace.specs.declared.run.Run.TheVariants as runs
 
@@ -301,11 +304,8 @@ shared_with word rest =
 -- what is asked, by the word for it
 abbrev pub device_with : List ℕ → List ℕ → Option (DeviceAsk × List ℕ)
 device_with word rest =
-    if bytes_eq word (codes "begin") then Some (device_asks.Begin, rest)
-    else (if bytes_eq word (codes "end") then Some (device_asks.End, rest)
-    else (if bytes_eq word (codes "line") then timed_by device_asks.Line rest
-    else (if bytes_eq word (codes "byte") then timed_by device_asks.Byte rest
-    else (if bytes_eq word (codes "write") then option_map (λ p. (device_asks.Write p.0, p.1)) (text_in (skipped rest)) else None))))
+    if bytes_eq word (codes "write") then option_map (λ p. (device_asks.Write p.0, p.1)) (text_in (skipped rest))
+    else option_map (λ a. (a, (timeout_in rest).1)) (timed_ask word (timeout_in rest).0)
 
 abbrev pub device_in : List ℕ → Option (DeviceAsk × List ℕ)
 device_in bs = device_with (front runs.Letters bs) (behind_bytes runs.Letters bs)
@@ -378,11 +378,16 @@ clash_in bs = onward clash_then (count_in (skipped (behind_bytes runs.Letters bs
 abbrev pub job_in : List ℕ → Option Reply
 job_in bs = option_map (λ p. replies.Job p.0) (count_in (skipped (behind_bytes runs.Letters bs)))
 
+-- what a device gives
+abbrev pub given_as : Given → List ℕ → Option Reply
+given_as givens.Nothing bs = None
+given_as givens.Text bs = option_map (λ p. replies.Line p.0) (text_in bs)
+given_as givens.Code bs = option_map (λ p. replies.Byte p.0) (code_in bs)
+
 -- a reply that is no word
 abbrev pub given_in : Ask → List ℕ → Option Reply
 given_in (asks.Shared (shared_asks.Access a)) bs = option_map replies.Answer (answer_in a bs)
-given_in (asks.Device device (device_asks.Line timeout)) bs = option_map (λ p. replies.Line p.0) (text_in bs)
-given_in (asks.Device device (device_asks.Byte timeout)) bs = option_map (λ p. replies.Byte p.0) (code_in bs)
+given_in (asks.Device device a) bs = given_as (given_by a) bs
 given_in (asks.Shared (shared_asks.Start start timeout)) bs = job_in bs
 given_in (asks.Shared shared_asks.Commit) bs = clash_in bs
 given_in _ bs = None

@@ -8,6 +8,7 @@ use Rattle.mj_store.specs.declared.access.Access.{Access}
 use Rattle.mj_store.specs.declared.access.Access.TheVariants as accesses
 use Rattle.mj_store.specs.declared.access.Answer.{Answer}
 use Rattle.mj_store.specs.declared.access.Answer.TheVariants as answers_are
+use Rattle.mj_ask.specs.Fits.{device_timeout}
 use Rattle.mj_ask.specs.declared.clash.Kept.{Kept}
 use Rattle.mj_ask.specs.declared.clash.Kept.TheVariants as kepts
 use Rattle.mj_ask.specs.declared.ask.Ask.{Ask}
@@ -72,9 +73,7 @@ shared_fits _ = true
 -- what is asked of a session of a device
 abbrev pub device_fits : DeviceAsk → Bool
 device_fits (device_asks.Write bytes) = is_text bytes
-device_fits (device_asks.Line timeout) = timeout_fits timeout
-device_fits (device_asks.Byte timeout) = timeout_fits timeout
-device_fits _ = true
+device_fits a = timeout_fits (device_timeout a)
 
 -- an ask, by who serves it
 abbrev pub ask_fits : Ask → Bool

@@ -14,6 +14,7 @@ use Rattle.mj_store.specs.declared.access.Answer.{Answer}
 use Rattle.mj_store.specs.declared.access.Answer.TheVariants as answers_are
 use Rattle.mj_ask.specs.Written.{entry_text}
 use Rattle.mj_ask.specs.Started.{Started}
+use Rattle.mj_ask.specs.Fits.{device_timeout}
 use Rattle.mj_ask.specs.declared.ask.Kind.{Kind}
 use Rattle.mj_ask.specs.declared.ask.Kind.TheVariants as kinds
 use Rattle.mj_ask.specs.declared.clash.Kept.{Kept}
@@ -28,6 +29,7 @@ use Rattle.mj_ask.specs.declared.ask.DeviceAsk.TheVariants as device_asks
 use Rattle.mj_ask.specs.declared.ask.Reply.{Reply}
 use Rattle.mj_ask.specs.declared.ask.Reply.TheVariants as replies
 use Rattle.mj_gfile.specs.Spelling.{listed_text, listed_subscript, listed_subscripts, listed_name}
+use Rattle.mj_trace.specs.Devices.{device_word}
 
 -- a blank, and what follows it
 abbrev pub spaced : List ℕ → List ℕ
@@ -138,11 +140,8 @@ shared_text (shared_asks.Halt fault) = codes "halt" ++ fault_text fault
 
 -- what is asked of a session of a device
 abbrev pub device_text : DeviceAsk → List ℕ
-device_text device_asks.Begin = codes "begin"
 device_text (device_asks.Write bytes) = codes "write " ++ listed_text bytes
-device_text (device_asks.Line timeout) = codes "line" ++ timeout_text timeout
-device_text (device_asks.Byte timeout) = codes "byte" ++ timeout_text timeout
-device_text device_asks.End = codes "end"
+device_text a = device_word a ++ timeout_text (device_timeout a)
 
 -- an ask, by who serves it
 abbrev pub ask_text : Ask → List ℕ

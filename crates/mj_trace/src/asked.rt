@@ -5,6 +5,7 @@ ghost use Rattle.std.specs.Option.{option_map};
 ghost use Rattle.mj_trace.specs.Reading.{timeout_in, start_in, fault_of, halt_in, way_of, access_with, access_in, begin_in, unlock_in, try_in, open_in};
 ghost use Rattle.mj_trace.specs.Reading.{close_in, shared_with, device_with, device_in, on_device, rest_in, ask_with, ask_in};
 
+use crate::devices::timed_ask;
 use crate::found::{Found, find_text, read_count, read_number};
 use crate::members::{find_name, find_names, find_subtree, find_values};
 use crate::run::{Run, begins_with, skip, split};
@@ -117,23 +118,16 @@ fn find_device_ask_with<'a>(
 ) -> Result<Found<'a, DeviceAsk>, AllocError>
     ensures { IfOk result (λ r. option_map (λ p. (p.0, p.1.now)) r ≡ device_with word.now rest.now) }
 {
-    if word == b"begin".as_slice() {
-        Ok(Some((DeviceAsk::Begin, rest)))
-    } else if word == b"end".as_slice() {
-        Ok(Some((DeviceAsk::End, rest)))
-    } else if word == b"line".as_slice() {
-        let (timeout, behind) = read_timeout(rest);
-        Ok(Some((DeviceAsk::Line(timeout), behind)))
-    } else if word == b"byte".as_slice() {
-        let (timeout, behind) = read_timeout(rest);
-        Ok(Some((DeviceAsk::Byte(timeout), behind)))
-    } else if word == b"write".as_slice() {
-        match find_text(alloc, skip(rest))? {
+    if word == b"write".as_slice() {
+        return match find_text(alloc, skip(rest))? {
             Some((text, behind)) => Ok(Some((DeviceAsk::Write(text), behind))),
             None => Ok(None),
-        }
-    } else {
-        Ok(None)
+        };
+    }
+    let (timeout, behind) = read_timeout(rest);
+    match timed_ask(word, timeout) {
+        Some(ask) => Ok(Some((ask, behind))),
+        None => Ok(None),
     }
 }
 

@@ -8,6 +8,7 @@ ghost use Rattle.mj_gfile.specs.Begins.{HasFront};
 ghost use Rattle.mj_trace.specs.Sized.{access_fits, ask_fits, device_fits, name_fits, shared_fits, timeout_fits, value_fits};
 ghost use Rattle.mj_trace.specs.Spelling.{values_text, timeout_text, start_text, direction_text, access_text, kind_text, shared_text, device_text, ask_text};
 
+use crate::devices::device_word;
 use crate::fields::{
     put_entry, put_fault, put_names, put_number, put_subtree, put_timeout, put_values,
 };
@@ -85,20 +86,14 @@ fn put_device_ask(bytes: &mut Vec<u8>, ask: &DeviceAsk) -> Result<(), AllocError
     ensures fits { OnOk result (device_fits ask.now ≡ true) }
 {
     match ask {
-        DeviceAsk::Begin => bytes.extend_from_slice(b"begin"),
         DeviceAsk::Write(text) => {
             bytes.extend_from_slice(b"write ")?;
             put_text(bytes, text)
         }
-        DeviceAsk::Line(timeout) => {
-            bytes.extend_from_slice(b"line")?;
-            put_timeout(bytes, *timeout)
+        _ => {
+            bytes.extend_from_slice(device_word(ask))?;
+            put_timeout(bytes, ask.timeout())
         }
-        DeviceAsk::Byte(timeout) => {
-            bytes.extend_from_slice(b"byte")?;
-            put_timeout(bytes, *timeout)
-        }
-        DeviceAsk::End => bytes.extend_from_slice(b"end"),
     }
 }
 

@@ -9,6 +9,7 @@
 
 mod asked;
 mod asks;
+mod devices;
 mod fields;
 mod found;
 mod head;

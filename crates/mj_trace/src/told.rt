@@ -2,12 +2,13 @@
 
 ghost use Rattle.std.specs.Prelude.{◌≡◌, IfOk};
 ghost use Rattle.std.specs.Option.{option_map};
-ghost use Rattle.mj_trace.specs.Reading.{is_absent, answer_in, number_kept, kept_in, clash_in, job_in, given_in, done_of, limit_of, reply_in};
+ghost use Rattle.mj_trace.specs.Reading.{is_absent, answer_in, number_kept, kept_in, clash_in, job_in, given_as, given_in, done_of, limit_of, reply_in};
 
+use crate::devices::{Given, given_by};
 use crate::found::{Found, find_subscript, find_text, read_code, read_count, read_number};
 use crate::members::{find_name, find_subtree};
 use crate::run::{Run, begins_with, skip, split};
-use mj_ask::{Ask, BoxedClash, Clash, DeviceAsk, Kept, Reply, SharedAsk};
+use mj_ask::{Ask, BoxedClash, Clash, Kept, Reply, SharedAsk};
 use mj_store::{Access, Answer};
 use std::alloc::{AllocError, Global};
 
@@ -67,17 +68,27 @@ fn find_given(alloc: Global, ask: &Ask, bytes: &[u8]) -> Result<Option<Reply>, A
             Some(answer) => Ok(Some(Reply::Answer(answer))),
             None => Ok(None),
         },
-        Ask::Device(_, DeviceAsk::Line(_)) => match find_text(alloc, bytes)? {
-            Some((text, _)) => Ok(Some(Reply::Line(text))),
-            None => Ok(None),
-        },
-        Ask::Device(_, DeviceAsk::Byte(_)) => match read_code(bytes) {
-            Some((code, _)) => Ok(Some(Reply::Byte(code))),
-            None => Ok(None),
-        },
+        Ask::Device(_, ask) => find_given_as(alloc, given_by(ask), bytes),
         Ask::Shared(SharedAsk::Start(_, _)) => Ok(read_job(bytes)),
         Ask::Shared(SharedAsk::Commit) => find_clash(alloc, bytes),
         _ => Ok(None),
+    }
+}
+
+// Finds what a device gives.
+fn find_given_as(alloc: Global, given: Given, bytes: &[u8]) -> Result<Option<Reply>, AllocError>
+    ensures { IfOk result (λ r. r ≡ given_as given bytes.now) }
+{
+    match given {
+        Given::Nothing => Ok(None),
+        Given::Text => match find_text(alloc, bytes)? {
+            Some((text, _)) => Ok(Some(Reply::Line(text))),
+            None => Ok(None),
+        },
+        Given::Code => match read_code(bytes) {
+            Some((code, _)) => Ok(Some(Reply::Byte(code))),
+            None => Ok(None),
+        },
     }
 }
 

@@ -2,19 +2,19 @@
 
 ghost use Rattle.std.specs.Prelude.{◌≡◌, ◌+◌, ◌<◌, ◌^◌, true, false, drop, IfOk, OnErr, ◌≤◌, length};
 ghost use Rattle.mj_ast.specs.declared.expr.Scope.TheVariants as scopes;
-ghost use Rattle.mj_store.specs.Runs.{name_of as name_in};
+ghost use Rattle.mj_store.specs.declared.access.Access.TheVariants as access_kinds;
 ghost use Rattle.mj_semantics.specs.State.{plain_name};
 ghost use Rattle.mj_semantics.specs.Outcome as told;
 ghost use Rattle.mj_semantics.specs.Commands as commands;
-ghost use Rattle.mj_semantics.specs.Accesses as accesses;
 ghost use Rattle.mj_semantics.specs.Accesses.{answer_told};
 ghost use Rattle.mj_variable_ops.specs.Answers as answers;
+ghost use Rattle.mj_variable_ops.specs.Asked.{AsksFor};
 ghost use Rattle.mj_pcode.specs.declared.instr.Instr.TheVariants as instrs;
 ghost use Rattle.mj_pcode.specs.Machine.{top, operands};
-ghost use Rattle.mj_machine.specs.Kept.{stack_of, DidAlone, Does, DoesAlone, Obeys, ObeysAlone, Stays, without, replied};
+ghost use Rattle.mj_machine.specs.Kept.{stack_of, DidAlone, Does, DoesAlone, Obeys, ObeysAlone, Stays, TakesReply, without, replied};
 
 use crate::globals::{ask, at_hand};
-use crate::names::{name_below, refusal};
+use crate::names::{global_name, refusal};
 use crate::variables::is_plain_local;
 use mj_ask::Reply;
 use mj_ast::Scope;
@@ -22,6 +22,7 @@ use mj_machine::quiet::fail;
 use mj_machine::{Control, Machine, TurnOutcome, stack};
 use mj_pcode::{Depth, Reference};
 use mj_store::{Access, Answer};
+use mj_subs::SUBSCRIPTS_LIMIT;
 use mj_text::{Fault, Text};
 use std::alloc::{AllocError, Global};
 
@@ -137,19 +138,66 @@ fn store_named(
     ensures ok { IfOk result (λ step. Obeys (instrs.Store reference.now depth) pc machine.old (replied given.entry) step machine.new) }
     ensures err { OnErr result (Stays machine.old machine.new) }
 {
-    let name = match name_below(alloc, reference, machine, depth.above, 0)? {
-        Ok(name) => name,
-        Err(fault) => return Ok(fail(fault, machine)),
-    };
-    let value = stack::top(&machine.stack).try_clone()?;
-    change_global(
+    let subscripts = stack::below_both(&machine.stack, depth.above, 0, reference.count);
+    if let Some(fault) = refusal(subscripts) {
+        return Ok(fail(fault, machine));
+    }
+    store_global(
         alloc,
         pc,
-        depth.taken,
-        Access::Set(name, value),
+        &reference.word,
+        reference.count,
+        depth,
         machine,
         given,
     )
+}
+
+// Assigns the topmost operand to the global of this word, so many subscripts of which lie at a depth. Makes its name for an ask alone.
+fn store_global(
+    alloc: Global,
+    pc: usize,
+    word: &Text,
+    count: usize,
+    depth: Depth,
+    machine: &mut Machine,
+    given: Option<&Reply>,
+) -> Result<TurnOutcome, AllocError>
+    requires next { pc + 1 < 2 ^ 64 }
+    requires value { 1 ≤ length machine.old.stack.items }
+    requires enough { depth.above + count ≤ length machine.old.stack.items }
+    requires taken { depth.taken ≤ length machine.old.stack.items }
+    requires few { length (operands count (drop depth.above (stack_of machine.old))) ≤ SUBSCRIPTS_LIMIT }
+    ensures ok { IfOk result (λ step. Does (λ next. commands.store (answers.global_with word.now (operands count (drop depth.above (stack_of machine.old))))
+        (top (stack_of machine.old)) (without machine.old pc depth.taken next)) machine.old (replied given.entry) step machine.new) }
+    ensures err { OnErr result (Stays machine.old machine.new) }
+{
+    match at_hand(machine, given) {
+        None => ask_store(alloc, word, count, depth.above, machine),
+        Some(reply) => Ok(take_done(pc, depth.taken, reply, machine)),
+    }
+}
+
+// Asks that the topmost operand be assigned to the global of this word, so many subscripts of which lie below `above` operands.
+#[inline(never)]
+fn ask_store(
+    alloc: Global,
+    word: &Text,
+    count: usize,
+    above: usize,
+    machine: &mut Machine,
+) -> Result<TurnOutcome, AllocError>
+    requires value { 1 ≤ length machine.old.stack.items }
+    requires enough { above + count ≤ length machine.old.stack.items }
+    requires few { length (operands count (drop above (stack_of machine.old))) ≤ SUBSCRIPTS_LIMIT }
+    ensures ok { IfOk result (λ step. AsksFor (access_kinds.Set (answers.global_with word.now (operands count (drop above (stack_of machine.old))))
+        (top (stack_of machine.old))) machine.old step machine.new) }
+    ensures err { OnErr result (Stays machine.old machine.new) }
+{
+    let subscripts = stack::below_both(&machine.stack, above, 0, count);
+    let name = global_name(alloc, word, subscripts)?;
+    let value = stack::top(&machine.stack).try_clone()?;
+    ask(alloc, Access::Set(name, value), machine)
 }
 
 /// Kills the variable whose subscripts lie on top, with all that is below it.
@@ -225,18 +273,51 @@ fn kill_named(
     ensures ok { IfOk result (λ step. Obeys (instrs.Kill reference.now) pc machine.old (replied given.entry) step machine.new) }
     ensures err { OnErr result (Stays machine.old machine.new) }
 {
-    let name = match name_below(alloc, reference, machine, 0, 0)? {
-        Ok(name) => name,
-        Err(fault) => return Ok(fail(fault, machine)),
-    };
-    change_global(
-        alloc,
-        pc,
-        reference.count,
-        Access::Kill(name),
-        machine,
-        given,
-    )
+    if let Some(fault) = refusal(stack::topmost(&machine.stack, reference.count)) {
+        return Ok(fail(fault, machine));
+    }
+    kill_global(alloc, pc, &reference.word, reference.count, machine, given)
+}
+
+// Kills the global of this word, so many subscripts of which lie on top, with all that is below it. Makes its name for an ask alone.
+fn kill_global(
+    alloc: Global,
+    pc: usize,
+    word: &Text,
+    count: usize,
+    machine: &mut Machine,
+    given: Option<&Reply>,
+) -> Result<TurnOutcome, AllocError>
+    requires next { pc + 1 < 2 ^ 64 }
+    requires enough { count ≤ length machine.old.stack.items }
+    requires few { length (operands count (stack_of machine.old)) ≤ SUBSCRIPTS_LIMIT }
+    ensures ok { IfOk result (λ step. Does (λ next. commands.remove
+        (answers.global_with word.now (operands count (stack_of machine.old))) (without machine.old pc count next))
+        machine.old (replied given.entry) step machine.new) }
+    ensures err { OnErr result (Stays machine.old machine.new) }
+{
+    match at_hand(machine, given) {
+        None => ask_kill(alloc, word, count, machine),
+        Some(reply) => Ok(take_done(pc, count, reply, machine)),
+    }
+}
+
+// Asks that the global of this word, so many subscripts of which lie on top, be killed with all that is below it.
+#[inline(never)]
+fn ask_kill(
+    alloc: Global,
+    word: &Text,
+    count: usize,
+    machine: &mut Machine,
+) -> Result<TurnOutcome, AllocError>
+    requires enough { count ≤ length machine.old.stack.items }
+    requires few { length (operands count (stack_of machine.old)) ≤ SUBSCRIPTS_LIMIT }
+    ensures ok { IfOk result
+        (λ step. AsksFor (access_kinds.Kill (answers.global_with word.now (operands count (stack_of machine.old)))) machine.old step machine.new) }
+    ensures err { OnErr result (Stays machine.old machine.new) }
+{
+    let name = global_name(alloc, word, stack::topmost(&machine.stack, count))?;
+    ask(alloc, Access::Kill(name), machine)
 }
 
 // Goes on with `taken` operands less behind a change that is done, or fails.
@@ -254,31 +335,17 @@ fn settle(pc: usize, taken: usize, done: Result<(), Fault>, machine: &mut Machin
     }
 }
 
-#[inline(never)]
-fn change_global(
-    alloc: Global,
-    pc: usize,
-    taken: usize,
-    access: Access,
-    machine: &mut Machine,
-    given: Option<&Reply>,
-) -> Result<TurnOutcome, AllocError>
+// Counts the reply to a change and takes it: goes on with `taken` operands less, or fails.
+fn take_done(pc: usize, taken: usize, reply: &Reply, machine: &mut Machine) -> TurnOutcome
     requires next { pc + 1 < 2 ^ 64 }
-    requires global { (name_in access).global ≡ true }
     requires enough { taken ≤ length machine.old.stack.items }
-    ensures ok { IfOk result (λ step.
-        Does (λ next. accesses.access access (λ a. without machine.old pc taken next)) machine.old (replied given.entry) step machine.new) }
-    ensures err { OnErr result (Stays machine.old machine.new) }
+    requires more { machine.old.replied < told.steps_limit }
+    ensures { TakesReply (λ next. told.given (answers.change_done (answer_told reply.now)) (λ u. without machine.old pc taken next))
+        machine.old result machine.new }
 {
-    match at_hand(machine, given) {
-        None => ask(alloc, access, machine),
-        Some(reply) => {
-            drop(access);
-            machine.replied += 1;
-            settle(pc, taken, reply_done(reply), machine);
-            Ok(TurnOutcome::Took)
-        }
-    }
+    machine.replied += 1;
+    settle(pc, taken, reply_done(reply), machine);
+    TurnOutcome::Took
 }
 
 /// Whether a reply says that a change is done.

@@ -1,6 +1,7 @@
 // Pieces of a variable's value.
 
-ghost use Rattle.std.specs.Prelude.{◌≡◌, ◌+◌, ◌<◌, ◌^◌, true, false, option_copied, IfOk, OnErr, ◌≤◌, length};
+ghost use Rattle.std.specs.Prelude.{◌≡◌, ◌+◌, ◌<◌, ◌^◌, drop, option_copied, IfOk, OnErr, ◌≤◌, length};
+ghost use Rattle.mj_ast.specs.declared.expr.Scope.TheVariants as scopes;
 ghost use Rattle.mj_text.specs.Failing.{failing, then_value};
 ghost use Rattle.mj_strfn.specs.Functions.{AnswersOrMemory, set_piece_value, assigned_pieces as assigned_by};
 ghost use Rattle.mj_semantics.specs.Functions.{needed as needed_of, optional as optional_of};
@@ -8,20 +9,22 @@ ghost use Rattle.mj_semantics.specs.Commands as commands;
 ghost use Rattle.mj_semantics.specs.Accesses.{answer_told};
 ghost use Rattle.mj_variable_ops.specs.Answers as answers;
 ghost use Rattle.mj_pcode.specs.declared.instr.Instr.TheVariants as instrs;
-ghost use Rattle.mj_pcode.specs.Machine.{top};
+ghost use Rattle.mj_pcode.specs.Machine.{top, operands};
 ghost use Rattle.mj_machine.specs.Kept.{stack_of, Does, DoesAlone, Obeys, Stays, with_value, replied};
 
-use crate::globals::{ask, at_hand};
-use crate::names::name_below;
+use crate::globals::at_hand;
+use crate::names::refusal;
+use crate::variables::ask_value;
 use mj_ask::Reply;
+use mj_ast::Scope;
 use mj_machine::calls::{needed, optional};
 use mj_machine::quiet::fail;
 use mj_machine::values::{put_told, put_value};
 use mj_machine::{Control, Machine, TurnOutcome, stack};
 use mj_pcode::{Depth, Reference};
-use mj_store::{Access, Answer};
+use mj_store::Answer;
 use mj_strfn::{PieceRange, assigned_pieces, set_piece};
-use mj_subs::Name;
+use mj_subs::SUBSCRIPTS_LIMIT;
 use mj_text::{Failure, Fault, Text};
 use std::alloc::{AllocError, Global};
 
@@ -44,48 +47,35 @@ pub fn assign_piece(
     ensures ok { IfOk result (λ step. Obeys (instrs.SetPiece reference.now count depth) pc machine.old (replied given.entry) step machine.new) }
     ensures err { OnErr result (Stays machine.old machine.new) }
 {
-    let name = match name_below(alloc, reference, machine, depth.above, count)? {
-        Ok(name) => name,
-        Err(fault) => return Ok(fail(fault, machine)),
-    };
+    let subscripts = stack::below_both(&machine.stack, depth.above, count, reference.count);
+    if let Some(fault) = refusal(subscripts) {
+        return Ok(fail(fault, machine));
+    }
     let arguments = stack::below_both(&machine.stack, depth.above, 0, count);
     match range_of(alloc, arguments) {
-        Err(failure) => {
-            drop(name);
-            match failure {
-                Failure::Fault(fault) => {
-                    machine.control = Control::Faulted(fault);
-                    Ok(TurnOutcome::Next)
-                }
-                Failure::Memory => Err(AllocError),
+        Err(failure) => match failure {
+            Failure::Fault(fault) => {
+                machine.control = Control::Faulted(fault);
+                Ok(TurnOutcome::Next)
             }
-        }
+            Failure::Memory => Err(AllocError),
+        },
         Ok(None) => {
-            drop(name);
             stack::take_off(&mut machine.stack, depth.taken);
             machine.control = Control::At(pc + 2);
             Ok(TurnOutcome::Next)
         }
-        Ok(Some(range)) => match separator_of(alloc, arguments) {
-            Ok(separator) => {
-                let step = renew_range(alloc, pc, name, &separator, range, machine, given);
-                drop(separator);
-                step
-            }
-            Err(refused) => {
-                drop(name);
-                Err(refused)
-            }
-        },
+        Ok(Some(range)) => renew_range(
+            alloc,
+            pc,
+            reference,
+            count,
+            depth.above,
+            range,
+            machine,
+            given,
+        ),
     }
-}
-
-// Gives what lies between the pieces, by the arguments.
-fn separator_of(alloc: Global, arguments: &[Text]) -> Result<Text, AllocError>
-    ensures { IfOk result (λ separator. separator ≡ needed_of 0 arguments.now) }
-{
-    let none = Text::new(alloc);
-    needed(arguments, 0, &none).try_clone()
 }
 
 // Tells which pieces the arguments mean, if any.
@@ -97,69 +87,97 @@ fn range_of(alloc: Global, arguments: &[Text]) -> Result<Option<PieceRange>, Fai
     assigned_pieces(separator, optional(arguments, 1), optional(arguments, 2))
 }
 
-// Assigns the topmost operand to the pieces of a range.
+// Assigns the topmost operand to the pieces of a range. `count` arguments, of which the first lies between the pieces, lie below `above` operands.
 fn renew_range(
     alloc: Global,
     pc: usize,
-    name: Name,
-    separator: &Text,
+    reference: &Reference,
+    count: usize,
+    above: usize,
     range: PieceRange,
     machine: &mut Machine,
     given: Option<&Reply>,
 ) -> Result<TurnOutcome, AllocError>
     requires next { pc + 1 < 2 ^ 64 }
-    requires enough { 1 ≤ length machine.old.stack.items }
-    ensures ok { IfOk result (λ step. Does (λ next. commands.renewed name separator.now range (top (stack_of machine.old)) (with_value machine.old pc 0 next))
+    requires value { 1 ≤ length machine.old.stack.items }
+    requires enough { above + count + reference.now.count ≤ length machine.old.stack.items }
+    requires few { length (operands reference.now.count (drop count (drop above (stack_of machine.old)))) ≤ SUBSCRIPTS_LIMIT }
+    ensures ok { IfOk result (λ step. Does (λ next. commands.renewed
+        (answers.name_with reference.now.scope reference.now.word (operands reference.now.count (drop count (drop above (stack_of machine.old)))))
+        (needed_of 0 (operands count (drop above (stack_of machine.old)))) range (top (stack_of machine.old)) (with_value machine.old pc 0 next))
         machine.old (replied given.entry) step machine.new) }
     ensures err { OnErr result (Stays machine.old machine.new) }
 {
-    if name.is_global() {
-        return renew_global(alloc, pc, name, separator, range, machine, given);
+    match reference.scope {
+        Scope::Local => renew_local(alloc, pc, reference, count, above, range, machine),
+        Scope::Global => renew_global(alloc, pc, reference, count, above, range, machine, given),
     }
-    renew_local(alloc, pc, &name, separator, range, machine)
 }
 
+// Assigns them to those of a local. Makes no name.
 fn renew_local(
     alloc: Global,
     pc: usize,
-    name: &Name,
-    separator: &Text,
+    reference: &Reference,
+    count: usize,
+    above: usize,
     range: PieceRange,
     machine: &mut Machine,
 ) -> Result<TurnOutcome, AllocError>
     requires next { pc + 1 < 2 ^ 64 }
-    requires local { name.now.global ≡ false }
-    requires enough { 1 ≤ length machine.old.stack.items }
-    ensures ok { IfOk result (λ step. DoesAlone (λ next. commands.renewed name.now separator.now range
-        (top (stack_of machine.old)) (with_value machine.old pc 0 next)) machine.old step machine.new) }
+    requires local { reference.now.scope ≡ scopes.Local }
+    requires value { 1 ≤ length machine.old.stack.items }
+    requires enough { above + count + reference.now.count ≤ length machine.old.stack.items }
+    ensures ok { IfOk result (λ step. DoesAlone (λ next. commands.renewed
+        (answers.name_with reference.now.scope reference.now.word (operands reference.now.count (drop count (drop above (stack_of machine.old)))))
+        (needed_of 0 (operands count (drop above (stack_of machine.old)))) range (top (stack_of machine.old)) (with_value machine.old pc 0 next))
+        machine.old step machine.new) }
     ensures err { OnErr result (Stays machine.old machine.new) }
 {
+    let none = Text::new(alloc);
+    let separator = needed(stack::below_both(&machine.stack, above, 0, count), 0, &none);
+    let subscripts = stack::below_both(&machine.stack, above, count, reference.count);
+    let old = machine.locals.value_under(&reference.word, subscripts)?;
     let value = stack::top(&machine.stack);
-    let old = machine.locals.value(name);
     let renewed = with_pieces(alloc, old, separator, range, value);
     put_value(pc, 0, renewed, machine)?;
     Ok(TurnOutcome::Next)
 }
 
+// Assigns them to those of a global. Makes its name for an ask, and none where the reply is at hand.
 fn renew_global(
     alloc: Global,
     pc: usize,
-    name: Name,
-    separator: &Text,
+    reference: &Reference,
+    count: usize,
+    above: usize,
     range: PieceRange,
     machine: &mut Machine,
     given: Option<&Reply>,
 ) -> Result<TurnOutcome, AllocError>
     requires next { pc + 1 < 2 ^ 64 }
-    requires global { name.global ≡ true }
-    requires enough { 1 ≤ length machine.old.stack.items }
-    ensures ok { IfOk result (λ step. Does (λ next. commands.renewed name separator.now range (top (stack_of machine.old)) (with_value machine.old pc 0 next))
+    requires global { reference.now.scope ≡ scopes.Global }
+    requires value { 1 ≤ length machine.old.stack.items }
+    requires enough { above + count + reference.now.count ≤ length machine.old.stack.items }
+    requires few { length (operands reference.now.count (drop count (drop above (stack_of machine.old)))) ≤ SUBSCRIPTS_LIMIT }
+    ensures ok { IfOk result (λ step. Does (λ next. commands.renewed
+        (answers.name_with reference.now.scope reference.now.word (operands reference.now.count (drop count (drop above (stack_of machine.old)))))
+        (needed_of 0 (operands count (drop above (stack_of machine.old)))) range (top (stack_of machine.old)) (with_value machine.old pc 0 next))
         machine.old (replied given.entry) step machine.new) }
     ensures err { OnErr result (Stays machine.old machine.new) }
 {
     match at_hand(machine, given) {
-        None => ask(alloc, Access::Value(name), machine),
+        None => ask_value(
+            alloc,
+            &reference.word,
+            reference.count,
+            above,
+            count,
+            machine,
+        ),
         Some(reply) => {
+            let none = Text::new(alloc);
+            let separator = needed(stack::below_both(&machine.stack, above, 0, count), 0, &none);
             let value = stack::top(&machine.stack);
             let renewed = renewed(alloc, reply, separator, range, value);
             put_told(pc, 0, renewed, machine)

@@ -1,18 +1,20 @@
 // Reading variables, and their names.
 
-ghost use Rattle.std.specs.Prelude.{◌≡◌, ◌+◌, ◌<◌, ◌^◌, true, false, IsTrue, IfOk, OnErr, ◌≤◌, length};
+ghost use Rattle.std.specs.Prelude.{◌≡◌, ◌+◌, ◌<◌, ◌^◌, IsTrue, drop, IfOk, OnErr, ◌≤◌, length};
 ghost use Rattle.mj_ast.specs.declared.expr.Scope.TheVariants as scopes;
 ghost use Rattle.mj_semantics.specs.State.{plain_name};
 ghost use Rattle.mj_semantics.specs.Evaluation as evaluation;
 ghost use Rattle.mj_semantics.specs.Accesses.{answer_told};
 ghost use Rattle.mj_strfn.specs.Functions.{AnswersOrMemory};
+ghost use Rattle.mj_store.specs.declared.access.Access.TheVariants as accesses;
 ghost use Rattle.mj_variable_ops.specs.Answers as answers;
+ghost use Rattle.mj_variable_ops.specs.Asked.{AsksFor};
 ghost use Rattle.mj_pcode.specs.Machine.{operands};
 ghost use Rattle.mj_pcode.specs.declared.instr.Instr.TheVariants as instrs;
 ghost use Rattle.mj_machine.specs.Kept.{Does, DoesAlone, Obeys, ObeysAlone, Stays, stack_of, with_value, replied};
 
 use crate::globals::{ask, at_hand};
-use crate::names::{name_of, refusal};
+use crate::names::{global_name, refusal};
 use mj_ask::Reply;
 use mj_ast::Scope;
 use mj_machine::quiet::fail;
@@ -20,7 +22,7 @@ use mj_machine::values::put_told;
 use mj_machine::{Control, Machine, TurnOutcome, stack};
 use mj_pcode::Reference;
 use mj_store::{Access, Answer};
-use mj_subs::Name;
+use mj_subs::SUBSCRIPTS_LIMIT;
 use mj_text::{Failure, Fault, Text};
 use std::alloc::{AllocError, Global};
 
@@ -136,37 +138,53 @@ fn load_named(
     ensures ok { IfOk result (λ step. Obeys (instrs.Load reference.now) pc machine.old (replied given.entry) step machine.new) }
     ensures err { OnErr result (Stays machine.old machine.new) }
 {
-    let name = match name_of(
-        alloc,
-        reference,
-        stack::topmost(&machine.stack, reference.count),
-    )? {
-        Ok(name) => name,
-        Err(fault) => return Ok(fail(fault, machine)),
-    };
-    read_global(alloc, pc, reference.count, name, machine, given)
+    if let Some(fault) = refusal(stack::topmost(&machine.stack, reference.count)) {
+        return Ok(fail(fault, machine));
+    }
+    read_global(alloc, pc, &reference.word, reference.count, machine, given)
 }
 
-#[inline(never)]
+// Puts the value of the global of this word, whose subscripts lie on top, in their place. Makes its name for an ask, and none where the reply is at hand.
 fn read_global(
     alloc: Global,
     pc: usize,
+    word: &Text,
     count: usize,
-    name: Name,
     machine: &mut Machine,
     given: Option<&Reply>,
 ) -> Result<TurnOutcome, AllocError>
     requires next { pc + 1 < 2 ^ 64 }
-    requires global { name.global ≡ true }
     requires enough { count ≤ length machine.old.stack.items }
-    ensures ok { IfOk result
-        (λ step. Does (λ next. evaluation.read name (with_value machine.old pc count next)) machine.old (replied given.entry) step machine.new) }
+    requires few { length (operands count (stack_of machine.old)) ≤ SUBSCRIPTS_LIMIT }
+    ensures ok { IfOk result (λ step. Does (λ next. evaluation.read (answers.global_with word.now (operands count (stack_of machine.old)))
+        (with_value machine.old pc count next)) machine.old (replied given.entry) step machine.new) }
     ensures err { OnErr result (Stays machine.old machine.new) }
 {
     match at_hand(machine, given) {
-        None => ask(alloc, Access::Value(name), machine),
+        None => ask_value(alloc, word, count, 0, 0, machine),
         Some(reply) => put_told(pc, count, value_read(reply), machine),
     }
+}
+
+/// Asks for the value of the global of this word, so many subscripts of which lie below `above` and then `more` other operands.
+#[inline(never)]
+pub(crate) fn ask_value(
+    alloc: Global,
+    word: &Text,
+    count: usize,
+    above: usize,
+    more: usize,
+    machine: &mut Machine,
+) -> Result<TurnOutcome, AllocError>
+    requires enough { above + more + count ≤ length machine.old.stack.items }
+    requires few { length (operands count (drop more (drop above (stack_of machine.old)))) ≤ SUBSCRIPTS_LIMIT }
+    ensures ok { IfOk result (λ step. AsksFor (accesses.Value
+        (answers.global_with word.now (operands count (drop more (drop above (stack_of machine.old)))))) machine.old step machine.new) }
+    ensures err { OnErr result (Stays machine.old machine.new) }
+{
+    let subscripts = stack::below_both(&machine.stack, above, more, count);
+    let name = global_name(alloc, word, subscripts)?;
+    ask(alloc, Access::Value(name), machine)
 }
 
 // Gives the value that a reply brings to who reads.

@@ -1,16 +1,3 @@
-pub mod Logs
-pub mod Rows
-pub mod Weaves
-pub mod Counting
-pub mod Gathered
-pub mod Merging
-pub mod Written
-pub mod Hearing
-pub mod Firsts
-pub mod Starting
-pub mod Whole
-pub mod Shown
-pub mod Putting
 pub mod Standing
 pub mod Telling
 pub mod Locking

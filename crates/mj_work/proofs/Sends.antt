@@ -8,7 +8,7 @@ use Rattle.std.proofs.option.Option.TheSendSync as option
 use Rattle.std.proofs.alloc.Global.TheSendSync as heap
 use denote.Ref.{NamedLft, ShrRef}
 use denote.Struct.Field.{u32-field}
-use denote.Struct.Tuple.{TupleAt}
+use denote.Struct.Tuple.{Tuple, TupleAt}
 use mir.Syntax.{Sym, Ty}
 use denote.Exit.{Kept}
 use denote.Param.{param, arg}
@@ -24,8 +24,8 @@ use Rattle.std.proofs.sync.ledger.Book.TheSendSync as book
 use Rattle.std.specs.declared.sync.ledger.Ledger as Ledger
 use Rattle.mj_work.specs.declared.locked.Work as Work
 use Rattle.mj_work.specs.contracts.locked.Locked as Locked
-use Rattle.mj_work.specs.contracts.ran.Ran as Ran
-use Rattle.mj_work.proofs.ran.Stop.TheSendSync as stop
+use Rattle.mj_gather.specs.contracts.ran.Ran as Ran
+use Rattle.mj_gather.proofs.ran.Stop.TheSendSync as stop
 use Rattle.mj_text.proofs.text.Text.TheSendSync as text
 use Rattle.mj_subs.proofs.sub.Sub.TheSendSync as sub
 use Rattle.mj_subs.proofs.name.Name.TheSendSync as name
@@ -39,7 +39,12 @@ use Rattle.mj_txlog.specs.contracts.skips.Skips as Skips
 use Rattle.mj_txlog.specs.contracts.log.TxLog as TxLog
 use Rattle.mj_sys.specs.contracts.passed.Passed as Passed
 use Rattle.mj_sys.specs.contracts.transacted.Transacted as Transacted
-use Rattle.mj_locktab.proofs.table.LockTable.TheSendSync as locks
+use Rattle.mj_locktab.proofs.node.Node.TheLaws.TheKnot as lock_knot
+use Rattle.mj_locktab.specs.contracts.node.Node as LockNode
+use Rattle.mj_locktab.specs.contracts.index.Index as LockIndex
+use Rattle.mj_locktab.proofs.hold.Hold.TheSendSync as hold
+use Rattle.mj_locktab.specs.contracts.hold.Hold as Hold
+use Rattle.mj_locktab.specs.contracts.table.LockTable as LockTable
 use Rattle.mj_jobs.proofs.jobs.Jobs.TheSendSync as jobs
 use Rattle.mj_dev.proofs.pool.Pool.TheSendSync as pool
 use Rattle.mj_dev.specs.declared.device.Device as Device
@@ -74,8 +79,20 @@ passed_send = search (skips_send, parts) depth 40
 pub transacted_send : IsSend Transacted.the_row
 transacted_send = search (globals_send, log_send, passed_send, parts) depth 40
 
+pub lock_node_send : IsSend LockNode.the_row
+lock_node_send = as_row_send LockNode.the_field (search (lock_knot.send-Node, sub.the_send, parts) depth 40)
+
+pub lock_index_send : IsSend LockIndex.the_row
+lock_index_send = search (lock_node_send, parts) depth 40
+
+pub lock_hold_send : IsSend (Tuple (Hold.the_row ∷ u32-field.row ∷ []))
+lock_hold_send = search (hold.the_send, parts) depth 40
+
+pub locks_send : IsSend LockTable.the_row
+locks_send = search (lock_index_send, lock_hold_send, parts) depth 40
+
 pub shared_send : (D : RattleType) (g : Device.Ghosts D.Denot) → IsSend D → IsSend (Shared.the_row D g)
-shared_send D g d = search (transacted_send, locks.the_send, pool.the_send, jobs.the_send, parts) depth 40
+shared_send D g d = search (transacted_send, locks_send, pool.the_send, jobs.the_send, parts) depth 40
 
 pub system_send : (D O : RattleType) (g : Device.Ghosts D.Denot) (h : Opening.Ghosts O.Denot) → IsSend D → IsSend O → IsSend (System.the_row D O g h)
 system_send D O g h d o = let s = shared_send D g d in search (event.the_send, parts) depth 40

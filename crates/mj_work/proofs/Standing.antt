@@ -1,7 +1,7 @@
 -- A job that a worker runs, as it goes on and stops.
 use Rattle.std.specs.Prelude.{◌||◌, IfOk, IfErr}
 use Rattle.std.specs.List.{list_any}
-use Rattle.std.proofs.Common.{◌≡◌, ℕ, List, [], ◌∷◌, ◌++◌, Bool, true, false, Option, Result, Ok, Err, refl, sym, ap, ◌∙◌, subst}
+use Rattle.std.proofs.Common.{◌≡◌, inl, inr, ℕ, List, [], ◌∷◌, ◌++◌, Bool, true, false, Option, Some, Result, Ok, Err, refl, sym, ap, ◌∙◌, subst}
 use Rattle.mj_ask.specs.declared.ask.Ask.{Ask}
 use Rattle.mj_ask.specs.declared.ask.Reply.{Reply}
 use Rattle.mj_ask.specs.declared.entry.Entry.{Entry}
@@ -10,16 +10,18 @@ use Rattle.mj_semantics.specs.Job.{Start}
 use Rattle.mj_load.specs.Image.{Loaded, routines_of}
 use Rattle.mj_jobvm.specs.Run.{Log, begins}
 use Rattle.mj_jobvm.specs.Jobs.{Running, IsRunOf, IsRunOfAfter}
+use Rattle.mj_sys.specs.Shared.{Shared}
 use Rattle.mj_sys.specs.System.{Claimed}
 use Rattle.mj_core.specs.Answering.{Answering}
 use Rattle.mj_core.specs.Gives.{Makes}
 use Rattle.mj_core.specs.Runs.{start_in}
-use Rattle.mj_core.specs.Ties.{IsJobOf, shared_in}
-use Rattle.mj_work.specs.declared.ran.Stop.{Stop}
-use Rattle.mj_work.specs.declared.ran.Stop.TheVariants as stops
-use Rattle.mj_work.specs.Rans.{Kept, is_halt, EndsAtHalt, StopsAt, IsRan}
-use Rattle.mj_work.specs.Working.{is_cut, was_cut, has_halted, MayStop, IsAnswered, IsAt}
-use Rattle.mj_work.proofs.Gathered.{no_talks}
+use Rattle.mj_core.specs.Ties.{shared_in}
+use Rattle.mj_gather.specs.declared.ran.Stop.{Stop}
+use Rattle.mj_gather.specs.declared.ran.Stop.TheVariants as stops
+use Rattle.mj_gather.specs.Rans.{Kept, is_halt, EndsAtHalt, StopsAt, IsRan}
+use Rattle.mj_work.specs.Working.{is_cut, was_cut, has_halted, MayStop, IsAskRefused, IsAnswered, IsAt, StopsRefused}
+use Rattle.mj_core.proofs.Owning.{own_same}
+use Rattle.mj_gather.proofs.Gathered.{no_talks}
 
 -- ---- halts
 
@@ -44,11 +46,12 @@ ends_more (f ∷ log) e free = by (is_halt f.0) refl free (ends_more log e) wher
   by false is free rest = ((λ halts. absurd (let never : true ≡ false = sym halts ∙ is in cc)), rest free)
 
 -- a job that asks stands where it may stop
-stops_at : (routines : List Routine) (start : Start) (log : Log) (a : Ask) (stop : Stop) → MayStop a stop → Makes routines start log a → StopsAt routines start log stop
-stops_at routines start log a stops.Ended may makes = absurd may
-stops_at routines start log a stops.Full may makes = (a, makes, may)
-stops_at routines start log a stops.Memory may makes = tt
-stops_at routines start log a stops.Refused may makes = (a, makes)
+module _ {A : Type 0} (ans : Answering A) (opening : Shared) (claim : Claimed) (job : Running) (x x' : A) (routines : List Routine) (start : Start) (log : Log) (a : Ask) where
+  stops_at : (stop : Stop) → MayStop ans opening a claim job x stop x' → Makes routines start log a → StopsAt routines start log stop
+  stops_at stops.Ended may makes = absurd may
+  stops_at stops.Full may makes = (a, makes, may)
+  stops_at stops.Memory may makes = tt
+  stops_at stops.Refused may makes = (a, makes)
 
 -- ---- a job that goes on
 
@@ -66,9 +69,9 @@ module _ {A : Type 0} (ans : Answering A) (image : Loaded) (claim : Claimed) (jo
     told = ap has_halted log ∙ at.told;
   }
 
-  module _ (claim' : Claimed) (job' : Running) (x' : A) (a : Ask) where
+  module _ (opening : Shared) (claim' : Claimed) (job' : Running) (x' : A) (a : Ask) where
     -- by a reply to what it asks
-    told_at : (halts : Bool) → IsAt ans image claim false job x → IsAnswered {R = Bool} ans a claim job x (Ok halts) claim' job' x' → halts ≡ is_halt a
+    told_at : (halts : Bool) → IsAt ans image claim false job x → IsAnswered {R = Bool} ans opening a claim job x (Ok halts) claim' job' x' → halts ≡ is_halt a
         → IsAt ans image claim' halts job' x'
     told_at halts at so halt =
         let log : job'.run.log ≡ job.run.log ++ (a, so.0.0) ∷ [] = so.0.1 in
@@ -80,30 +83,57 @@ module _ {A : Type 0} (ans : Answering A) (image : Loaded) (claim : Claimed) (jo
 
     -- or not: it stops
     left_at : (stop : Stop) → Makes (routines_of image) (start_in claim.job claim.start) job.run.log a → IsAt ans image claim false job x
-        → IsAnswered {R = Bool} ans a claim job x (Err stop) claim' job' x' → IsRan image claim' job'.run.log stop
+        → IsAnswered {R = Bool} ans opening a claim job x (Err stop) claim' job' x' → IsRan image claim' job'.run.log stop
     left_at stop makes at so =
-        let J : Claimed → Type 0 = λ k. IsJobOf ans image k job' x' in
-        let own = subst J so.1 (so.3 image at.own) in
+        let own = own_same ans image claim job x at.own job' x' so.2 so.3 in
+        let log : job'.run.log ≡ job.run.log = ap (λ (j : Running). j.run.log) so.2 in
         let S : Log → Type 0 = λ l. StopsAt (routines_of image) (start_in claim.job claim.start) l stop in
         let R : Claimed → Type 0 = λ k. IsRan image k job'.run.log stop in
         subst R (sym so.1) (record {
           trace = own.run.1.trace;
           talks = ans.talks x' job'.run.log own.told;
           counted = own.shared;
-          ends = subst (λ (l : Log). EndsAtHalt l) (sym so.2) at.ends;
-          stands = subst S (sym so.2) (stops_at (routines_of image) (start_in claim.job claim.start) job.run.log a stop so.0 makes);
+          ends = subst (λ (l : Log). EndsAtHalt l) (sym log) at.ends;
+          stands = subst S (sym log) (stops_at ans opening claim job x x' (routines_of image) (start_in claim.job claim.start) job.run.log a stop so.0 makes);
         })
 
+    -- where it is refused, for its reason
+    refused_at : (stop : Stop) → job.run.pending ≡ Some a → IsAt ans image claim false job x → IsAnswered {R = Bool} ans opening a claim job x (Err stop) claim' job' x'
+        → stop ≡ stops.Refused → StopsRefused ans opening image claim' job' x'
+    refused_at stop asks at so is =
+        let M : Stop → Type 0 = λ s. MayStop ans opening a claim job x s x' in
+        let why : IsAskRefused ans opening a claim job x x' = subst M is so.0 in
+        let J : Running → Type 0 = λ j. StopsRefused ans opening image claim j x' in
+        let R : Claimed → Type 0 = λ k. StopsRefused ans opening image k job' x' in
+        subst R (sym so.1) (subst J (sym so.2) (record { asked = a; pends = asks; before = x; own = at.own; stays = so.3; why = inr why }))
+
     -- whichever it is
-    pub answered_at : (told : Result Bool Stop) → IsAt ans image claim false job x → IsAnswered ans a claim job x told claim' job' x' → IfOk told (λ halts. halts ≡ is_halt a)
+    pub answered_at : (told : Result Bool Stop) → IsAt ans image claim false job x → IsAnswered ans opening a claim job x told claim' job' x' → IfOk told (λ halts. halts ≡ is_halt a)
         → IfOk told (λ halts. IsAt ans image claim' halts job' x')
     answered_at (Ok halts) at answered halt = told_at halts at answered halt
     answered_at (Err stop) at answered halt = halt
 
     pub answered_ran : (told : Result Bool Stop) → Makes (routines_of image) (start_in claim.job claim.start) job.run.log a → IsAt ans image claim false job x
-        → IsAnswered ans a claim job x told claim' job' x' → IfErr told (λ stop. IsRan image claim' job'.run.log stop)
+        → IsAnswered ans opening a claim job x told claim' job' x' → IfErr told (λ stop. IsRan image claim' job'.run.log stop)
     answered_ran (Ok halts) makes at answered = tt
     answered_ran (Err stop) makes at answered = left_at stop makes at answered
+
+    pub answered_why : (told : Result Bool Stop) → job.run.pending ≡ Some a → IsAt ans image claim false job x → IsAnswered ans opening a claim job x told claim' job' x'
+        → IfErr told (λ stop. stop ≡ stops.Refused → StopsRefused ans opening image claim' job' x')
+    answered_why (Ok halts) asks at answered = tt
+    answered_why (Err stop) asks at answered = refused_at stop asks at answered
+
+  -- it asks behind its halt
+  pub halted_why : (opening : Shared) (a : Ask) (halted : Bool) → halted ≡ true → job.run.pending ≡ Some a → IsAt ans image claim halted job x
+      → StopsRefused ans opening image claim job x
+  halted_why opening a halted is asks at = record {
+    asked = a;
+    pends = asks;
+    before = x;
+    own = at.own;
+    stays = ((λ log of. of), λ name has held. held);
+    why = inl (at.told ∙ is);
+  }
 
   -- it stops
   pub ran_at : (halted : Bool) (stop : Stop) → IsAt ans image claim halted job x → StopsAt (routines_of image) (start_in claim.job claim.start) job.run.log stop

@@ -1,6 +1,1 @@
-pub mod Rans
-pub mod Merged
-pub mod Gathered
-pub mod Lent
-pub mod Found
 pub mod Working

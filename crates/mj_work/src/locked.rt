@@ -1,20 +1,23 @@
 // What lies under the lock.
 
-ghost use Rattle.std.specs.Prelude.{◌≡◌, ◌+◌, ◌<◌, ◌≤◌, ℕ, [], true, vec_len, vec_capacity, ◌||◌, IfOk, OnErr, IsTrue};
+ghost use Rattle.std.specs.Prelude.{◌≡◌, ◌+◌, ◌<◌, ◌≤◌, ℕ, [], true, vec_len, vec_capacity, ◌||◌, IfOk, IfErr, OnErr, IsTrue};
 ghost use Rattle.std.specs.List.{All};
 ghost use Rattle.mj_ask.specs.Fits.{is_shared};
+ghost use Rattle.mj_ask.specs.declared.ask.Ask.TheVariants as asks;
 ghost use Rattle.mj_jobs.specs.Rows.{rows_limit};
 ghost use Rattle.std.proofs.Props.{props};
 ghost use Rattle.mj_load.specs.Image as images;
 ghost use Rattle.mj_load.specs.contracts.image.Image as loaded;
-ghost use Rattle.mj_work.specs.Working.{is_cut, was_cut, AreClaimed, WasServedAt, Gives};
+ghost use Rattle.mj_sys.specs.Shared.{moves_none};
+ghost use Rattle.mj_sys.specs.Told.{served_as};
+ghost use Rattle.mj_work.specs.Working.{is_cut, was_cut, AreClaimed, WasServedAt, WasServed, IsRefusedIn, WasRefused, Gives};
 
-use crate::ran::{Ran, Stop};
-use mj_ask::Ask;
+use mj_ask::{Ask, SharedAsk};
 use mj_core::{Fresh, Place, serve_at};
 use mj_dev::{Device, Session};
+use mj_gather::{Ran, Stop};
 use mj_jobs::ROWS_LIMIT;
-use mj_sys::{Claim, Opening, Refused, Served, System};
+use mj_sys::{Claim, Opening, Refused, Served, System, Told};
 use std::marker::Brand;
 use std::sync::ledger::{Book, Ledger, Share};
 
@@ -89,8 +92,8 @@ impl<'a, J: Work, D: Device, O: Opening> Locked<'a, J, D, O> {
             }
             Ok(Some((claim, session))) => {
                 // that there are no more rows than may be comes with their number
-                let _few = system.claimed();
-                let _rows = system.rows();
+                let _few = system.claimed(); // for the proof
+                let _rows = system.rows(); // for the proof
                 book.add(mine, 1);
                 Next::Claim((claim, Fresh::new(session)))
             }
@@ -104,8 +107,23 @@ impl<'a, J: Work, D: Device, O: Opening> Locked<'a, J, D, O> {
         }
     }
 
-    // Serves an ask of a claim's job, for which this place is ready. Once a job stopped for want of memory nothing is served any more, so that all stop: else
+    // Serves an ask of a claim's job by which no session goes to it. Once a job stopped for want of memory nothing is served any more, so that all stop: else
     // who waits for what it holds would wait for ever.
+    pub fn tell(&mut self, claim: &mut Claim, ask: SharedAsk, late: bool) -> Result<Told, Refused>
+        requires { moves_none ask ≡ true }
+        ensures ok { IfOk result (λ told. WasServed O.opening claim.old (asks.Shared ask) late (served_as told) claim.new) }
+        ensures err { OnErr result (claim.new ≡ claim.old) }
+        ensures refused { IfErr result (λ why. IsRefusedIn O.opening self.old.system claim.old why) }
+        ensures was_refused { IfErr result (λ why. WasRefused O.opening claim.old why) }
+    {
+        if self.out_of_memory {
+            drop(ask);
+            return Err(Refused::Memory);
+        }
+        self.system.tell(claim, ask, late)
+    }
+
+    // Serves an ask of a claim's job by which a session may go to it, for which this place is ready, as `tell` does.
     pub fn serve(
         &mut self,
         claim: &mut Claim,
@@ -116,6 +134,8 @@ impl<'a, J: Work, D: Device, O: Opening> Locked<'a, J, D, O> {
         requires { is_shared ask.now ≡ true }
         ensures ok { IfOk result (λ served. WasServedAt O.opening claim.old ask.now place.now late served claim.new) }
         ensures err { OnErr result (claim.new ≡ claim.old) }
+        ensures refused { IfErr result (λ why. IsRefusedIn O.opening self.old.system claim.old why) }
+        ensures was_refused { IfErr result (λ why. WasRefused O.opening claim.old why) }
     {
         if self.out_of_memory {
             return Err(Refused::Memory);

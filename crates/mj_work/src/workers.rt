@@ -7,11 +7,11 @@ ghost use Rattle.mj_jobs.specs.Rows.{rows_limit};
 ghost use Rattle.mj_work.specs.Working.{AreClaimed, workers_limit};
 
 use crate::gate::{Clock, Gate};
-use crate::job::run_job;
+use crate::job::Worker;
 use crate::locked::{Locked, Next, Work};
-use crate::ran::Ran;
 use crossbeam_utils::CachePadded;
 use mj_dev::Device;
+use mj_gather::Ran;
 use mj_jobs::ROWS_LIMIT;
 use mj_load::Image;
 use mj_sessions::Sessions;
@@ -33,62 +33,54 @@ pub struct Ended<'a, D: Device, O: Opening> {
     pub short: bool,
 }
 
-// What a worker without a job does once: it claims a row and runs its job, or waits. Whether it goes on.
-fn work_once<'a, J: Work, D: Device, O: Opening, G: Gate, C: Clock>(
-    rt: &impl Wait,
-    alloc: Global,
-    shared: &Mutex<Locked<'a, J, D, O>>,
-    image: &'a Image,
-    gate: &G,
-    clock: &C,
-    tries: u64,
-    mine: &mut Share<J>,
-) -> bool
-    requires parts { 0 < mine.old.parts }
-    requires none { mine.old.amount ≡ 0 }
-    requires image { image.now ≡ J.image }
-    ensures parts { mine.new.parts ≡ mine.old.parts }
-    ensures none { mine.new.amount ≡ 0 }
-{
-    let next = shared.lock(rt).next(mine);
-    match next {
-        Next::Claim((claim, session)) => {
-            let ran = run_job::<J, D, Sessions<D>, O, G, C>(
-                rt, alloc, shared, image, gate, clock, claim, session,
-            );
-            shared.lock(rt).hand_in(ran, mine);
-            true
+impl<'m, 'a, J: Work, D: Device, O: Opening, G: Gate, C: Clock, R: Wait> Worker<
+    'm,
+    'a,
+    J,
+    D,
+    O,
+    G,
+    C,
+    R,
+> {
+    // What a worker without a job does once: it claims a row and runs its job, or waits. Whether it goes on.
+    fn work_once(&self, tries: u64, mine: &mut Share<J>) -> bool
+        requires parts { 0 < mine.old.parts }
+        requires none { mine.old.amount ≡ 0 }
+        requires image { self.now.image.now ≡ J.image }
+        ensures parts { mine.new.parts ≡ mine.old.parts }
+        ensures none { mine.new.amount ≡ 0 }
+    {
+        let next = self.shared.lock(self.rt).next(mine);
+        match next {
+            Next::Claim((claim, session)) => {
+                let ran = self.run_job::<Sessions<D>>(claim, session);
+                self.shared.lock(self.rt).hand_in(ran, mine);
+                true
+            }
+            Next::Wait => {
+                self.clock.pause(tries);
+                true
+            }
+            Next::Leave => false,
         }
-        Next::Wait => {
-            clock.pause(tries);
-            true
-        }
-        Next::Leave => false,
     }
-}
 
-// Runs jobs until no row is left, and no other worker has a job.
-fn work<'a, J: Work, D: Device, O: Opening, G: Gate, C: Clock>(
-    rt: &impl Wait,
-    alloc: Global,
-    shared: &Mutex<Locked<'a, J, D, O>>,
-    image: &'a Image,
-    gate: &G,
-    clock: &C,
-    mine: &mut Share<J>,
-)
-    requires parts { 0 < mine.old.parts }
-    requires none { mine.old.amount ≡ 0 }
-    requires image { image.now ≡ J.image }
-    ensures parts { mine.new.parts ≡ mine.old.parts }
-    ensures none { mine.new.amount ≡ 0 }
-{
-    let mut tries = 0u64;
-    for _ in rt.forever() {
-        if !work_once(rt, alloc, shared, image, gate, clock, tries, mine) {
-            return;
+    // Runs jobs until no row is left, and no other worker has a job.
+    fn work(&self, mine: &mut Share<J>)
+        requires parts { 0 < mine.old.parts }
+        requires none { mine.old.amount ≡ 0 }
+        requires image { self.now.image.now ≡ J.image }
+        ensures parts { mine.new.parts ≡ mine.old.parts }
+        ensures none { mine.new.amount ≡ 0 }
+    {
+        let mut tries = 0u64;
+        for _ in self.rt.forever() {
+            if !self.work_once(tries, mine) {
+                return;
+            }
+            tries = tries.saturating_add(1);
         }
-        tries = tries.saturating_add(1);
     }
 }
 
@@ -104,7 +96,7 @@ fn start<
 >(
     rt: &R,
     alloc: Global,
-    shared: &Mutex<Locked<'a, J, D, O>>,
+    shared: &Mutex<CachePadded<Locked<'a, J, D, O>>>,
     image: &'a Image,
     gate: &G,
     clock: &C,
@@ -120,7 +112,15 @@ fn start<
 {
     let mut mine = mine;
     if n == 1 {
-        work(rt, alloc, shared, image, gate, clock, &mut mine);
+        let worker = Worker {
+            rt,
+            alloc,
+            shared,
+            image,
+            gate,
+            clock,
+        };
+        worker.work(&mut mine);
         return mine;
     }
     let half = n / 2;
@@ -165,9 +165,17 @@ fn finish<'a, J: Work, D: Device, O: Opening, G: Gate, C: Clock, R: Wait>(
         if locked.is_settled() {
             return close(locked, mine);
         }
-        let shared = Mutex::new(locked);
-        work(rt, alloc, &shared, image, gate, clock, &mut mine);
-        locked = shared.into_inner();
+        let shared = Mutex::new(CachePadded::new(locked));
+        let worker = Worker {
+            rt,
+            alloc,
+            shared: &shared,
+            image,
+            gate,
+            clock,
+        };
+        worker.work(&mut mine);
+        locked = shared.into_inner().into_inner();
     }
     unreachable!()
 }
@@ -235,8 +243,8 @@ fn together<
     let (book, all) = blank.open::<J>();
     let before = system.claimed();
     // there are no more rows than may be
-    let _rows = system.rows();
-    let shared = CachePadded::new(Mutex::new(Locked {
+    let _rows = system.rows(); // for the proof
+    let locked = CachePadded::new(Locked {
         system,
         rans,
         before,
@@ -244,9 +252,11 @@ fn together<
         stopped: false,
         out_of_memory: false,
         book,
-    }));
+    });
+    // who waits for the lock takes no line of cache from who has it
+    let shared = CachePadded::new(Mutex::new(locked));
     let all = start(rt, alloc, &*shared, image, gate, clock, n, all);
-    let locked = shared.into_inner().into_inner();
+    let locked = shared.into_inner().into_inner().into_inner();
     finish(rt, alloc, locked, image, gate, clock, all)
 }
 

@@ -14,16 +14,24 @@ pub enum Work {
     Siblings,
     List,
     GiveAll,
+    Ten,
+    BesideTen,
+    Many,
+    BesideMany,
 }
 
 /// All of them, each on what those before it leave.
-pub const WORKS: [Work; 6] = [
+pub const WORKS: [Work; 10] = [
     Work::Hold,
     Work::Free,
     Work::Siblings,
     Work::Busy,
     Work::List,
     Work::GiveAll,
+    Work::Ten,
+    Work::BesideTen,
+    Work::Many,
+    Work::BesideMany,
 ];
 
 impl Work {
@@ -36,6 +44,10 @@ impl Work {
             Work::Siblings => "siblings",
             Work::List => "list",
             Work::GiveAll => "give all",
+            Work::Ten => "hold ten",
+            Work::BesideTen => "beside ten",
+            Work::Many => "hold many",
+            Work::BesideMany => "beside many",
         }
     }
 }
@@ -50,6 +62,9 @@ const HELD: u32 = 1_000;
 
 const TRIES: u32 = 10_000;
 
+// how many jobs hold as many each, where names are held by many
+const HOLDERS: u32 = 100;
+
 /// Does a work, and gives the number of names that it met.
 pub fn perform(alloc: Global, work: Work, locks: &mut LockTable) -> Result<u64, Failure> {
     match work {
@@ -59,17 +74,59 @@ pub fn perform(alloc: Global, work: Work, locks: &mut LockTable) -> Result<u64, 
         Work::Siblings => siblings(alloc, locks),
         Work::List => list(alloc, locks),
         Work::GiveAll => give_all(locks),
+        Work::Ten => hold_of(alloc, locks, HOLDER, b"C", 10),
+        Work::BesideTen => beside(alloc, locks, b"C"),
+        Work::Many => hold_many(alloc, locks),
+        Work::BesideMany => beside(alloc, locks, b"D"),
     }
 }
 
 // One job takes names one by one.
 fn hold(alloc: Global, locks: &mut LockTable) -> Result<u64, Failure> {
-    let word = Text::from(alloc, b"A")?;
+    hold_of(alloc, locks, HOLDER, b"A", HELD)
+}
+
+// A job takes so many names of a word one by one, and says how many it got.
+fn hold_of(
+    alloc: Global,
+    locks: &mut LockTable,
+    job: u32,
+    word: &[u8],
+    names: u32,
+) -> Result<u64, Failure> {
+    let word = Text::from(alloc, word)?;
     let mut done = 0_u64;
-    for i in 0..HELD {
-        done = done.saturating_add(got(&locks.try_take(HOLDER, &[node(alloc, &word, i)?])?));
+    for i in 0..names {
+        done = done.saturating_add(got(&locks.try_take(job, &[held_node(alloc, &word, job, i)?])?));
     }
     Ok(done)
+}
+
+// Many jobs take names of one word, each as many as before.
+fn hold_many(alloc: Global, locks: &mut LockTable) -> Result<u64, Failure> {
+    let mut done = 0_u64;
+    for job in 0..HOLDERS {
+        let held = hold_of(alloc, locks, job.saturating_add(HOLDER), b"D", HELD)?;
+        done = done.saturating_add(held);
+    }
+    Ok(done)
+}
+
+// Another takes a name beside those of a word that others hold, and gives it up.
+fn beside(alloc: Global, locks: &mut LockTable, word: &[u8]) -> Result<u64, Failure> {
+    let word = Text::from(alloc, word)?;
+    taken_and_given(locks, &[node(alloc, &word, u32::MAX)?])
+}
+
+// The node of a word that a job holds: no other job's.
+fn held_node(alloc: Global, word: &Text, job: u32, i: u32) -> Result<Name, Failure> {
+    node(
+        alloc,
+        word,
+        job.saturating_sub(HOLDER)
+            .saturating_mul(HELD)
+            .saturating_add(i),
+    )
 }
 
 // Another takes a name of another word and gives it up.

@@ -25,19 +25,21 @@ use Rattle.mj_ask.specs.declared.ask.SharedAsk.{SharedAsk}
 use Rattle.mj_ask.specs.declared.ask.SharedAsk.TheVariants as shared_asks
 use Rattle.mj_ask.specs.declared.ask.DeviceAsk.{DeviceAsk}
 use Rattle.mj_ask.specs.declared.ask.DeviceAsk.TheVariants as device_asks
+use Rattle.mj_ask.specs.Fits.{device_timeout}
 use Rattle.mj_ask.specs.Formed.{is_name, is_global_name, is_search_name, are_filled_before_last, is_subtree, is_access, are_names, is_shared_ask, is_ask}
 use Rattle.mj_ask.proofs.Entries.{reading}
 use Rattle.mj_gfile.specs.Spelling.{listed_text, listed_subscripts, listed_name}
 use Rattle.mj_gfile.specs.Reading.{is_word_byte}
 use Rattle.mj_gfile.specs.Listing.{is_text}
 use Rattle.mj_gfile.specs.Laws.Texts.{both_true}
-use Rattle.mj_gfile.specs.Laws.Names.{more_pass}
+use Rattle.mj_gfile.specs.Laws.Names.{Stops, more_pass}
 use Rattle.mj_trace.specs.declared.run.Run.TheVariants as runs
 use Rattle.mj_nref.specs.Spelling.{word_text}
 use Rattle.mj_trace.specs.Spelling.{rest_of_names, names_text, subtree_text, values_text, timeout_text, access_text, fault_text, shared_text, device_text, ask_text}
 use Rattle.mj_trace.specs.Reading.{onward, is_in, front, behind_bytes, skipped, begins_with, count_in, name_in, names_in, values_in, timed_by, started, start_in, fault_of, halted, halt_in, access_with, access_in}
-use Rattle.mj_trace.specs.Reading.{begin_in, unlock_in, try_in, open_in, close_in, device_in, asked_of, on_device, on_shared, ask_in}
+use Rattle.mj_trace.specs.Reading.{begin_in, unlock_in, try_in, open_in, close_in, timeout_in, device_with, device_in, asked_of, on_device, on_shared, ask_in}
 use Rattle.mj_trace.specs.Sized.{is_count, name_fits, nodes_fit, access_fits, timeout_fits, value_fits, shared_fits, device_fits, ask_fits}
+use Rattle.mj_trace.specs.Devices.{device_word, writes, timed_ask, word_letters, word_back}
 use Rattle.mj_trace.specs.Laws.Found.{Ends, if_not, front_all, rest_all, number_found, count_found, text_found, name_found, word_bytes}
 use Rattle.mj_trace.specs.Laws.Members.{is_sized_name, few, name_is_found, names_found, subtree_found, values_found, timeout_found}
 
@@ -54,14 +56,32 @@ timed_found ask timeout r h w = ap (λ q. Some (ask q.0, q.1)) (timeout_found ti
 
 -- ---- devices
 
+-- a timeout and what follows it don't begin with a letter
+letters_stop : (timeout : Option ℤ) (r : List ℕ) → Stops (is_in runs.Letters) (timeout_text timeout ++ 32 ∷ r)
+letters_stop None r = refl
+letters_stop (Some n) r = refl
+
+-- by a word that isn't that of what writes, a timeout is read
+with_word : (a : DeviceAsk) (rest : List ℕ) → writes a ≡ false → device_with (device_word a) rest ≡ option_map (λ b. (b, (timeout_in rest).1)) (timed_ask (device_word a) (timeout_in rest).0)
+with_word (device_asks.Write t) rest h = absurd cc
+with_word _ rest h = refl
+
+-- what writes nothing is found
+timed_ask_found : (a : DeviceAsk) (r : List ℕ) → writes a ≡ false → timeout_fits (device_timeout a) ≡ true → FollowsAsk r
+    → device_in ((device_word a ++ timeout_text (device_timeout a)) ++ 32 ∷ r) ≡ Some (a, 32 ∷ r)
+timed_ask_found a r n k w =
+    let rest = timeout_text (device_timeout a) ++ 32 ∷ r in
+    let f : front runs.Letters (device_word a ++ rest) ≡ device_word a = front_all (is_in runs.Letters) (device_word a) rest (word_letters a) (letters_stop (device_timeout a) r) in
+    let b : behind_bytes runs.Letters (device_word a ++ rest) ≡ rest = rest_all (is_in runs.Letters) (device_word a) rest (word_letters a) (letters_stop (device_timeout a) r) in
+    ap device_in (append_assoc (device_word a) (timeout_text (device_timeout a)) (32 ∷ r))
+    ∙ (λ i. device_with (f i) (b i)) ∙ with_word a rest n
+    ∙ ap (λ (q : Option ℤ × List ℕ). option_map (λ b. (b, q.1)) (timed_ask (device_word a) q.0)) (timeout_found (device_timeout a) (32 ∷ r) k (refl, refl, refl, refl) w.untimed)
+    ∙ ap (option_map (λ b. (b, 32 ∷ r))) (word_back a n)
+
 -- what is asked of a session of a device is found
 device_found : (a : DeviceAsk) (r : List ℕ) → device_fits a ≡ true → FollowsAsk r → device_in (device_text a ++ 32 ∷ r) ≡ Some (a, 32 ∷ r)
 device_found (device_asks.Write t) r k w = ap (option_map (λ p. (device_asks.Write p.0, p.1))) (text_found t (32 ∷ r) k (refl, refl, refl, refl))
-device_found (device_asks.Line None) r k w = timed_found device_asks.Line None r k w
-device_found (device_asks.Line (Some n)) r k w = timed_found device_asks.Line (Some n) r k w
-device_found (device_asks.Byte None) r k w = timed_found device_asks.Byte None r k w
-device_found (device_asks.Byte (Some n)) r k w = timed_found device_asks.Byte (Some n) r k w
-device_found _ r k w = refl
+device_found a r k w = timed_ask_found a r refl k w
 
 on_device_found : (d : List ℕ) (a : DeviceAsk) (r : List ℕ) → is_text d ≡ true → device_fits a ≡ true → FollowsAsk r
     → ask_in (ask_text (asks.Device d a) ++ 32 ∷ r) ≡ Some (asks.Device d a, 32 ∷ r)

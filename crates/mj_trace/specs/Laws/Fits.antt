@@ -14,6 +14,7 @@ use Rattle.mj_store.specs.declared.access.Access.{Access}
 use Rattle.mj_store.specs.declared.access.Access.TheVariants as accesses
 use Rattle.mj_store.specs.declared.access.Answer.{Answer}
 use Rattle.mj_store.specs.declared.access.Answer.TheVariants as answers_are
+use Rattle.mj_ask.specs.Fits.{device_timeout}
 use Rattle.mj_ask.specs.Written.{entry_of}
 use Rattle.mj_ask.specs.declared.entry.Entry.{Entry}
 use Rattle.mj_ask.specs.declared.ask.Kind.TheVariants as kinds
@@ -22,16 +23,20 @@ use Rattle.mj_ask.specs.declared.ask.Ask.{Ask}
 use Rattle.mj_ask.specs.declared.ask.Ask.TheVariants as asks
 use Rattle.mj_ask.specs.declared.ask.SharedAsk.{SharedAsk}
 use Rattle.mj_ask.specs.declared.ask.SharedAsk.TheVariants as shared_asks
+use Rattle.mj_ask.specs.declared.ask.DeviceAsk.{DeviceAsk}
 use Rattle.mj_ask.specs.declared.ask.DeviceAsk.TheVariants as device_asks
 use Rattle.mj_ask.specs.declared.ask.Reply.TheVariants as replies
 use Rattle.mj_gfile.specs.Reading.{text_at, subscript_at}
 use Rattle.mj_gfile.specs.Listing.{is_short, limited, text_field, are_bytes, is_text}
 use Rattle.mj_gfile.specs.Laws.Texts.{both_true, IsTextAt, text_at-IsTextAt}
 use Rattle.mj_gfile.specs.Laws.Names.{IsSubscriptAt, subscript_at-IsSubscriptAt}
+use Rattle.mj_trace.specs.Devices.{writes, timed_ask, given_by, AreTimed, timed_alone}
+use Rattle.mj_trace.specs.declared.devices.Given.{Given}
+use Rattle.mj_trace.specs.declared.devices.Given.TheVariants as givens
 use Rattle.mj_trace.specs.declared.run.Run.TheVariants as runs
 use Rattle.mj_trace.specs.declared.piece.Piece.{Piece}
 use Rattle.mj_trace.specs.declared.piece.Piece.TheVariants as pieces
-use Rattle.mj_trace.specs.Reading.{onward, front, behind_bytes, skipped, begins_with, number_read, number_in, below, count_in, code_in, within, text_in, subscript_in, appended, continued, all_more, closed, subscript_more, subscripts_in, with_subscripts, name_of, name_on, name_in, name_more, names_in, node_with, node_in, node_more, subtree_in, value_in, value_more, values_in, timed, timeout_in, timed_by, started, start_in, fault_of, halted, halt_in, way_of, access_with, access_in, begin_in, unlock_in, try_in, open_in, close_in, shared_with, device_with, device_in, asked_of, on_device, rest_in, on_shared, ask_with, ask_in, is_absent, answer_in, number_kept, kept_in, clash_now, clash_then, clash_in, job_in, given_in, done_of, limit_of, reply_in}
+use Rattle.mj_trace.specs.Reading.{onward, front, behind_bytes, skipped, begins_with, number_read, number_in, below, count_in, code_in, within, text_in, subscript_in, appended, continued, all_more, closed, subscript_more, subscripts_in, with_subscripts, name_of, name_on, name_in, name_more, names_in, node_with, node_in, node_more, subtree_in, value_in, value_more, values_in, timed, timeout_in, timed_by, started, start_in, fault_of, halted, halt_in, way_of, access_with, access_in, begin_in, unlock_in, try_in, open_in, close_in, shared_with, device_with, device_in, asked_of, on_device, rest_in, on_shared, ask_with, ask_in, is_absent, answer_in, number_kept, kept_in, clash_now, clash_then, clash_in, job_in, given_as, given_in, done_of, limit_of, reply_in}
 use Rattle.mj_trace.specs.Lines.{piece_text, is_piece, event_piece, asked, event_in, counted, pooled, starting, piece_with, piece_in, respelled, piece_of}
 use Rattle.mj_trace.specs.Sized.{is_count, is_code, are_texts, name_fits, nodes_fit, access_fits, timeout_fits, value_fits, shared_fits, device_fits, ask_fits, answer_fits, kept_fits, reply_fits}
 use Rattle.mj_trace.specs.Refused.{is_sized}
@@ -334,22 +339,22 @@ shared_found_fits word rest =
 
 -- ---- what is asked of a session of a device, and asks
 
+-- what writes nothing is within its sizes by its timeout
+fits_timed : (a : DeviceAsk) → writes a ≡ false → timeout_fits (device_timeout a) ≡ true → device_fits a ≡ true
+fits_timed (device_asks.Write t) n k = absurd cc
+fits_timed _ n k = k
+
+timed_fit : (o : Option DeviceAsk) → AreTimed timeout_fits o → Passes device_fits o
+timed_fit None h = tt
+timed_fit (Some a) h = fits_timed a h.0 h.1
+
 device_word_fits : (word rest : List ℕ) → Finds device_fits (device_with word rest)
 device_word_fits word rest =
-    chosen_word (bytes_eq word (codes "begin")) (bytes_eq word (codes "end")) (bytes_eq word (codes "line")) (bytes_eq word (codes "byte")) (bytes_eq word (codes "write"))
-  where
-    chosen_word : (a b c d e : Bool) → Finds device_fits
-        (cond a (Some (device_asks.Begin, rest))
-        (cond b (Some (device_asks.End, rest))
-        (cond c (timed_by device_asks.Line rest)
-        (cond d (timed_by device_asks.Byte rest)
-        (cond e (option_map (λ p. (device_asks.Write p.0, p.1)) (text_in (skipped rest))) None)))))
-    chosen_word true b c d e = refl
-    chosen_word false true c d e = refl
-    chosen_word false false true d e = timed_passes device_fits device_asks.Line rest (λ t k. k)
-    chosen_word false false false true e = timed_passes device_fits device_asks.Byte rest (λ t k. k)
-    chosen_word false false false false true = passes_as (λ x. is_text x.0) (λ x. device_fits x.0) (λ p. (device_asks.Write p.0, p.1)) (text_in (skipped rest)) (text_fits (skipped rest)) (λ x k. k)
-    chosen_word false false false false false = tt
+    let timed = timed_ask word (timeout_in rest).0 in
+    passes_if (λ x. device_fits x.0) (bytes_eq word (codes "write")) (option_map (λ p. (device_asks.Write p.0, p.1)) (text_in (skipped rest))) (option_map (λ a. (a, (timeout_in rest).1)) timed)
+    (passes_as (λ x. is_text x.0) (λ x. device_fits x.0) (λ p. (device_asks.Write p.0, p.1)) (text_in (skipped rest)) (text_fits (skipped rest)) (λ x k. k))
+    (passes_as device_fits (λ x. device_fits x.0) (λ a. (a, (timeout_in rest).1)) timed
+    (timed_fit timed (timed_alone timeout_fits word (timeout_in rest).0 refl (timeout_found_fits rest))) (λ a k. k))
 
 on_device_fits : (bs : List ℕ) → Finds ask_fits (on_device bs)
 on_device_fits bs =
@@ -420,10 +425,14 @@ clash_fits bs =
 job_fits : (bs : List ℕ) → Passes reply_fits (job_in bs)
 job_fits bs = let at = skipped (behind_bytes runs.Letters bs) in passes_as (λ x. is_count x.0) reply_fits (λ p. replies.Job p.0) (count_in at) (count_fits at) (λ x k. k)
 
+device_given_fits : (given : Given) (bs : List ℕ) → Passes reply_fits (given_as given bs)
+device_given_fits givens.Nothing bs = tt
+device_given_fits givens.Text bs = passes_as (λ x. is_text x.0) reply_fits (λ p. replies.Line p.0) (text_in bs) (text_fits bs) (λ x k. k)
+device_given_fits givens.Code bs = passes_as (λ x. is_code x.0) reply_fits (λ p. replies.Byte p.0) (code_in bs) (code_fits bs) (λ x k. k)
+
 given_fits : (a : Ask) (bs : List ℕ) → Passes reply_fits (given_in a bs)
 given_fits (asks.Shared (shared_asks.Access a)) bs = passes_as answer_fits reply_fits replies.Answer (answer_in a bs) (answer_found_fits a bs) (λ x k. k)
-given_fits (asks.Device device (device_asks.Line timeout)) bs = passes_as (λ x. is_text x.0) reply_fits (λ p. replies.Line p.0) (text_in bs) (text_fits bs) (λ x k. k)
-given_fits (asks.Device device (device_asks.Byte timeout)) bs = passes_as (λ x. is_code x.0) reply_fits (λ p. replies.Byte p.0) (code_in bs) (code_fits bs) (λ x k. k)
+given_fits (asks.Device device a) bs = device_given_fits (given_by a) bs
 given_fits (asks.Shared (shared_asks.Start start timeout)) bs = job_fits bs
 given_fits (asks.Shared shared_asks.Commit) bs = clash_fits bs
 given_fits _ bs = tt

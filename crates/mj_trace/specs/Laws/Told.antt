@@ -33,9 +33,10 @@ use Rattle.mj_gfile.specs.Reading.{is_number_byte}
 use Rattle.mj_gfile.specs.Listing.{is_text}
 use Rattle.mj_gfile.specs.Laws.Texts.{both_true}
 use Rattle.mj_gfile.specs.Laws.Names.{canonic_numbers}
+use Rattle.mj_trace.specs.Devices.{text_given, code_given}
 use Rattle.mj_trace.specs.declared.run.Run.TheVariants as runs
 use Rattle.mj_trace.specs.Spelling.{subtree_text, answer_text, kept_text, clash_text, reply_text}
-use Rattle.mj_trace.specs.Reading.{onward, front, behind_bytes, number_in, count_in, code_in, text_in, subscript_in, name_in, subtree_in, is_absent, number_kept, kept_in, clash_now, clash_then, given_in, done_of, limit_of, reply_in}
+use Rattle.mj_trace.specs.Reading.{onward, front, behind_bytes, number_in, count_in, code_in, text_in, subscript_in, name_in, subtree_in, is_absent, number_kept, kept_in, clash_now, clash_then, given_as, given_in, done_of, limit_of, reply_in}
 use Rattle.mj_trace.specs.Sized.{is_count, is_code, name_fits, nodes_fit, answer_fits, kept_fits, reply_fits}
 use Rattle.mj_trace.specs.Laws.Found.{if_not, Ends, front_all, rest_all, no_number, number_bytes, number_found, count_found, code_found, text_found, subscript_found}
 use Rattle.mj_trace.specs.Laws.Members.{name_is_found, subtree_found}
@@ -272,14 +273,14 @@ limit_is (asks.Shared (shared_asks.Access a)) h = absurd cc
 limit_is _ h = refl
 
 line_found : (a : Ask) (t : List ℕ) → is_reply_to a (replies.Line t) ≡ true → is_text t ≡ true → reply_in a (listed_text t) ≡ Some (replies.Line t)
-line_found (asks.Device d (device_asks.Line timeout)) t h f =
-    given_when (asks.Device d (device_asks.Line timeout)) (listed_text t) refl ∙ ap (option_map (λ p. replies.Line p.0)) (text_all t f)
+line_found (asks.Device d a) t h f =
+    given_when (asks.Device d a) (listed_text t) refl ∙ ap (λ g. given_as g (listed_text t)) (text_given a t h) ∙ ap (option_map (λ p. replies.Line p.0)) (text_all t f)
 line_found (asks.Shared (shared_asks.Access a)) t h f = absurd cc
 line_found _ t h f = absurd cc
 
 byte_found : (a : Ask) (b : ℕ) → is_reply_to a (replies.Byte b) ≡ true → is_code b ≡ true → reply_in a (decimal b) ≡ Some (replies.Byte b)
-byte_found (asks.Device d (device_asks.Byte timeout)) b h f =
-    given_when (asks.Device d (device_asks.Byte timeout)) (decimal b) (number_mark (pos b) (code_ranged b f)) ∙ ap (option_map (λ p. replies.Byte p.0)) (code_all b f)
+byte_found (asks.Device d a) b h f =
+    given_when (asks.Device d a) (decimal b) (number_mark (pos b) (code_ranged b f)) ∙ ap (λ g. given_as g (decimal b)) (code_given a b h) ∙ ap (option_map (λ p. replies.Byte p.0)) (code_all b f)
 byte_found (asks.Shared (shared_asks.Access a)) b h f = absurd cc
 byte_found _ b h f = absurd cc
 

@@ -31,6 +31,7 @@ use Rattle.mj_ask.specs.declared.ask.DeviceAsk.{DeviceAsk}
 use Rattle.mj_ask.specs.declared.ask.DeviceAsk.TheVariants as device_asks
 use Rattle.mj_ask.specs.declared.ask.Reply.{Reply}
 use Rattle.mj_ask.specs.declared.ask.Reply.TheVariants as replies
+use Rattle.mj_ask.specs.Fits.{device_timeout}
 use Rattle.mj_ask.specs.Formed.{is_name, is_global_name, is_search_name, are_filled, are_filled_before_last, is_subtree, is_access, are_names, is_shared_ask, is_ask, is_kept, is_clash, is_answer, is_reply}
 use Rattle.mj_gfile.specs.Spelling.{listed_text, listed_subscripts, listed_name}
 use Rattle.mj_gfile.specs.Reading.{is_word_byte, is_number_byte}
@@ -38,6 +39,7 @@ use Rattle.mj_gfile.specs.Listing.{is_text}
 use Rattle.mj_gfile.specs.Laws.Texts.{both_true}
 use Rattle.mj_gfile.specs.Laws.Names.{more_pass}
 use Rattle.mj_gfile.specs.Laws.Listings.{no_end, AreWithin, within-append, above_ten, number_above, text_within, subscript_within, subscripts_within}
+use Rattle.mj_trace.specs.Devices.{device_word}
 use Rattle.mj_trace.specs.Spelling.{rest_of_names, names_text, place_text, node_text, rest_of_nodes, nodes_between, subtree_text, value_text, rest_of_values, values_between, values_text, timeout_text, direction_text, access_text, shared_text, device_text, ask_text, answer_text, kept_text, clash_text, reply_text, event_text}
 use Rattle.mj_trace.specs.Sized.{is_count, name_fits, value_fits, timeout_fits, shared_fits, device_fits, ask_fits, answer_fits, kept_fits, reply_fits}
 use Rattle.mj_trace.specs.Laws.Found.{number_bytes, word_bytes}
@@ -195,12 +197,15 @@ shared_within (shared_asks.Halt None) h k = refl
 shared_within (shared_asks.Halt (Some f)) h k = count_within (code_of f) (code_small f)
 shared_within _ h k = refl
 
+device_word_within : (a : DeviceAsk) → AreWithin (device_word a)
+unfolding no_end
+device_word_within device_asks.Begin = refl
+device_word_within _ = refl
+
 device_within : (a : DeviceAsk) → device_fits a ≡ true → AreWithin (device_text a)
 unfolding no_end
 device_within (device_asks.Write t) k = text_within t
-device_within (device_asks.Line timeout) k = timeout_within timeout k
-device_within (device_asks.Byte timeout) k = timeout_within timeout k
-device_within _ k = refl
+device_within a k = within-append (device_word a) (timeout_text (device_timeout a)) (device_word_within a) (timeout_within (device_timeout a) k)
 
 pub ask_within : (a : Ask) → is_ask a ≡ true → ask_fits a ≡ true → AreWithin (ask_text a)
 unfolding no_end

@@ -1,17 +1,17 @@
 use Rattle.std.proofs.Common.{◌≡◌, true, refl, sym, ap, ◌∙◌, subst, inl}
 use Rattle.std.specs.Option.{is_some}
-use Rattle.std.specs.Prelude.{Result, Ok, Err, IfOk, option_copied}
+use Rattle.std.specs.Prelude.{None, Result, Ok, Err, IfOk, OnErr, option_copied}
 use Rattle.std.specs.declared.alloc.AllocError.{AllocError}
 use Rattle.mj_load.specs.Image.{routines_of}
 use Rattle.mj_jobs.specs.Rows.{IsLive}
 use Rattle.mj_jobvm.specs.Run.{Log, GoesOn, HasEnded}
-use Rattle.mj_jobvm.specs.Told.{AdvanceTells, spent_after}
+use Rattle.mj_jobvm.specs.Told.{AdvanceTells, IsWaitingAt, spent_after}
 use Rattle.mj_jobvm.specs.declared.job.Turn.{Turn}
 use Rattle.mj_jobvm.specs.declared.job.Turn.TheVariants as turns
 use Rattle.mj_sys.specs.History.{state_of}
 use Rattle.mj_core.specs.Gives.{MayGoOn}
 use Rattle.mj_core.specs.Ties.{Placed, IsPlaced, start_of, stand_of}
-use Rattle.mj_core.proofs.Stepping.{IsStepped, unasked, may_go, is_stepped}
+use Rattle.mj_core.proofs.Stepping.{IsStepped, unasked, may_go, stands_nowhere, is_stepped}
 use Rattle.mj_core.proofs.slot.step_slot.Given.{Over}
 use Rattle.mj_core.proofs.slot.step_slot.Goals as goal
 use Rattle.mj_core.proofs.slot.step_slot.Goals.{After-advance, After-ask}
@@ -36,13 +36,29 @@ counted g c went is =
     let S : Result Turn AllocError → Type 0 = λ w. c.advance.new.self.run.spent ≡ spent_after w 10000 c.slot.inside.job.run.spent in
     subst S is c.advance.ensures.spent
 
+-- whether it waits then
+waits : (g : Over) (c : After-advance g) (turn : Turn) → c.advance.result ≡ Ok turn → IsWaitingAt turn c.advance.new.self.run.pending
+waits g c turn is =
+    let W : Result Turn AllocError → Type 0 = λ w. IfOk w (λ t. IsWaitingAt t c.advance.new.self.run.pending) in
+    subst W is c.advance.ensures.waits
+
 -- one that doesn't ask now didn't wait
+unwaited : (g : Over) (c : After-advance g) → (c.advance.result ≡ Ok turns.Asks → ⊥) → c.slot.inside.job.run.pending ≡ None
+unwaited g c unlike = unasked c.slot.inside.job.run.pending (λ some. unlike (c.advance.ensures.again some).0)
+
+-- nor does it wait where memory was refused on its way
+refused_none : (g : Over) (c : After-advance g) (e : AllocError) → c.advance.result ≡ Err e → c.advance.new.self.run.pending ≡ None
+refused_none g c e is =
+    let E : Result Turn AllocError → Type 0 = λ w. OnErr w (c.advance.new.self.run.pending ≡ c.slot.inside.job.run.pending) in
+    subst E is c.advance.ensures.err ∙ unwaited g c (λ asks. (let no : Err e ≡ Ok turns.Asks = sym is ∙ asks in cc))
+
+-- so it may go on
 goes : (g : Over) (c : After-advance g) → (c.advance.result ≡ Ok turns.Asks → ⊥) → MayGoOn (stand_of c.args.slot.now)
 goes g c unlike =
     let job = c.slot.inside.job in
     let P : Placed g.row.A.Denot → Type 0 = λ p. MayGoOn (stand_of p) in
     subst P c.slot.view_is
-    (may_go job.run.pending job.run.log job.run.at.state c.slot.inside.at_ask (unasked job.run.pending (λ some. unlike (c.advance.ensures.again some).0)))
+    (may_go job.run.pending job.run.log job.run.at.state c.slot.inside.at_ask (unwaited g c unlike))
 
 pub ask-requires-clause-asks : goal.ask-requires-clause-asks
 ask-requires-clause-asks g c =
@@ -60,10 +76,9 @@ returns-in-Ok-Ran-clause-gives g c =
       refl,
       c.advance.ensures.log,
       (λ name has h. h),
-      refl,
+      stands_nowhere c.advance.new.self.run.pending c.advance.new.self.run.at.state (waits g at turns.Ran is),
       may_go c.slot.inside.job.run.pending c.slot.inside.job.run.log c.slot.inside.job.run.at.state c.slot.inside.at_ask
-          (unasked c.slot.inside.job.run.pending
-          (λ some. (let no : Ok turns.Ran ≡ Ok turns.Asks = sym is ∙ (c.advance.ensures.again some).0 in cc))),
+          (unwaited g at (λ asks. (let no : Ok turns.Ran ≡ Ok turns.Asks = sym is ∙ asks in cc))),
     )
 
 pub returns-in-Ok-Ended-clause-gives : goal.returns-in-Ok-Ended-clause-gives
@@ -75,7 +90,7 @@ returns-in-Ok-Ended-clause-gives g c =
       subst Q c.advance.ensures.log (told g at (Ok turns.Ended) is),
       refl,
       (c.advance.ensures.log, counted g at (Ok turns.Ended) is, (λ name has h. h)),
-      refl,
+      stands_nowhere c.advance.new.self.run.pending c.advance.new.self.run.at.state (waits g at turns.Ended is),
     )
 
 -- where it asks, all that is ensured comes of what `ask` gives
@@ -121,16 +136,25 @@ returns-in-Ok-Asks-clause-stands g c = (behind g (goal.at.returns-in-Ok-Asks-cla
 
 -- without an ask it stands at none
 pub returns-in-Ok-Ran-clause-stands : goal.returns-in-Ok-Ran-clause-stands
-returns-in-Ok-Ran-clause-stands g c = inl refl
+returns-in-Ok-Ran-clause-stands g c =
+    let at = (goal.at.returns-in-Ok-Ran-clause-stands g c).After-advance in
+    inl (refl, waits g at turns.Ran (c.in-Ok-Ran.is ∙ ap Ok c.in-Ok-Ran.field-0-is))
 
 pub returns-in-Ok-Ended-clause-stands : goal.returns-in-Ok-Ended-clause-stands
-returns-in-Ok-Ended-clause-stands g c = inl refl
+returns-in-Ok-Ended-clause-stands g c =
+    let at = (goal.at.returns-in-Ok-Ended-clause-stands g c).After-advance in
+    inl (refl, waits g at turns.Ended (c.in-Ok-Ended.is ∙ ap Ok c.in-Ok-Ended.field-0-is))
 
 pub returns-in-Err-clause-stands : goal.returns-in-Err-clause-stands
-returns-in-Err-clause-stands g c = inl refl
+returns-in-Err-clause-stands g c =
+    let at = (goal.at.returns-in-Err-clause-stands g c).After-advance in
+    inl (refl, refused_none g at c.in-Err.field-0 c.in-Err.is)
 
 -- memory was refused on the job's way
 pub returns-in-Err-clause-refused : goal.returns-in-Err-clause-refused
 returns-in-Err-clause-refused g c =
     let at = (goal.at.returns-in-Err-clause-refused g c).After-advance in
-    inl (goes g at (λ asks. (let no : Err c.in-Err.field-0 ≡ Ok turns.Asks = sym c.in-Err.is ∙ asks in cc)), refl)
+    inl (
+      goes g at (λ asks. (let no : Err c.in-Err.field-0 ≡ Ok turns.Asks = sym c.in-Err.is ∙ asks in cc)),
+      stands_nowhere c.advance.new.self.run.pending c.advance.new.self.run.at.state (refused_none g at c.in-Err.field-0 c.in-Err.is),
+    )

@@ -3,7 +3,7 @@ use Rattle.std.specs.Prelude.{slice_get, Ok, option_copied}
 use Rattle.std.proofs.lemmas.Option.{slice_get-get_or}
 use Rattle.std.proofs.lemmas.Result.{err_from_is_err_and}
 use Rattle.mj_load.specs.Image.{routines_of}
-use Rattle.mj_jobs.specs.Rows.{Row, row_at, IsLive}
+use Rattle.mj_jobs.specs.Rows.{Row, row_at, IsLive, rows_limit}
 use Rattle.mj_sys.specs.History.{state_of}
 use Rattle.mj_sys.specs.System.{Claimed}
 use Rattle.mj_core.specs.declared.happened.Happened.{Happened}
@@ -73,13 +73,13 @@ keeps g c m gave waiting kept =
 -- and so it is seen
 makes : (g : Over) (c : After-step_slot g) (m : Made) → Gave g c m → (row : Row)
     → row_at (state_of g.O.Opening.opening (woven (logs_of c.args.slots.now) c.args.order.now.items)).rows (suc c.args.at) ≡ Some row
-    → gives.JobStepGives g.A.Answerer.answering.means g.O.Opening.opening (shown c.args.image.now c.args.slots.now c.args.order.now.items c.args.over.now 255) (suc c.args.at) row
+    → gives.JobStepGives g.A.Answerer.answering.means g.O.Opening.opening (shown c.args.image.now c.args.slots.now c.args.order.now.items c.args.over.now rows_limit) (suc c.args.at) row
     c.args.late (option_copied c.args.given) (Ok (seen_of (length c.args.order.now.items) m))
-    (shown c.args.image.now (slots_on g c) (order_on c.args.order.now.items c.args.at (slot_in g c).job.run.log m) (over_on c.args.over.now c.args.at m) 255)
+    (shown c.args.image.now (slots_on g c) (order_on c.args.order.now.items c.args.at (slot_in g c).job.run.log m) (over_on c.args.over.now c.args.at m) rows_limit)
 makes g c m gave row is =
     makes_step g.A.Answerer.answering c.args.image.now g.O.Opening.opening c.args.system.now c.args.slots.now c.requires.kept.0 c.args.order.now.items c.requires.kept.1 c.args.at
     (slot_in g c) c.step_slot.new.slot (here g c) c.step_slot.ensures.claim.0 c.args.late (option_copied c.args.given) c.step_slot.new.system c.step_slot.ensures.tied
-    c.step_slot.ensures.stands c.requires.short c.args.over.now 255 c.requires.few row is c.requires.live m gave
+    c.step_slot.ensures.stands c.requires.short c.args.over.now rows_limit c.requires.few row is c.requires.live m gave
 
 pub returns-in_err-step_slot-clause-kept : goal.returns-in_err-step_slot-clause-kept
 returns-in_err-step_slot-clause-kept g c = λ waiting kept.
@@ -95,7 +95,7 @@ returns-in_err-step_slot-clause-made g c = λ row is.
     rw (p.1, p.2)
     (makes_none g.A.Answerer.answering c.args.image.now g.O.Opening.opening c.args.system.now c.args.slots.now c.requires.kept.0 c.args.order.now.items c.requires.kept.1 c.args.at
     (slot_in g at) c.step_slot.new.slot (here g at) c.step_slot.ensures.claim.0 c.args.late (option_copied c.args.given) c.step_slot.new.system c.step_slot.ensures.tied
-    c.step_slot.ensures.stands c.requires.short c.args.over.now 255 c.requires.few row is
+    c.step_slot.ensures.stands c.requires.short c.args.over.now rows_limit c.requires.few row is
     c.in_err-step_slot.field-0.0 c.in_err-step_slot.ensures.refused c.in_err-step_slot.ensures.kept)
 
 -- what is written down of an event
@@ -124,8 +124,8 @@ returns-in-Event-clause-made g c = λ row is.
     ∙ order_is c.args.order.now.items c.args.at (length c.log.result.now) (slot_in g at)
     (ap length c.log.ensures.which ∙ ap (λ (s : Placed g.row.A.Denot). length s.job.run.log) c.slot.view_is) in
     let P : ℕ → List Happened → Type 0 = λ n o.
-    gives.JobStepGives g.A.Answerer.answering.means g.O.Opening.opening (shown c.args.image.now c.args.slots.now c.args.order.now.items c.args.over.now 255) (suc c.args.at) row
-    c.args.late (option_copied c.args.given) (Ok (seen.Event n)) (shown c.args.image.now (slots_on g at) o c.args.over.now 255) in
+    gives.JobStepGives g.A.Answerer.answering.means g.O.Opening.opening (shown c.args.image.now c.args.slots.now c.args.order.now.items c.args.over.now rows_limit) (suc c.args.at) row
+    c.args.late (option_copied c.args.given) (Ok (seen.Event n)) (shown c.args.image.now (slots_on g at) o c.args.over.now rows_limit) in
     subst (λ n. P n c.push_reserved.new.self.items) (sym (c.len-place.ensures ∙ c.args.order.now.ok.0))
     (subst (λ o. P (length c.args.order.now.items) o) (sym written)
     (makes g at made.Event (subst (Gave g at) c.in-Event.is c.in_ok-step_slot.ensures.gives) row is))

@@ -27,7 +27,8 @@ returns-clause-kept g c =
     slot_kept g.A.Answerer.answering c.args.image.now g.O.Opening.opening c.args.system.now c.args.slots.now.items c.args.order.now c.args.waiting.now c.requires.kept
     c.in-Some-take.claim c.in-Some-take.session is c.job.result c.into_parts-entry.result.0 c.into_parts-entry.result.1.items c.job.ensures.value
     (c.into_parts-entry.ensures.entry ∙ ap (λ (s : Started). s.entry) start) (c.into_parts-entry.ensures.values ∙ ap (λ (s : Started). s.values) start)
-    c.start-job.result (ap (λ (j : Running). j.run.log) c.start-job.ensures.opening) (ap (λ (j : Running). j.run.spent) c.start-job.ensures.opening) c.start-job.ensures.run
+    c.start-job.result (ap (λ (j : Running). j.run.log) c.start-job.ensures.opening) (ap (λ (j : Running). j.run.spent) c.start-job.ensures.opening)
+    (ap (λ (j : Running). j.run.pending) c.start-job.ensures.opening) c.start-job.ensures.run
     c.open.new.self (c.open.ensures.of [] (c.make_room.ensures.stays.0 [] c.new-answerer.ensures.of)) (holds g (goal.at.returns-clause-kept g c).After-open)
     c.push_reserved.new.self.items (c.push_reserved.ensures.items ∙ ap (λ l. l ++ record { claim = c.in-Some-take.claim; job = c.start-job.result; answerer = c.open.new.self; at_ask = false } ∷ [])
     c.in_ok-reserve.ensures.items) c.take.new.self c.take.ensures.after
@@ -40,7 +41,8 @@ returns-clause-woven g c =
     slot_woven g.A.Answerer.answering c.args.image.now g.O.Opening.opening c.args.system.now c.args.slots.now.items c.args.order.now c.args.waiting.now c.requires.kept
     c.in-Some-take.claim c.in-Some-take.session is c.job.result c.into_parts-entry.result.0 c.into_parts-entry.result.1.items c.job.ensures.value
     (c.into_parts-entry.ensures.entry ∙ ap (λ (s : Started). s.entry) start) (c.into_parts-entry.ensures.values ∙ ap (λ (s : Started). s.values) start)
-    c.start-job.result (ap (λ (j : Running). j.run.log) c.start-job.ensures.opening) (ap (λ (j : Running). j.run.spent) c.start-job.ensures.opening) c.start-job.ensures.run
+    c.start-job.result (ap (λ (j : Running). j.run.log) c.start-job.ensures.opening) (ap (λ (j : Running). j.run.spent) c.start-job.ensures.opening)
+    (ap (λ (j : Running). j.run.pending) c.start-job.ensures.opening) c.start-job.ensures.run
     c.open.new.self (c.open.ensures.of [] (c.make_room.ensures.stays.0 [] c.new-answerer.ensures.of)) (holds g (goal.at.returns-clause-woven g c).After-open)
     c.push_reserved.new.self.items (c.push_reserved.ensures.items ∙ ap (λ l. l ++ record { claim = c.in-Some-take.claim; job = c.start-job.result; answerer = c.open.new.self; at_ask = false } ∷ [])
     c.in_ok-reserve.ensures.items)
@@ -53,7 +55,8 @@ returns-clause-turns g c =
     slot_turns g.A.Answerer.answering c.args.image.now g.O.Opening.opening c.args.system.now c.args.slots.now.items c.args.order.now c.args.waiting.now c.requires.kept
     c.in-Some-take.claim c.in-Some-take.session is c.job.result c.into_parts-entry.result.0 c.into_parts-entry.result.1.items c.job.ensures.value
     (c.into_parts-entry.ensures.entry ∙ ap (λ (s : Started). s.entry) start) (c.into_parts-entry.ensures.values ∙ ap (λ (s : Started). s.values) start)
-    c.start-job.result (ap (λ (j : Running). j.run.log) c.start-job.ensures.opening) (ap (λ (j : Running). j.run.spent) c.start-job.ensures.opening) c.start-job.ensures.run
+    c.start-job.result (ap (λ (j : Running). j.run.log) c.start-job.ensures.opening) (ap (λ (j : Running). j.run.spent) c.start-job.ensures.opening)
+    (ap (λ (j : Running). j.run.pending) c.start-job.ensures.opening) c.start-job.ensures.run
     c.open.new.self (c.open.ensures.of [] (c.make_room.ensures.stays.0 [] c.new-answerer.ensures.of)) (holds g (goal.at.returns-clause-turns g c).After-open)
     c.push_reserved.new.self.items (c.push_reserved.ensures.items ∙ ap (λ l. l ++ record { claim = c.in-Some-take.claim; job = c.start-job.result; answerer = c.open.new.self; at_ask = false } ∷ [])
     c.in_ok-reserve.ensures.items)
@@ -66,7 +69,8 @@ returns-clause-stands g c =
     slot_stands g.A.Answerer.answering c.args.image.now g.O.Opening.opening c.args.system.now c.args.slots.now.items c.args.order.now c.args.waiting.now c.requires.kept
     c.in-Some-take.claim c.in-Some-take.session is c.job.result c.into_parts-entry.result.0 c.into_parts-entry.result.1.items c.job.ensures.value
     (c.into_parts-entry.ensures.entry ∙ ap (λ (s : Started). s.entry) start) (c.into_parts-entry.ensures.values ∙ ap (λ (s : Started). s.values) start)
-    c.start-job.result (ap (λ (j : Running). j.run.log) c.start-job.ensures.opening) (ap (λ (j : Running). j.run.spent) c.start-job.ensures.opening) c.start-job.ensures.run
+    c.start-job.result (ap (λ (j : Running). j.run.log) c.start-job.ensures.opening) (ap (λ (j : Running). j.run.spent) c.start-job.ensures.opening)
+    (ap (λ (j : Running). j.run.pending) c.start-job.ensures.opening) c.start-job.ensures.run
     c.open.new.self (c.open.ensures.of [] (c.make_room.ensures.stays.0 [] c.new-answerer.ensures.of)) (holds g (goal.at.returns-clause-stands g c).After-open)
     c.push_reserved.new.self.items (c.push_reserved.ensures.items ∙ ap (λ l. l ++ record { claim = c.in-Some-take.claim; job = c.start-job.result; answerer = c.open.new.self; at_ask = false } ∷ [])
     c.in_ok-reserve.ensures.items)

@@ -1,8 +1,8 @@
 use Rattle.std.proofs.Common.{ℕ, Bool, false, List, refl, sym, subst}
 use Rattle.mj_dialogue.specs.declared.command.Command.{Command}
 use Rattle.mj_dialogue.specs.declared.command.Command.TheVariants as commands
-use Rattle.mj_dialogue.specs.declared.answering.Trouble.TheVariants as troubles
-use Rattle.mj_dialogue.specs.Fails.{trouble_of}
+use Rattle.mj_dialogue.specs.declared.answering.Unanswered.TheVariants as unanswered
+use Rattle.mj_dialogue.specs.Fails.{unanswered_of}
 use Rattle.mj_dialogue.specs.Says.{Says}
 use Rattle.mj_dialogue.proofs.Failing.{hidden, untold, unwritten}
 use Rattle.mj_dialogue.proofs.Giving.{gives}
@@ -40,29 +40,29 @@ returns-in_ok-locals-in-Locals-clause-ok g c =
 
 pub returns-in_err-told-in-Step-clause-err : goal.returns-in_err-told-in-Step-clause-err
 returns-in_err-told-in-Step-clause-err g c =
-    untold g.O.Opening.opening c.args.debugger.now c.step.new.debugger c.args.command.now (commands.Step c.in-Step.given) troubles.Memory c.from_residual.result (g.W.Write.contents c.args.out.now)
+    untold g.O.Opening.opening c.args.debugger.now c.step.new.debugger c.args.command.now (commands.Step c.in-Step.given) unanswered.Memory c.from_residual.result (g.W.Write.contents c.args.out.now)
     c.in-Step.is (refl, c.in_err-told-in-Step.ensures.err) c.from_residual.ensures.1
 
 pub returns-in_err-set-in-Set-clause-err : goal.returns-in_err-set-in-Set-clause-err
 returns-in_err-set-in-Set-clause-err g c =
-    untold g.O.Opening.opening c.args.debugger.now c.set.new.debugger c.args.command.now (commands.Set c.in-Set.routine c.in-Set.line) troubles.Memory c.from_residual-in_err-set-in-Set.result
+    untold g.O.Opening.opening c.args.debugger.now c.set.new.debugger c.args.command.now (commands.Set c.in-Set.routine c.in-Set.line) unanswered.Memory c.from_residual-in_err-set-in-Set.result
     (g.W.Write.contents c.args.out.now)
     c.in-Set.is (refl, c.in_err-set-in-Set.ensures.err) c.from_residual-in_err-set-in-Set.ensures.1
 
 pub returns-in_err-clear-in-Clear-clause-err : goal.returns-in_err-clear-in-Clear-clause-err
 returns-in_err-clear-in-Clear-clause-err g c =
-    untold g.O.Opening.opening c.args.debugger.now c.clear.new.debugger c.args.command.now (commands.Clear c.in-Clear.routine c.in-Clear.line) troubles.Memory
+    untold g.O.Opening.opening c.args.debugger.now c.clear.new.debugger c.args.command.now (commands.Clear c.in-Clear.routine c.in-Clear.line) unanswered.Memory
     c.from_residual-in_err-clear-in-Clear.result (g.W.Write.contents c.args.out.now)
     c.in-Clear.is (refl, c.in_err-clear-in-Clear.ensures.err) c.from_residual-in_err-clear-in-Clear.ensures.1
 
 pub returns-in_err-back-in-Back-clause-err : goal.returns-in_err-back-in-Back-clause-err
 returns-in_err-back-in-Back-clause-err g c =
-    untold g.O.Opening.opening c.args.debugger.now c.back.new.debugger c.args.command.now commands.Back troubles.Memory c.from_residual-in_err-back-in-Back.result (g.W.Write.contents c.args.out.now)
+    untold g.O.Opening.opening c.args.debugger.now c.back.new.debugger c.args.command.now commands.Back unanswered.Memory c.from_residual-in_err-back-in-Back.result (g.W.Write.contents c.args.out.now)
     c.in-Back.is (refl, c.in_err-back-in-Back.ensures.err) c.from_residual-in_err-back-in-Back.ensures.1
 
 pub returns-in_err-forward-in-Forward-clause-err : goal.returns-in_err-forward-in-Forward-clause-err
 returns-in_err-forward-in-Forward-clause-err g c =
-    untold g.O.Opening.opening c.args.debugger.now c.forward.new.debugger c.args.command.now commands.Forward troubles.Memory c.from_residual-in_err-forward-in-Forward.result
+    untold g.O.Opening.opening c.args.debugger.now c.forward.new.debugger c.args.command.now commands.Forward unanswered.Memory c.from_residual-in_err-forward-in-Forward.result
     (g.W.Write.contents c.args.out.now)
     c.in-Forward.is (refl, c.in_err-forward-in-Forward.ensures.err) c.from_residual-in_err-forward-in-Forward.ensures.1
 
@@ -70,7 +70,7 @@ pub returns-in_err-frames-in-Frames-clause-err : goal.returns-in_err-frames-in-F
 returns-in_err-frames-in-Frames-clause-err g c =
     let hides = c.in_err-frames-in-Frames.ensures.err in
     let none = hidden g.O.Opening.opening c.args.debugger.now c.frames.new.debugger (commands.Frames c.in-Frames.job) c.in_err-frames-in-Frames.field-0.0 refl hides.0 hides in
-    untold g.O.Opening.opening c.args.debugger.now c.frames.new.debugger c.args.command.now (commands.Frames c.in-Frames.job) (trouble_of c.in_err-frames-in-Frames.field-0.0)
+    untold g.O.Opening.opening c.args.debugger.now c.frames.new.debugger c.args.command.now (commands.Frames c.in-Frames.job) (unanswered_of c.in_err-frames-in-Frames.field-0.0)
     c.from_residual-in_err-frames-in-Frames.result (g.W.Write.contents c.args.out.now)
     c.in-Frames.is (refl, none) c.from_residual-in_err-frames-in-Frames.ensures.1
 
@@ -78,7 +78,7 @@ pub returns-in_err-locals-in-Locals-clause-err : goal.returns-in_err-locals-in-L
 returns-in_err-locals-in-Locals-clause-err g c =
     let hides = c.in_err-locals-in-Locals.ensures.err in
     let none = hidden g.O.Opening.opening c.args.debugger.now c.locals.new.debugger (commands.Locals c.in-Locals.job) c.in_err-locals-in-Locals.field-0.0 refl hides.0 hides in
-    untold g.O.Opening.opening c.args.debugger.now c.locals.new.debugger c.args.command.now (commands.Locals c.in-Locals.job) (trouble_of c.in_err-locals-in-Locals.field-0.0)
+    untold g.O.Opening.opening c.args.debugger.now c.locals.new.debugger c.args.command.now (commands.Locals c.in-Locals.job) (unanswered_of c.in_err-locals-in-Locals.field-0.0)
     c.from_residual-in_err-locals-in-Locals.result (g.W.Write.contents c.args.out.now)
     c.in-Locals.is (refl, none) c.from_residual-in_err-locals-in-Locals.ensures.1
 
@@ -86,7 +86,7 @@ pub returns-in_err-locks-in-Locks-clause-err : goal.returns-in_err-locks-in-Lock
 returns-in_err-locks-in-Locks-clause-err g c =
     let hides = c.in_err-locks-in-Locks.ensures.err in
     let none = hidden g.O.Opening.opening c.args.debugger.now c.locks.new.debugger commands.Locks c.in_err-locks-in-Locks.field-0.0 refl hides.0 hides in
-    untold g.O.Opening.opening c.args.debugger.now c.locks.new.debugger c.args.command.now commands.Locks (trouble_of c.in_err-locks-in-Locks.field-0.0)
+    untold g.O.Opening.opening c.args.debugger.now c.locks.new.debugger c.args.command.now commands.Locks (unanswered_of c.in_err-locks-in-Locks.field-0.0)
     c.from_residual-in_err-locks-in-Locks.result (g.W.Write.contents c.args.out.now)
     c.in-Locks.is (refl, none) c.from_residual-in_err-locks-in-Locks.ensures.1
 
@@ -94,7 +94,7 @@ pub returns-in_err-globals-in-Globals-clause-err : goal.returns-in_err-globals-i
 returns-in_err-globals-in-Globals-clause-err g c =
     let hides = c.in_err-globals-in-Globals.ensures.err in
     let none = hidden g.O.Opening.opening c.args.debugger.now c.globals.new.debugger commands.Globals c.in_err-globals-in-Globals.field-0.0 refl hides.0 hides in
-    untold g.O.Opening.opening c.args.debugger.now c.globals.new.debugger c.args.command.now commands.Globals (trouble_of c.in_err-globals-in-Globals.field-0.0)
+    untold g.O.Opening.opening c.args.debugger.now c.globals.new.debugger c.args.command.now commands.Globals (unanswered_of c.in_err-globals-in-Globals.field-0.0)
     c.from_residual-in_err-globals-in-Globals.result (g.W.Write.contents c.args.out.now)
     c.in-Globals.is (refl, none) c.from_residual-in_err-globals-in-Globals.ensures.1
 

@@ -1,8 +1,8 @@
 use Rattle.std.proofs.Common.{◌≡◌, ◌++◌, sym, ◌∙◌, List, ℕ, [], refl, arith, subst}
 use Rattle.std.specs.Io.KnownBytes.{Appends}
 use Rattle.mj_dialogue.specs.declared.command.Command.TheVariants as commands
-use Rattle.mj_dialogue.specs.declared.answering.Trouble.{Trouble}
-use Rattle.mj_dialogue.specs.Fails.{Fails, IsOutputWritten, trouble_of}
+use Rattle.mj_dialogue.specs.declared.answering.Unanswered.{Unanswered}
+use Rattle.mj_dialogue.specs.Fails.{Fails, IsOutputWritten, unanswered_of}
 use Rattle.mj_dialogue.proofs.Failing.{at_err, written}
 use Rattle.mj_dialogue.proofs.Going.{appends_none, appends_more, made_more, goes_all, goes_last}
 use Rattle.mj_dialogue.proofs.answering.go.Goals as goal
@@ -27,8 +27,8 @@ loop-made-preserved g c =
 pub returns-in_err-passed-clause-err : goal.returns-in_err-passed-clause-err
 returns-in_err-passed-clause-err g c =
     let so = c.loop-made.invariant in
-    let why = trouble_of c.in_err-passed.field-0.0 in
-    let P : Trouble → Type 0 = λ e.
+    let why = unanswered_of c.in_err-passed.field-0.0 in
+    let P : Unanswered → Type 0 = λ e.
     (bytes : List ℕ) × Fails g.O.Opening.opening c.args.debugger.now (commands.Go c.args.count) bytes e c.pass.new.debugger
     × IsOutputWritten e (g.W.Write.contents c.args.out.now) (g.W.Write.contents c.loop-made.out) bytes in
     at_err c.from_residual.result why P (
@@ -43,7 +43,7 @@ returns-in_err-put-clause-err g c =
     let so = c.loop-made.invariant in
     let passed = c.in_ok-passed.ensures.ok in
     let line : List ℕ = c.in_ok-passed.passed.told.bytes.items in
-    let P : Trouble → Type 0 = λ e.
+    let P : Unanswered → Type 0 = λ e.
     (bytes : List ℕ) × Fails g.O.Opening.opening c.args.debugger.now (commands.Go c.args.count) bytes e c.pass.new.debugger
     × IsOutputWritten e (g.W.Write.contents c.args.out.now) (g.W.Write.contents c.put.new.out) bytes in
     at_err c.from_residual-in_err-put.result c.in_err-put.field-0.0 P

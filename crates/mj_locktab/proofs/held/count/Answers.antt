@@ -1,17 +1,23 @@
-use Rattle.std.proofs.Common.{ℕ, Option, refl, sym, ap}
-use Rattle.std.specs.Prelude.{unwrap_or}
-use Rattle.mj_locktab.specs.Locks.{hold_of}
-use Rattle.mj_locktab.proofs.Places.{stands_there, gap_there}
+use Rattle.std.proofs.Common.{Some, None, sym, ap, ◌∙◌, subst}
+use Rattle.mj_locktab.specs.Locks.{Locks, count_of, IsInOrder}
+use Rattle.mj_locktab.proofs.Parts.{count_parts}
+use Rattle.mj_locktab.proofs.Refilled.{part_found}
 use Rattle.mj_locktab.proofs.held.count.Goals as goal
 
-pub returns-in-Ok : goal.returns-in-Ok
-returns-in-Ok c =
-    let held = c.args.held.now in
-    let is = stands_there held held (hold_of c.args.job c.args.name.now) c.in-Ok.at c.requires refl c.in-Ok.ensures.range c.in-Ok.ensures.position in
-    sym (ap (λ (o : Option ℕ). unwrap_or o 0) (is.found c.index-held-at.result))
+pub returns-in-None : goal.returns-in-None
+returns-in-None c =
+    let parts = c.args.parts.now.entries in
+    sym (count_parts parts c.requires c.args.job c.args.name.now ∙ ap (λ (l : Locks). count_of l c.args.job c.args.name.now) (part_found parts c.args.job None c.in-None.ensures.value))
 
-pub returns-in-Err : goal.returns-in-Err
-returns-in-Err c =
-    let held = c.args.held.now in
-    let gap = gap_there held held (hold_of c.args.job c.args.name.now) c.in-Err.field-0 c.requires refl c.in-Err.ensures.range c.in-Err.ensures.position in
-    sym (ap (λ (o : Option ℕ). unwrap_or o 0) gap.absent)
+pub returns-in-Some : goal.returns-in-Some
+returns-in-Some c =
+    let parts = c.args.parts.now.entries in
+    c.count.ensures
+    ∙ ap (λ (l : Locks). count_of l c.args.job c.args.name.now) c.deref.ensures.value
+    ∙ sym (count_parts parts c.requires c.args.job c.args.name.now
+    ∙ ap (λ (l : Locks). count_of l c.args.job c.args.name.now) (part_found parts c.args.job (Some c.in-Some.part.now) c.in-Some.ensures.value))
+
+pub count-requires : goal.count-requires
+count-requires c =
+    let parts = c.args.parts.now.entries in
+    subst (λ (l : Locks). IsInOrder l) (part_found parts c.args.job (Some c.in-Some.part.now) c.in-Some.ensures.value ∙ sym c.deref.ensures.value) (c.requires.each c.args.job).in_order

@@ -1,33 +1,34 @@
-use Rattle.std.proofs.Common.{◌≡◌, ℕ, get_or, set, ap, ◌∙◌, arith}
-use Rattle.std.specs.List.{remove}
-use Rattle.std.proofs.lemmas.List.{set-get_or}
-use Rattle.mj_locktab.specs.declared.hold.Hold.{Hold}
-use Rattle.mj_locktab.specs.Locks.{Locks, hold_of}
-use Rattle.mj_locktab.proofs.Places.{stands_there, gap_there}
-use Rattle.mj_locktab.proofs.Kept.{less_there, gone_there, absent_there}
+use Rattle.std.proofs.Common.{Some, None, sym, ap, ◌∙◌, subst}
+use Rattle.std.specs.Prelude.{is_some}
+use Rattle.mj_locktab.specs.Locks.{Locks}
+use Rattle.mj_locktab.specs.Changes.{one_less}
+use Rattle.mj_locktab.specs.Told.{Follows, stands_of}
+use Rattle.mj_locktab.specs.Parts.{holds_of, IsPart}
+use Rattle.mj_locktab.proofs.Refilled.{refilled, part_found, other_key, given_all, given_none}
 use Rattle.mj_locktab.proofs.held.give.Goals as goal
 
-pub returns-in_default : goal.returns-in_default
-returns-in_default c =
-    let locks = c.args.held.now.items in
-    let h = hold_of c.args.job c.args.name.now in
-    let gap = gap_there locks c.deref.result.now h c.in_default.field-0 c.requires c.deref.ensures.value c.in_default.ensures.range c.in_default.ensures.position in
-    absent_there locks c.args.job c.args.name.now c.in_default.field-0 gap
+-- a job without a part holds nothing
+pub returns-in_default-clause-after : goal.returns-in_default-clause-after
+returns-in_default-clause-after c =
+    let parts = c.args.parts.now.entries in
+    ap (λ m. holds_of m.entries) c.get_mut.follows.holds-at-none
+    ∙ given_none parts c.args.job c.args.name.now c.requires.parts (part_found parts c.args.job None c.in_default.ensures.value)
 
-pub returns-then-entry-gt1 : goal.returns-then-entry-gt1
-returns-then-entry-gt1 c =
-    let locks = c.args.held.now.items in
-    let h = hold_of c.args.job c.args.name.now in
-    let is = stands_there locks c.deref.result.now h c.in-Ok.at c.requires c.deref.ensures.value c.in-Ok.ensures.range c.in-Ok.ensures.position in
-    less_there locks c.args.job c.args.name.now c.in-Ok.at c.index_mut-entry.result.now is c.index_mut-entry.ensures.value c.if-entry-gt1.true
+pub give-requires : goal.give-requires
+give-requires c =
+    let parts = c.args.parts.now.entries in
+    subst (IsPart c.args.job) (part_found parts c.args.job (Some c.in-Some.part.now) c.in-Some.ensures.value) (c.requires.parts.each c.args.job)
 
-pub returns-else-entry-gt1 : goal.returns-else-entry-gt1
-returns-else-entry-gt1 c =
-    let locks = c.args.held.now.items in
-    let h = hold_of c.args.job c.args.name.now in
-    let is = stands_there locks c.deref.result.now h c.in-Ok.at c.requires c.deref.ensures.value c.in-Ok.ensures.range c.in-Ok.ensures.position in
-    let e = c.index_mut-entry.result.now in
-    let here : e ≡ get_or locks c.in-Ok.at e = c.index_mut-entry.ensures.value in
-    c.remove-gone.ensures.items
-    ∙ ap (λ (l : Locks). remove l c.in-Ok.at) (ap (λ (x : Hold × ℕ). set locks c.in-Ok.at x) here ∙ set-get_or locks c.in-Ok.at e)
-    ∙ gone_there locks c.args.job c.args.name.now c.in-Ok.at c.index_mut-entry.result.now is c.index_mut-entry.ensures.value (omega (arith, c.if-entry-gt1.false))
+pub returns : goal.returns
+returns c =
+    let parts = c.args.parts.now.entries in
+    let new = (c.get_mut.follows.lender c.give.new.part).entries in
+    let holds = c.get_mut.follows.holds c.give.new.part in
+    let found = part_found parts c.args.job (Some c.in-Some.part.now) c.in-Some.ensures.value in
+    let updates = holds.3 (ap (λ o. is_some o) (sym c.in-Some.ensures.value)) in
+    let change = refilled parts new c.args.job c.give.new.part updates.1 (λ j other. updates.2 j (other_key c.args.job j other)) in
+    let follows = subst (λ (l : Locks). Follows (stands_of c.args.index.now) (stands_of c.give.new.index) l c.give.new.part.items c.args.job c.args.name.now) (sym found) c.give.ensures.follows in
+    let after = c.give.ensures.after ∙ ap (λ (l : Locks). one_less l c.args.job c.args.name.now) (sym found) in
+    let all = given_all parts new c.args.job c.args.name.now c.give.new.part.items c.requires.parts change holds.4
+    (stands_of c.args.index.now) (stands_of c.give.new.index) c.requires.told follows after in
+    record { after = all.0; parts = all.1.0; told = all.1.1 }

@@ -1,6 +1,9 @@
-use Rattle.std.proofs.Common.{◌≡◌, take, map}
+use Rattle.std.proofs.Common.{◌≡◌, ◌++◌, map}
 use Rattle.mj_locktab.specs.Locks.{job_of, name_of}
+use Rattle.mj_locktab.specs.Parts.{holds_of}
 use Rattle.mj_locktab.proofs.held.list.Given as goal
 
-abbrev pub invariant-loop-hold : goal.invariant-loop-hold
-invariant-loop-hold l = l.list.items ≡ map (λ e. (job_of e.0, name_of e.0, e.1)) (take l.hold-index l.held)
+-- the list so far and what the jobs that are left add to it are all
+abbrev pub invariant-loop-part : goal.invariant-loop-part
+invariant-loop-part l =
+    l.list.items ++ map (λ e. (job_of e.0, name_of e.0, e.1)) (holds_of l.part-iterator) ≡ map (λ e. (job_of e.0, name_of e.0, e.1)) (holds_of l.parts.entries)

@@ -1,41 +1,64 @@
-use Rattle.std.proofs.Common.{◌≡◌, ◌<◌, ◌≤◌, refl, ap, ◌∙◌, arith}
-use Rattle.std.specs.List.{insert}
-use Rattle.mj_subs.specs.Name.{Name}
-use Rattle.mj_locktab.specs.Locks.{Locks, hold_of, names_of}
-use Rattle.mj_locktab.specs.declared.held.TheConstants.{HOLDS_LIMIT}
-use Rattle.mj_locktab.proofs.Places.{stands_there, gap_there}
-use Rattle.mj_locktab.proofs.Kept.{held_over, held_more, new_over, new_one}
+use Rattle.std.proofs.Common.{◌≡◌, ◌≤◌, Some, OnErr, sym, ap, ◌∙◌, subst}
+use Rattle.std.specs.Prelude.{IfOk, is_some}
+use Rattle.std.specs.FinMap.{find}
+use Rattle.mj_locktab.specs.Locks.{Locks, hold_of, hold_cmp, names_of, is_past_limit}
+use Rattle.mj_locktab.specs.Changes.{one_more}
+use Rattle.mj_locktab.specs.Tries.{TakeLeaves}
+use Rattle.mj_locktab.specs.Trees.{tally_of, along}
+use Rattle.mj_locktab.specs.Told.{Tell, IsFree, Follows, stands_of}
+use Rattle.mj_locktab.specs.Parts.{holds_of, IsPart}
+use Rattle.mj_locktab.proofs.Parts.{over_part}
+use Rattle.mj_locktab.proofs.Refilled.{refilled, part_found, other_key, taken_all, room_there, free_there}
 use Rattle.mj_locktab.proofs.held.take.Goals as goal
 
-pub returns-then-entry-clause-ok : goal.returns-then-entry-clause-ok
-returns-then-entry-clause-ok c =
-    let h = hold_of c.args.job c.args.name.now in
-    let is = stands_there c.args.held.now.items c.deref.result.now h c.in-Ok.at c.requires.order c.deref.ensures.value c.in-Ok.ensures.range c.in-Ok.ensures.position in
-    held_over c.args.held.now.items c.args.job c.args.name.now c.requires.order c.requires.within c.in-Ok.at c.index_mut-entry.result.now is c.index_mut-entry.ensures.value c.if-entry.true
+-- what the job's part asks for
+pub take-requires-clause-part : goal.take-requires-clause-part
+take-requires-clause-part c =
+    let parts = c.open.new.parts.entries in
+    subst (IsPart c.args.job) (part_found parts c.args.job (Some c.in-Some.part.now) c.in-Some.ensures.value) (c.open.ensures.parts.each c.args.job)
 
-pub returns-else-entry-clause-ok : goal.returns-else-entry-clause-ok
-returns-else-entry-clause-ok c =
-    let h = hold_of c.args.job c.args.name.now in
-    let is = stands_there c.args.held.now.items c.deref.result.now h c.in-Ok.at c.requires.order c.deref.ensures.value c.in-Ok.ensures.range c.in-Ok.ensures.position in
-    held_more c.args.held.now.items c.args.job c.args.name.now c.requires.order c.requires.within c.in-Ok.at c.index_mut-entry.result.now is c.index_mut-entry.ensures.value (omega arith)
+pub take-requires-clause-within : goal.take-requires-clause-within
+take-requires-clause-within c =
+    let parts = c.open.new.parts.entries in
+    let within = ap (λ (l : Locks). is_past_limit l c.args.job) c.open.ensures.same ∙ c.requires.within in
+    ap (λ (l : Locks). is_past_limit l c.args.job) (sym (part_found parts c.args.job (Some c.in-Some.part.now) c.in-Some.ensures.value))
+    ∙ (over_part parts c.args.job c.args.name.now c.open.ensures.parts within).0
 
-pub returns-then-names_of-ge-HOLDS_LIMIT-clause-ok : goal.returns-then-names_of-ge-HOLDS_LIMIT-clause-ok
-returns-then-names_of-ge-HOLDS_LIMIT-clause-ok c =
-    let locks = c.args.held.now.items in
-    let gap = gap_there locks c.deref.result.now (hold_of c.args.job c.args.name.now) c.in-Err.at c.requires.order c.deref.ensures.value c.in-Err.ensures.range c.in-Err.ensures.position in
-    let names : c.names_of.result ≡ names_of locks c.args.job = c.names_of.ensures ∙ ap (λ (l : Locks). names_of l c.args.job) c.deref-in-Err.ensures.value in
-    let full : HOLDS_LIMIT ≤ names_of locks c.args.job = omega (arith, c.if-names_of-ge-HOLDS_LIMIT.true, names) in
-    (refl, new_over locks c.args.job c.args.name.now c.requires.order c.requires.within c.in-Err.at gap full)
+pub take-requires-clause-room : goal.take-requires-clause-room
+take-requires-clause-room c = λ p.
+    let parts = c.open.new.parts.entries in
+    let told = subst (Tell (stands_of c.args.index.now)) (sym c.open.ensures.same) c.requires.told in
+    subst (λ (l : Locks). tally_of (along (stands_of c.args.index.now) c.args.name.now p) c.args.job ≤ names_of l c.args.job)
+    (part_found parts c.args.job (Some c.in-Some.part.now) c.in-Some.ensures.value) (room_there (stands_of c.args.index.now) parts c.args.job c.args.name.now c.open.ensures.parts told p)
 
-pub returns-in_ok-insert-in-Err-clause-ok : goal.returns-in_ok-insert-in-Err-clause-ok
-returns-in_ok-insert-in-Err-clause-ok c =
-    let locks = c.args.held.now.items in
-    let gap = gap_there locks c.deref.result.now (hold_of c.args.job c.args.name.now) c.in-Err.at c.requires.order c.deref.ensures.value c.in-Err.ensures.range c.in-Err.ensures.position in
-    let names : c.names_of.result ≡ names_of locks c.args.job = c.names_of.ensures ∙ ap (λ (l : Locks). names_of l c.args.job) c.deref-in-Err.ensures.value in
-    let room : names_of locks c.args.job < HOLDS_LIMIT = omega (arith, c.if-names_of-ge-HOLDS_LIMIT.false, names) in
-    let r = new_one locks c.args.job c.args.name.now c.requires.order c.requires.within c.in-Err.at gap room in (
-      c.in_ok-insert-in-Err.ensures.items
-          ∙ ap (λ (n : Name). insert locks c.in-Err.at (hold_of c.args.job n, 1)) c.in_ok-try_clone-in-Err.ensures
-          ∙ r.0,
-      r.1,
-    )
+pub take-requires-clause-free : goal.take-requires-clause-free
+take-requires-clause-free c = λ none.
+    let parts = c.open.new.parts.entries in
+    let told = subst (Tell (stands_of c.args.index.now)) (sym c.open.ensures.same) c.requires.told in
+    let free = subst (λ (l : Locks). IsFree l c.args.job c.args.name.now) (sym c.open.ensures.same) c.requires.free in
+    free_there (stands_of c.args.index.now) parts c.args.job c.args.name.now c.open.ensures.parts told free
+    (ap (λ (l : Locks). find hold_cmp (hold_of c.args.job c.args.name.now) l) (part_found parts c.args.job (Some c.in-Some.part.now) c.in-Some.ensures.value) ∙ none)
+
+-- what its change is for all holds
+pub returns-in-Some : goal.returns-in-Some
+returns-in-Some c =
+    let parts = c.open.new.parts.entries in
+    let new = (c.get_mut.follows.lender c.take.new.part).entries in
+    let holds = c.get_mut.follows.holds c.take.new.part in
+    let found = part_found parts c.args.job (Some c.in-Some.part.now) c.in-Some.ensures.value in
+    let updates = holds.3 (ap (λ o. is_some o) (sym c.in-Some.ensures.value)) in
+    let change = refilled parts new c.args.job c.take.new.part updates.1 (λ j other. updates.2 j (other_key c.args.job j other)) in
+    let told = subst (Tell (stands_of c.args.index.now)) (sym c.open.ensures.same) c.requires.told in
+    let free = subst (λ (l : Locks). IsFree l c.args.job c.args.name.now) (sym c.open.ensures.same) c.requires.free in
+    let within = ap (λ (l : Locks). is_past_limit l c.args.job) c.open.ensures.same ∙ c.requires.within in
+    let follows = subst (λ (l : Locks). Follows (stands_of c.args.index.now) (stands_of c.take.new.index) l c.take.new.part.items c.args.job c.args.name.now) (sym found) c.take.ensures.follows in
+    let ok = subst (λ (l : Locks). IfOk c.take.result (λ taken. TakeLeaves l (one_more l c.args.job c.args.name.now) c.args.job taken c.take.new.part.items)) (sym found) c.take.ensures.ok in
+    let err = subst (λ (l : Locks). OnErr c.take.result (c.take.new.part.items ≡ l)) (sym found) c.take.ensures.err in
+    let all = taken_all parts new c.args.job c.args.name.now c.take.new.part.items c.open.ensures.parts change holds.4 (stands_of c.args.index.now) (stands_of c.take.new.index) told follows
+    c.take.result free within ok err in
+    record {
+      ok = subst (λ (l : Locks). IfOk c.take.result (λ taken. TakeLeaves l (one_more l c.args.job c.args.name.now) c.args.job taken (holds_of new))) c.open.ensures.same all.0.0;
+      err = subst (λ (l : Locks). OnErr c.take.result (holds_of new ≡ l)) c.open.ensures.same all.0.1;
+      parts = all.1.0;
+      told = all.1.1;
+    }

@@ -1,11 +1,11 @@
 use Rattle.std.specs.Prelude.{All}
 use Rattle.std.proofs.Common.{ℕ, ◌≤◌, List, map, sym, ap, ◌∙◌, subst}
-use Rattle.mj_replica.specs.Replicas.{shelf_of}
+use Rattle.mj_replica.specs.Replicas.{counted_shelf}
 use Rattle.mj_replica.proofs.Whole.{counts_say, counts_some}
 use Rattle.mj_replica.proofs.replica.keep.Goals as goal
 
 pub returns-clause-pool : goal.returns-clause-pool
-returns-clause-pool g c = ap (λ l. map shelf_of l) c.in_ok-counts.ensures.counts ∙ counts_say c.args.pool.now c.requires
+returns-clause-pool g c = ap (λ l. map counted_shelf l) c.in_ok-counts.ensures.counts ∙ counts_say c.args.pool.now c.requires
 
 pub returns-clause-counted : goal.returns-clause-counted
 returns-clause-counted g c =

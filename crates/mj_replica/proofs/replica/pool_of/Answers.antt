@@ -1,7 +1,7 @@
 use Rattle.std.specs.Prelude.{slice_index_or}
 use Rattle.std.proofs.Common.{ℕ, ◌-◌, List, ◌∷◌, length, sym, ap, ◌∙◌, subst}
 use Rattle.mj_dev.specs.Shelves.{Shelf, IsBelow}
-use Rattle.mj_replica.specs.Replicas.{shelf_of}
+use Rattle.mj_replica.specs.Replicas.{counted_shelf}
 use Rattle.mj_replica.proofs.Pools.{so_far_below, so_far_on}
 use Rattle.mj_replica.proofs.replica.pool_of.Goals as goal
 
@@ -15,6 +15,6 @@ add-requires-clause-below c =
 pub loop-left-preserved : goal.loop-left-preserved
 loop-left-preserved c =
     let e = c.index-counts-counts.result in
-    c.in_ok-add.ensures ∙ ap (λ (x : List ℕ × ℕ). shelf_of x ∷ c.loop-left.pool) c.index-counts-counts.is
-    ∙ ap (λ l. shelf_of (slice_index_or c.args.counts.now (length c.args.counts.now - 1 - c.loop-left.left) e) ∷ l) c.loop-left.invariant
+    c.in_ok-add.ensures ∙ ap (λ (x : List ℕ × ℕ). counted_shelf x ∷ c.loop-left.pool) c.index-counts-counts.is
+    ∙ ap (λ l. counted_shelf (slice_index_or c.args.counts.now (length c.args.counts.now - 1 - c.loop-left.left) e) ∷ l) c.loop-left.invariant
     ∙ so_far_on c.args.counts.now c.loop-left.left e c.loop-left-test.true

@@ -7,8 +7,7 @@ use Rattle.mj_core.specs.Shown.{Shown}
 use Rattle.mj_steps.specs.Driven.{ByList}
 use Rattle.mj_fit.specs.Laws.{NoneIsHeld}
 use Rattle.mj_serial.specs.Laws.{IsAsAlone, AllMustClash}
-use Rattle.mj_run.specs.declared.jobs.TheConstants.{STEPS_LIMIT}
-use Rattle.mj_run.specs.Stepping.{StepsAs, IsInTurn, AreSteps}
+use Rattle.mj_run.specs.Stepping.{StepsAs, IsInTurn, in_turn_limit, AreSteps}
 use Rattle.mj_run.proofs.Stepping.{image_of, steps_image}
 use Rattle.mj_run.proofs.running.run_jobs.Goals as goal
 
@@ -36,8 +35,8 @@ pub returns-clause-in_turn : goal.returns-clause-in_turn
 returns-clause-in_turn g c =
     let tells = IsToldBy g.D.Device.inside g.D.Device.failures g.D.Device.taken g.D.Device.given g.D.Device.IsTold in
     let opening = g.O.Opening.opening in
-    let P : Shown → Type 0 = λ old. IfNone c.args.steps (IsInTurn tells opening STEPS_LIMIT old c.go-ending.result c.jobs.inside.core) in
-    let Q : Shown → Type 0 = λ new. IfNone c.args.steps (IsInTurn tells opening STEPS_LIMIT c.in_ok-core.core c.go-ending.result new) in
+    let P : Shown → Type 0 = λ old. IfNone c.args.steps (IsInTurn tells opening in_turn_limit old c.go-ending.result c.jobs.inside.core) in
+    let Q : Shown → Type 0 = λ new. IfNone c.args.steps (IsInTurn tells opening in_turn_limit c.in_ok-core.core c.go-ending.result new) in
     subst P c.in_ok-core.ensures.ok (subst Q (sym c.jobs.view_is) c.go-ending.ensures.in_turn)
 
 pub returns-clause-gives : goal.returns-clause-gives

@@ -4,14 +4,15 @@ use Rattle.std.proofs.lemmas.Result.{IfOk-weaker}
 use Rattle.mj_subs.specs.Name.{Name}
 use Rattle.mj_semantics.specs.Functions.{optional}
 use Rattle.mj_semantics.specs.Outcome.{Timed, given, fault}
-use Rattle.mj_semantics.specs.Evaluation.{named_for, about}
+use Rattle.mj_semantics.specs.Evaluation.{is_global, filled_for, named_for, about}
 use Rattle.mj_pcode.specs.Machine.{Next, operands}
-use Rattle.mj_machine.specs.Kept.{context_of, stack_of, state_of, replied}
+use Rattle.mj_machine.specs.Kept.{context_of, stack_of, state_of}
 use Rattle.mj_machine.proofs.Asks.{does_as, given_is}
+use Rattle.mj_variable_ops.proofs.Named.{named_kind}
 use Rattle.mj_variable_ops.proofs.about.about_named.Goals as goal
 
 pub returns-in-Err-clause-ok : goal.returns-in-Err-clause-ok
-returns-in-Err-clause-ok c = λ all u.
+returns-in-Err-clause-ok c = λ reply all u.
     let old = c.args.machine.now in
     let f = c.args.function in
     let r = c.args.reference.now in
@@ -23,9 +24,9 @@ returns-in-Err-clause-ok c = λ all u.
     let is : named_for f r.scope r.word (operands r.count (drop k (stack_of old))) ≡ Err c.in-Err.fault =
     sym (c.in_ok-name.ensures ∙ ap (named_for f r.scope r.word) under) ∙ c.in-Err.is in
     does_as (λ next. given (named_for f r.scope r.word (operands r.count (drop k (stack_of old)))) (whole next)) (λ next. fault c.in-Err.fault)
-    old (replied c.args.given) c.fail.result c.fail.new.machine
+    old reply c.fail.result c.fail.new.machine
     (λ next n back replies. given_is (named_for f r.scope r.word (operands r.count (drop k (stack_of old)))) (Err c.in-Err.fault) (whole next) n back (state_of old) replies is)
-    (c.fail.ensures (replied c.args.given))
+    (c.fail.ensures reply)
 
 pub returns-clause-ok : goal.returns-clause-ok
 returns-clause-ok c =
@@ -45,9 +46,15 @@ returns-clause-ok c =
     c.as_ref.ensures.value
     ∙ c.in_ok-other.ensures
     ∙ ap (optional 0) (c.topmost.ensures ∙ ap (λ l. operands k (reverse l)) c.deref-2.ensures.value) in
-    IfOk-weaker c.inquire.result _ _
-    (λ step d all u. does_as (λ next. given (named_for f r.scope r.word (operands r.count (drop k (stack_of old)))) (whole next)) (λ next. about f x o (rest next))
-    old (replied c.args.given) step _
+    IfOk-weaker c.inquire-step.result _ _
+    (λ step d reply all u. does_as (λ next. given (named_for f r.scope r.word (operands r.count (drop k (stack_of old)))) (whole next)) (λ next. about f x o (rest next))
+    old reply step _
     (λ next n back replies. given_is (named_for f r.scope r.word (operands r.count (drop k (stack_of old)))) (Ok x) (whole next) n back (state_of old) replies is
-    ∙ ap (λ t. about f x t (rest next) n back (state_of old) replies) (sym same)) d)
-    c.inquire.ensures.ok
+    ∙ ap (λ t. about f x t (rest next) n back (state_of old) replies) (sym same)) (d reply))
+    c.inquire-step.ensures.ok
+
+pub inquire-step-requires-clause-local : goal.inquire-step-requires-clause-local
+inquire-step-requires-clause-local c = λ asks.
+    let r = c.args.reference.now in
+    let ss = c.topmost-subscripts.result.now in
+    named_kind r.scope r.word (filled_for c.args.function ss) ss c.in-Ok.name (sym c.in_ok-name.ensures ∙ c.in-Ok.is) ∙ ap is_global (c.requires.here asks)

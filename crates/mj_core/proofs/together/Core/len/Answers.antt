@@ -1,5 +1,6 @@
 use Rattle.std.proofs.Common.{◌≤◌, ℕ, length, None, sym, ap, ◌∙◌, subst}
 use Rattle.mj_load.specs.Image.{routines_of}
+use Rattle.mj_jobs.specs.Rows.{rows_limit}
 use Rattle.mj_sys.specs.System.{history_limit}
 use Rattle.mj_core.specs.Runs.{IsRun}
 use Rattle.mj_core.specs.Shown.{Shown}
@@ -35,8 +36,8 @@ returns-clause-over g c = sym (ap (λ (s : Shown). length s.over) c.self.view_is
 
 pub returns-clause-spent : goal.returns-clause-spent
 returns-clause-spent g c =
-    sym (ap (λ (s : Shown). length s.spent) c.self.view_is) ∙ each_long 0 (λ (s : Placed g.row.A.Denot). s.job.run.spent) 255 c.self.inside.slots.items
+    sym (ap (λ (s : Shown). length s.spent) c.self.view_is) ∙ each_long 0 (λ (s : Placed g.row.A.Denot). s.job.run.spent) rows_limit c.self.inside.slots.items
 
 pub returns-clause-stands : goal.returns-clause-stands
 returns-clause-stands g c =
-    sym (ap (λ (s : Shown). length s.stands) c.self.view_is) ∙ each_long None (λ (s : Placed g.row.A.Denot). stand_of s) 255 c.self.inside.slots.items
+    sym (ap (λ (s : Shown). length s.stands) c.self.view_is) ∙ each_long None (λ (s : Placed g.row.A.Denot). stand_of s) rows_limit c.self.inside.slots.items

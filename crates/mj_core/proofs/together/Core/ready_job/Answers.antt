@@ -1,6 +1,7 @@
 use Rattle.std.proofs.Common.{◌≡◌, suc, List, length, false, true, sym, ap, ◌∙◌, subst}
 use Rattle.std.proofs.lemmas.List.{with_items_is}
 use Rattle.mj_jobvm.specs.Jobs.{Running}
+use Rattle.mj_jobs.specs.Rows.{rows_limit}
 use Rattle.mj_core.specs.Woven.{woven}
 use Rattle.mj_core.specs.Gives.{GivesReady}
 use Rattle.mj_core.specs.Asking.{turn_of, IsAtAsk}
@@ -25,7 +26,7 @@ admit-requires-clause-row g c =
     let ans = g.A.Answerer.answering in
     let opening = g.O.Opening.opening in
     let i = c.self.inside in
-    row_within ans i.image opening i.system i.slots.items (claim_of i.waiting) i.order.items c.self.invariant.0 i.over.items 255 c.args.self.now c.self.view_is c.args.job c.in-Some.at
+    row_within ans i.image opening i.system i.slots.items (claim_of i.waiting) i.order.items c.self.invariant.0 i.over.items rows_limit c.args.self.now c.self.view_is c.args.job c.in-Some.at
     c.in-Some.ensures.some.0 c.in-Some.ensures.some.2
 
 pub returns-in_default-admit-clause-gives : goal.returns-in_default-admit-clause-gives
@@ -44,7 +45,7 @@ returns-clause-gives g c =
     let opening = g.O.Opening.opening in
     let i = c.self.inside in
     let long : length c.go_ready.new.slots ≡ c.admit.new.slots.len = c.go_ready.auto.slots ∙ ap (λ l. length l) c.deref_mut.ensures.value ∙ sym c.admit.new.slots.ok.0 in
-    let P : List (Placed g.row.A.Denot) → Type 0 = λ l. GivesReady opening c.args.self.now c.args.job (turn_of c.go_ready.result) (shown i.image l i.order.items i.over.items 255) in
+    let P : List (Placed g.row.A.Denot) → Type 0 = λ l. GivesReady opening c.args.self.now c.args.job (turn_of c.go_ready.result) (shown i.image l i.order.items i.over.items rows_limit) in
     subst P (sym (with_items_is c.admit.new.slots c.go_ready.new.slots long)) (
     readied ans i.image opening i.system i.slots.items (claim_of i.waiting) i.order.items c.self.invariant.0 i.over.items c.args.self.now c.self.view_is c.args.job c.in-Some.at
     c.in-Some.ensures.some.0 c.in-Some.ensures.some.2

@@ -1,6 +1,7 @@
 use Rattle.std.specs.Prelude.{slice_get}
 use Rattle.std.proofs.Common.{◌≡◌, ◌<◌, ◌≤◌, suc, length, None, Some, refl, sym, ap, ◌∙◌, arith}
 use Rattle.std.proofs.lemmas.Option.{slice_get_read, slice_get_past}
+use Rattle.mj_jobs.specs.Rows.{rows_limit}
 use Rattle.mj_sys.specs.History.{state_of, log_of}
 use Rattle.mj_core.specs.Woven.{woven}
 use Rattle.mj_core.proofs.Logs.{silent_zero}
@@ -52,6 +53,6 @@ returns-in-Some-get-clause-some g c =
     ∙ slice_get_read c.deref.result.now (length c.deref.result.now) at c.in-Some-get.slot.now refl within lookup.1 in
     let bound = c.rows-rows.ensures.bound in
     let value = c.rows-rows.ensures.value in
-    let few : length (state_of g.O.Opening.opening i.system.history).rows ≤ 255 = omega (arith, bound, value) in
+    let few : length (state_of g.O.Opening.opening i.system.history).rows ≤ rows_limit = omega (arith, bound, value) in
     seen_slot g.A.Answerer.answering i.image g.O.Opening.opening i.system i.slots.items (claim_of i.waiting) i.order.items c.self.invariant.0 i.over.items c.args.self.now c.self.view_is
     job at is few c.in-Some-get.slot.now here

@@ -55,8 +55,8 @@ returns-then-not-is_breakpoint-clause-none g c =
     ∙ ap (λ (m : List BreakMark). is_breakpoint c.image.result.now m line) (sym c.deref.ensures.value) ∙ sym c.is_breakpoint.ensures in
     no_breakpoint opening now c.args.job found c.requires.asks.1 before stood line there (bp ∙ c.if-not-is_breakpoint.true)
 
-pub returns-then-is_at-clause-none : goal.returns-then-is_at-clause-none
-returns-then-is_at-clause-none g c =
+pub returns-then-is_on_line-clause-none : goal.returns-then-is_on_line-clause-none
+returns-then-is_on_line-clause-none g c =
     let opening = g.O.Opening.opening in
     let now = c.args.self.now in
     let found = c.requires.asks.0 in
@@ -71,8 +71,8 @@ returns-then-is_at-clause-none g c =
     ap (λ (w : Walk). is_breakpoint w.core.image w.marks line) (sym c.self.view_is)
     ∙ ap (λ (i : Loaded). is_breakpoint i c.self.inside.marks.items line) (sym c.image.ensures)
     ∙ ap (λ (m : List BreakMark). is_breakpoint c.image.result.now m line) (sym c.deref.ensures.value) ∙ sym c.is_breakpoint.ensures in
-    let at : is_there line (place_of before.run.at.state) ≡ c.is_at.result = ap (λ (p : Option Place). is_there line p) (sym c.place.ensures) ∙ sym c.is_at.ensures in
-    from_there opening now c.args.job found c.requires.asks.1 before stood line there (bp ∙ c.if-not-is_breakpoint.false) (at ∙ c.if-is_at.true)
+    let at : is_there line (place_of before.run.at.state) ≡ c.is_on_line.result = ap (λ (p : Option Place). is_there line p) (sym c.place.ensures) ∙ sym c.is_on_line.ensures in
+    from_there opening now c.args.job found c.requires.asks.1 before stood line there (bp ∙ c.if-not-is_breakpoint.false) (at ∙ c.if-is_on_line.true)
 
 pub returns-clause-some : goal.returns-clause-some
 returns-clause-some g c =
@@ -90,5 +90,5 @@ returns-clause-some g c =
     ap (λ (w : Walk). is_breakpoint w.core.image w.marks line) (sym c.self.view_is)
     ∙ ap (λ (i : Loaded). is_breakpoint i c.self.inside.marks.items line) (sym c.image.ensures)
     ∙ ap (λ (m : List BreakMark). is_breakpoint c.image.result.now m line) (sym c.deref.ensures.value) ∙ sym c.is_breakpoint.ensures in
-    let at : is_there line (place_of before.run.at.state) ≡ c.is_at.result = ap (λ (p : Option Place). is_there line p) (sym c.place.ensures) ∙ sym c.is_at.ensures in
-    stops_there opening now c.args.job found c.requires.asks.1 before stood line there (bp ∙ c.if-not-is_breakpoint.false) (at ∙ c.if-is_at.false)
+    let at : is_there line (place_of before.run.at.state) ≡ c.is_on_line.result = ap (λ (p : Option Place). is_there line p) (sym c.place.ensures) ∙ sym c.is_on_line.ensures in
+    stops_there opening now c.args.job found c.requires.asks.1 before stood line there (bp ∙ c.if-not-is_breakpoint.false) (at ∙ c.if-is_on_line.false)

@@ -119,6 +119,6 @@ returns-in_ok-try_clone-in-Some-2-clause-ok g c =
       transactions = i.transacted.transactions;
     } in
     let v : Service = record { state = s; claimed = i.jobs.claimed } in
-    rw (← c.self.view_is, c.busy.ensures)
+    rw (← c.self.view_is, c.widened.ensures, c.busy.ensures)
     (others v a.job a.name.now a.timeout a.late d c.in-Some-2.holder c.in_ok-try_clone-in-Some-2.field-0 c.in_ok-try_clone-in-Some-2.ensures e p.device
     (sym c.index.ensures ∙ c.in-Some-2.is) (λ is. c.if-holder-job.false (same_Some c.in-Some-index.holder c.in-Some-2.holder (sym c.in-Some-index.is ∙ c.in-Some-2.is) ∙ is)))

@@ -2,7 +2,10 @@ use Rattle.std.proofs.Common.{◌≡◌, refl, sym, ap, ◌∙◌, subst}
 use Rattle.mj_ask.specs.declared.ask.SharedAsk.TheVariants as shared_asks
 use Rattle.mj_sys.specs.Transactions.{Transacted, transaction_of, with_transaction}
 use Rattle.mj_sys.specs.Shared.{Shared}
-use Rattle.mj_sys.specs.Kept.{Service, ComesOfAsk, devices_of, transaction_after_try}
+use Rattle.mj_dev.specs.Heard.{Heard}
+use Rattle.mj_sys.specs.declared.shared.Answered.{Answered}
+use Rattle.mj_sys.specs.declared.shared.Outcome.{Outcome}
+use Rattle.mj_sys.specs.Kept.{Service, ComesOfAsk, outcome_as, devices_of, transaction_after_try}
 use Rattle.mj_sys.proofs.Trying.{outcome, comes}
 use Rattle.mj_sys.proofs.shared.Shared.try_take.Goals as goal
 use Rattle.mj_sys.proofs.shared.Shared.try_take.Goals.{in-Got, in-Limit, in-Busy}
@@ -22,14 +25,15 @@ returns-clause-ok g c =
     } in
     let all = comes s i.jobs.claimed job list c.args.timeout c.args.late taken c.try_take-taken.new.locks.holds left
     c.in_ok-taken.ensures.taken c.in_ok-taken.ensures.locks c.in_ok-taken.ensures.meaning refl in
-    let is : c.match-branch-2.result ≡ outcome s i.jobs.claimed job list c.args.timeout c.args.late taken = elim c.match-branch-2.branch [
-      | in-Got w ↦ w.result-is ∙ ap (outcome s i.jobs.claimed job list c.args.timeout c.args.late) (sym w.in-Got.is)
-      | in-Limit w ↦ w.result-is ∙ ap (outcome s i.jobs.claimed job list c.args.timeout c.args.late) (sym w.in-Limit.is)
-      | in-Busy w ↦ w.result-is ∙ w.busy.ensures ∙ ap (outcome s i.jobs.claimed job list c.args.timeout c.args.late) (sym w.in-Busy.is)
+    let wide : Answered → Outcome Heard = λ a. outcome_as a in
+    let is : wide c.match-branch-2.result ≡ outcome s i.jobs.claimed job list c.args.timeout c.args.late taken = elim c.match-branch-2.branch [
+      | in-Got w ↦ ap wide w.result-is ∙ ap (outcome s i.jobs.claimed job list c.args.timeout c.args.late) (sym w.in-Got.is)
+      | in-Limit w ↦ ap wide w.result-is ∙ ap (outcome s i.jobs.claimed job list c.args.timeout c.args.late) (sym w.in-Limit.is)
+      | in-Busy w ↦ ap wide (w.result-is ∙ w.busy.ensures) ∙ ap (outcome s i.jobs.claimed job list c.args.timeout c.args.late) (sym w.in-Busy.is)
     ] in
     let late = c.args.late in
     let old : Service = record { state = s; claimed = i.jobs.claimed } in
-    let told = c.match-branch-2.result in
+    let told = wide c.match-branch-2.result in
     let asked = shared_asks.Try c.args.names.now c.args.timeout in
     let behind : Service = of (record { globals = i.transacted.globals; transactions = left }) in
     subst (λ v. ComesOfAsk v job asked late told (of c.try_take-taken.new.self)) c.self.view_is

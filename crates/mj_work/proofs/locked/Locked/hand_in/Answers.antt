@@ -1,6 +1,6 @@
 use Rattle.std.proofs.Common.{ap, ◌∙◌, ◌≡◌, ◌++◌, ◌∷◌, []}
 use Rattle.std.proofs.lemmas.List.Elements.{All-push, All-same}
-use Rattle.mj_work.specs.Rans.{Kept}
+use Rattle.mj_gather.specs.Rans.{Kept}
 use Rattle.mj_work.specs.Working.{is_cut}
 use Rattle.mj_work.proofs.Standing.{cut_on}
 use Rattle.mj_work.proofs.locked.Locked.hand_in.Goals as goal

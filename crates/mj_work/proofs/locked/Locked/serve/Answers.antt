@@ -1,6 +1,6 @@
 use Rattle.std.proofs.Common.{◌≤◌, ℕ, sym, ◌∙◌, subst}
 use Rattle.mj_jobs.specs.Rows.{rows_limit}
-use Rattle.mj_work.proofs.Locking.{claimed_still, was_served, claim_still}
+use Rattle.mj_work.proofs.Locking.{claimed_still, was_served, claim_still, refused_in, was_refused}
 use Rattle.mj_work.proofs.locked.Locked.serve.Goals as goal
 
 pub invariant_of-self-clause-counted : goal.invariant_of-self-clause-counted
@@ -25,3 +25,12 @@ pub returns-clause-err : goal.returns-clause-err
 returns-clause-err g c =
     claim_still g.O.Opening.opening c.args.self.now.system c.serve_at.new.system c.args.claim.now c.serve_at.new.claim c.args.ask.now c.args.place.now c.args.late
     c.serve_at.result c.serve_at.ensures.kept
+
+pub returns-clause-refused : goal.returns-clause-refused
+returns-clause-refused g c = refused_in g.O.Opening.opening c.args.self.now.system c.args.claim.now c.serve_at.result c.serve_at.ensures.refused
+
+pub returns-clause-was_refused : goal.returns-clause-was_refused
+returns-clause-was_refused g c =
+    let opening = g.O.Opening.opening in
+    was_refused opening c.args.self.now.system c.args.claim.now c.serve_at.result
+    (refused_in opening c.args.self.now.system c.args.claim.now c.serve_at.result c.serve_at.ensures.refused)

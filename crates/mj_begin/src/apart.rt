@@ -1,0 +1,109 @@
+// Files that are written are apart from all others of a run.
+
+use mj_command_line::Run;
+use mj_drafts::{Place, ProgramError, is_stream, path_of, place_of};
+use mj_files::Named;
+use std::fs;
+use std::os::unix::fs::MetadataExt;
+use std::rt::Files;
+
+/// Sees that what is saved and the trace go to no file that the run reads or writes besides: not to each other, and not to the files of the routines, of
+/// the steps, of devices and of the standard streams. The listing that is saved may take the place of the one that was read; the trace may not.
+pub fn written_apart<'a, R: Files + AllocGlobal>(
+    rt: &R,
+    order: &Run<'a>,
+    devices: &[Named<'_>],
+) -> Result<(), ProgramError<'a>> {
+    if let Some(save) = order.save {
+        apart_from_read(rt, save, order, devices)?;
+    }
+    let Some(trace) = order.trace else {
+        return Ok(());
+    };
+    apart_from_read(rt, trace, order, devices)?;
+    apart_from(rt, trace, order.globals)?;
+    apart_from(rt, trace, order.save)
+}
+
+// Sees that a file isn't one of a routine, of the steps, of a device or of a standard stream.
+fn apart_from_read<'a, R: Files + AllocGlobal>(
+    rt: &R,
+    name: &'a str,
+    order: &Run<'_>,
+    devices: &[Named<'_>],
+) -> Result<(), ProgramError<'a>> {
+    for file in &order.files {
+        apart_from(rt, name, Some(*file))?;
+    }
+    for device in devices {
+        apart_from(rt, name, Some(device.file))?;
+    }
+    apart_from(rt, name, order.steps)?;
+    if is_stream(name) {
+        // What goes to a stream by its own name is meant to.
+        return Ok(());
+    }
+    for stream in ["/dev/stdin", "/dev/stdout", "/dev/stderr"] {
+        apart_from(rt, name, Some(stream))?;
+    }
+    Ok(())
+}
+
+// Sees that a file isn't another one.
+fn apart_from<'a, R: Files + AllocGlobal>(
+    rt: &R,
+    name: &'a str,
+    other: Option<&str>,
+) -> Result<(), ProgramError<'a>> {
+    let Some(other) = other else {
+        return Ok(());
+    };
+    if is_same(rt, name, other)? {
+        Err(ProgramError::Value(name))
+    } else {
+        Ok(())
+    }
+}
+
+// Whether two names lead to one file, or to the place of one. Where one of them leads nowhere, that is told when the file is read or written.
+fn is_same<'a, R: Files + AllocGlobal>(
+    rt: &R,
+    name: &'a str,
+    other: &str,
+) -> Result<bool, ProgramError<'a>> {
+    match place_of(rt, name) {
+        Ok(Place::Own(path, None)) => is_path_of(rt, path.as_str(), other),
+        Ok(_) => Ok(is_one_file(rt, name, other)),
+        Err(ProgramError::Memory) => Err(ProgramError::Memory),
+        Err(_) => Ok(false),
+    }
+}
+
+// Whether the place where a file will be is that of another name. A link that leads nowhere may lead there, once it is written to: it counts as one that does.
+fn is_path_of<'a, R: Files + AllocGlobal>(
+    rt: &R,
+    path: &str,
+    other: &str,
+) -> Result<bool, ProgramError<'a>> {
+    match path_of(rt, other) {
+        Ok(found) => Ok(path == found.as_str() || leads_nowhere(rt, found.as_str())),
+        Err(ProgramError::Memory) => Err(ProgramError::Memory),
+        Err(_) => Ok(false),
+    }
+}
+
+// Whether a path is that of a link that leads nowhere. A stream leads somewhere, though it has no path.
+fn leads_nowhere<R: Files>(files: &R, path: &str) -> bool {
+    match (fs::symlink_metadata(files, path), fs::metadata(files, path)) {
+        (Ok(found), Err(_)) => found.is_symlink(),
+        _ => false,
+    }
+}
+
+// Whether two names lead to one file that is there, by whichever paths.
+fn is_one_file<R: Files>(files: &R, name: &str, other: &str) -> bool {
+    match (fs::metadata(files, name), fs::metadata(files, other)) {
+        (Ok(one), Ok(two)) => one.is_file() && one.dev() == two.dev() && one.ino() == two.ino(),
+        _ => false,
+    }
+}

@@ -1,6 +1,0 @@
-use Rattle.mj_sys.specs.Opening.{opening_of}
-use Rattle.mj_main.proofs.debugs.debug_from.Given as goal
-
--- the opening is that of what the run begins with
-abbrev pub ghosts-with_files : goal.ghosts-with_files
-ghosts-with_files g a = record { opening = opening_of a.globals.content a.pool a.starts.items }

@@ -1,6 +1,0 @@
-use Rattle.std.proofs.Common.{◌≡◌}
-use Rattle.mj_work.specs.Lent.{lent, logs_from}
-use Rattle.mj_work.proofs.gathering.logs_of.Given as goal
-
-abbrev pub invariant-loop-at : goal.invariant-loop-at
-invariant-loop-at l = lent l.logs.items ≡ logs_from l.rans 1 l.at

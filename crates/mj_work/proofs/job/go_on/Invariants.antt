@@ -1,6 +1,0 @@
-use Rattle.mj_work.specs.Working.{IsAt}
-use Rattle.mj_work.proofs.job.go_on.Given as goal
-
-abbrev pub invariant-loop : goal.invariant-loop
-invariant-loop g l =
-    (goal.iterator-loop g).can_next l.iterator' × (goal.iterator-loop g).is_finite l.iterator' × IsAt g.A.Answerer.answering l.image l.claim l.halted l.job l.answerer
