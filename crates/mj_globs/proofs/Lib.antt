@@ -2,8 +2,9 @@ pub mod Groups
 pub mod Spelled
 pub mod Changed
 pub mod Both
-pub mod Keeping
 pub mod Restores
 pub mod Parts
 pub mod Gathered
 pub mod Walked
+pub mod Stamping
+pub mod Lists

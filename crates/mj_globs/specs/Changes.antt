@@ -1,8 +1,8 @@
 -- What a list of changes leaves.
-use Rattle.std.specs.Prelude.{ℕ, Bool, false, List}
-use Rattle.std.specs.List.{filter, fold, list_any}
-use Rattle.std.specs.Str.{bytes_eq}
-use Rattle.mj_store.specs.Questions.{Content}
+use Rattle.std.specs.Prelude.{Bool, false, List}
+use Rattle.std.specs.List.{fold, list_any}
+use Rattle.mj_subs.specs.Name.{Name}
+use Rattle.mj_store.specs.Questions.{Content, same_word}
 use Rattle.mj_store.specs.Changes.{after_set, after_kill, after_put, is_too_deep}
 use Rattle.mj_globs.specs.declared.change.Change.{Change}
 use Rattle.mj_globs.specs.declared.change.Change.TheVariants as change
@@ -23,6 +23,11 @@ goes_too_deep (change.Set n text) = false
 goes_too_deep (change.Kill n) = false
 goes_too_deep (change.Put n nodes) = is_too_deep n nodes
 
--- all names go but those whose word is one of these
-abbrev pub keeping : List (List ℕ) → Content → Content
-keeping words content = filter (λ e. list_any (bytes_eq e.0.word) words) content
+-- whether a change is to a name of this name's word, and whether one of a list is
+abbrev pub is_to : Change → Name → Bool
+is_to (change.Set n text) m = same_word n m
+is_to (change.Kill n) m = same_word n m
+is_to (change.Put n nodes) m = same_word n m
+
+abbrev pub are_to : List Change → Name → Bool
+are_to changes m = list_any (λ c. is_to c m) changes

@@ -14,7 +14,7 @@ abbrev pub Words : Type 0
 Words = List (List ℕ × Subtree)
 
 -- the words by their bytes
-abbrev pub spelled : List (Vec ℕ Global × Subtree) → Words
+abbrev pub spelled : {X : Type 0} → List (Vec ℕ Global × X) → List (List ℕ × X)
 spelled es = map (λ k. (k.0.items, k.1)) es
 
 -- the name of a kind with a word and subscripts

@@ -7,14 +7,16 @@
 ghost use Rattle.std.specs.Prelude.{◌≡◌, [], IfOk, OnOk, OnErr};
 ghost use Rattle.std.specs.List.{list_any};
 ghost use Rattle.mj_subs.specs.Collation.{name_cmp};
-ghost use Rattle.mj_store.specs.Questions.{value_at};
+ghost use Rattle.mj_store.specs.Questions.{value_at, same_word};
 ghost use Rattle.mj_store.specs.Changes.{after_set, after_put, followed_by};
 ghost use Rattle.mj_tree.specs.Undo.{undone};
-ghost use Rattle.mj_globs.specs.Changes.{after_changes};
+ghost use Rattle.mj_globs.specs.Changes.{after_changes, is_to, are_to};
+ghost use Rattle.mj_globs.specs.Stamps.{Rises, KeepsStamps};
 ghost use Rattle.mj_globs.specs.Parts.{changed_without_name, all_given, all_taken, is_rewritten};
 
 use crate::change::Change;
-use crate::globals::{Globals, with};
+use crate::globals::Globals;
+use crate::texts::with;
 use mj_store::Store;
 use mj_subs::{Name, Subs};
 use mj_text::Text;
@@ -27,6 +29,8 @@ type Log = Vec<(Name, Option<Text>)>;
 pub fn make_all(globals: &mut Globals, changes: &[Change]) -> Result<(), AllocError>
     ensures ok { OnOk result (globals.new.content ≡ after_changes globals.old.content changes.now) }
     ensures err { OnErr result (globals.new.content ≡ globals.old.content) }
+    ensures stamps { Rises globals.old globals.new }
+    ensures others { OnOk result (KeepsStamps (are_to changes.now) globals.old.stamps globals.new.stamps) }
 {
     let alone = alone(globals.allocator(), changes)?;
     if is_any_rewritten(&alone, changes) {
@@ -59,6 +63,8 @@ fn alone(alloc: Global, changes: &[Change]) -> Result<Globals, AllocError>
 fn make_on_copy(globals: &mut Globals, changes: &[Change]) -> Result<(), AllocError>
     ensures ok { OnOk result (globals.new.content ≡ after_changes globals.old.content changes.now) }
     ensures err { OnErr result (globals.new.content ≡ globals.old.content) }
+    ensures stamps { Rises globals.old globals.new }
+    ensures others { OnOk result (KeepsStamps (are_to changes.now) globals.old.stamps globals.new.stamps) }
 {
     let mut changed = globals.try_clone()?;
     make_each(&mut changed, changes)?;
@@ -68,7 +74,9 @@ fn make_on_copy(globals: &mut Globals, changes: &[Change]) -> Result<(), AllocEr
 
 // Makes the changes in order. After an error some are made.
 fn make_each(globals: &mut Globals, changes: &[Change]) -> Result<(), AllocError>
-    ensures { OnOk result (globals.new.content ≡ after_changes globals.old.content changes.now) }
+    ensures content { OnOk result (globals.new.content ≡ after_changes globals.old.content changes.now) }
+    ensures stamps { Rises globals.old globals.new }
+    ensures others { OnOk result (KeepsStamps (are_to changes.now) globals.old.stamps globals.new.stamps) }
 {
     for change in changes {
         if globals.make(change).is_err() {
@@ -98,6 +106,8 @@ fn is_rewritten(alone: &Globals, change: &Change) -> bool
 fn give_all(globals: &mut Globals, changes: &[Change], log: &mut Log) -> Result<(), AllocError>
     ensures ok { OnOk result (globals.new.content ≡ all_given globals.old.content changes.now) }
     ensures before { undone name_cmp log.new.items globals.new.content ≡ undone name_cmp log.old.items globals.old.content }
+    ensures stamps { Rises globals.old globals.new }
+    ensures others { KeepsStamps (are_to changes.now) globals.old.stamps globals.new.stamps }
 {
     for change in changes {
         give(globals, change, log)?;
@@ -109,6 +119,8 @@ fn give_all(globals: &mut Globals, changes: &[Change], log: &mut Log) -> Result<
 fn give(globals: &mut Globals, change: &Change, log: &mut Log) -> Result<(), AllocError>
     ensures ok { OnOk result (globals.new.content ≡ changed_without_name globals.old.content change.now) }
     ensures before { undone name_cmp log.new.items globals.new.content ≡ undone name_cmp log.old.items globals.old.content }
+    ensures stamps { Rises globals.old globals.new }
+    ensures others { KeepsStamps (is_to change.now) globals.old.stamps globals.new.stamps }
 {
     match change {
         Change::Set(name, text) => exchange(globals, name.try_clone()?, text, log),
@@ -126,6 +138,8 @@ fn give_nodes(
 ) -> Result<(), AllocError>
     ensures ok { OnOk result (globals.new.content ≡ after_put globals.old.content name.now nodes.now) }
     ensures before { undone name_cmp log.new.items globals.new.content ≡ undone name_cmp log.old.items globals.old.content }
+    ensures stamps { Rises globals.old globals.new }
+    ensures others { KeepsStamps (same_word name.now) globals.old.stamps globals.new.stamps }
 {
     for node in nodes {
         let place = followed_by(name, &node.0)?;
@@ -138,6 +152,8 @@ fn give_nodes(
 fn exchange(globals: &mut Globals, name: Name, text: &Text, log: &mut Log) -> Result<(), AllocError>
     ensures ok { OnOk result (globals.new.content ≡ after_set globals.old.content name text.now) }
     ensures before { undone name_cmp log.new.items globals.new.content ≡ undone name_cmp log.old.items globals.old.content }
+    ensures stamps { Rises globals.old globals.new }
+    ensures others { KeepsStamps (same_word name) globals.old.stamps globals.new.stamps }
 {
     globals.rises();
     let before = text_of(globals, &name)?;
@@ -164,7 +180,8 @@ fn text_of(globals: &Globals, name: &Name) -> Result<Option<Text>, AllocError>
 
 // Takes back what a log says.
 fn undo(globals: &mut Globals, log: Log)
-    ensures { globals.new.content ≡ undone name_cmp log.items globals.old.content }
+    ensures content { globals.new.content ≡ undone name_cmp log.items globals.old.content }
+    ensures stamps { Rises globals.old globals.new }
 {
     let mut left = log;
     while let Some((name, before)) = left.pop() {
@@ -174,7 +191,9 @@ fn undo(globals: &mut Globals, log: Log)
 
 // Takes the names that the changes take.
 fn take_all(globals: &mut Globals, changes: &[Change])
-    ensures { globals.new.content ≡ all_taken globals.old.content changes.now }
+    ensures content { globals.new.content ≡ all_taken globals.old.content changes.now }
+    ensures stamps { Rises globals.old globals.new }
+    ensures others { KeepsStamps (are_to changes.now) globals.old.stamps globals.new.stamps }
 {
     for change in changes {
         if let Change::Kill(name) = change {

@@ -6,7 +6,7 @@ use crate::told::Told;
 use mj_ask::{Ask, Reply, SharedAsk};
 use mj_gfile::{read, write};
 use mj_globs::Globals;
-use mj_store::Access;
+use mj_store::{Access, Store};
 use mj_text::Failure;
 use mj_txlog::{Skips, TxLog};
 use mj_txn::{Outcome, commit};
@@ -15,7 +15,10 @@ use std::alloc::{AllocError, Global};
 // What stands before.
 const BEFORE: &[u8] = b"mj-globals 1\n^A(1)=\"1\"\n^A(2)=\"2\"\n^B=\"0\"\n";
 
-// What another job has changed when the transaction that clashes is committed.
+// What another job does before the transaction that clashes is committed, and what stands then.
+const CHANGES: &str = "2 set ^B \"a text that is so long that it has room of its own\" done
+";
+
 const CHANGED: &[u8] =
     b"mj-globals 1\n^A(1)=\"1\"\n^A(2)=\"2\"\n^B=\"a text that is so long that it has room of its own\"\n";
 
@@ -36,30 +39,33 @@ const SERIAL: &str = "1 value ^B \"0\"
 /// Transactions are committed, and clash.
 pub fn make_all(alloc: Global, told: &mut Told) -> Result<(), Failure> {
     told.put(b"writes are committed")?;
-    make(alloc, told, false, WRITES, BEFORE)?;
+    make(alloc, told, false, WRITES, "", BEFORE)?;
     told.put(b"a serial transaction is committed")?;
-    make(alloc, told, true, SERIAL, BEFORE)?;
+    make(alloc, told, true, SERIAL, "", BEFORE)?;
     told.put(b"a serial transaction clashes")?;
-    make(alloc, told, true, SERIAL, CHANGED)
+    make(alloc, told, true, SERIAL, CHANGES, CHANGED)
 }
 
-// Makes these accesses on what stands before, and commits them on the globals of a listing.
+// Makes these accesses on what stands before, then others without a transaction, and commits the first ones on what stands then.
 fn make(
     alloc: Global,
     told: &mut Told,
     serial: bool,
     events: &str,
+    others: &str,
     listing: &[u8],
 ) -> Result<(), Failure> {
-    let script = script(alloc, events)?;
+    let mut globals = listed(alloc, BEFORE)?;
     let mut log = TxLog::new(alloc, serial);
-    let made = access_all(alloc, told, &mut log, script.events());
-    drop(script);
-    let done = match made {
-        Ok(()) => commit_on(alloc, told, &log, listing),
+    let done = match access_all(alloc, told, &mut log, &globals, events) {
+        Ok(()) => match change_all(alloc, &mut globals, others) {
+            Ok(()) => Ok(commit_these(alloc, told, &log, &mut globals, listing)?),
+            Err(failure) => Err(failure),
+        },
         Err(failure) => Err(failure),
     };
     drop(log);
+    drop(globals);
     done
 }
 
@@ -67,12 +73,30 @@ fn access_all(
     alloc: Global,
     told: &mut Told,
     log: &mut TxLog,
-    events: &[(u32, Ask, Reply)],
+    globals: &Globals,
+    events: &str,
 ) -> Result<(), Failure> {
-    let globals = listed(alloc, BEFORE)?;
-    let done = access_each(alloc, told, log, &globals, events);
-    drop(globals);
+    let script = script(alloc, events)?;
+    let done = access_each(alloc, told, log, globals, script.events());
+    drop(script);
     Ok(done?)
+}
+
+// Gives names the texts that they get in these events.
+fn change_all(alloc: Global, globals: &mut Globals, events: &str) -> Result<(), Failure> {
+    let script = script(alloc, events)?;
+    let done = change_each(globals, script.events());
+    drop(script);
+    Ok(done?)
+}
+
+fn change_each(globals: &mut Globals, events: &[(u32, Ask, Reply)]) -> Result<(), AllocError> {
+    for (_, ask, _) in events {
+        if let Ask::Shared(SharedAsk::Access(Access::Set(name, text))) = ask {
+            globals.set(name, text)?;
+        }
+    }
+    Ok(())
 }
 
 fn access_each(
@@ -120,13 +144,6 @@ fn see(
     told.hold(b"access", b"once more, memory", done)
 }
 
-fn commit_on(alloc: Global, told: &mut Told, log: &TxLog, listing: &[u8]) -> Result<(), Failure> {
-    let mut globals = listed(alloc, listing)?;
-    let done = commit_these(alloc, told, log, &mut globals, listing);
-    drop(globals);
-    Ok(done?)
-}
-
 // Commits: once more where memory was refused, and the globals are as before.
 fn commit_these(
     alloc: Global,
@@ -135,6 +152,9 @@ fn commit_these(
     globals: &mut Globals,
     listing: &[u8],
 ) -> Result<(), AllocError> {
+    if !log.follows(globals)? {
+        return told.put(b"the transaction doesn't follow the globals");
+    }
     may_refuse(alloc);
     let first = commit(log, globals);
     may_not_refuse(alloc);
@@ -145,6 +165,9 @@ fn commit_these(
             let put = told.refused(b"commit", after.as_slice() == listing);
             drop(after);
             put?;
+            if !log.follows(globals)? {
+                return told.put(b"the transaction doesn't follow the globals any more");
+            }
             let again = commit(log, globals)?;
             put_outcome(alloc, told, again, globals)
         }

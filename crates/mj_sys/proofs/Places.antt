@@ -1,13 +1,13 @@
 -- The place of a job's transaction.
-use Rattle.std.proofs.Common.{◌≡◌, ℕ, zero, suc, ◌+◌, ◌-◌, ◌≤◌, ◌<◌, Bool, true, false, cond, List, [], ◌∷◌, ◌++◌, length, replicate, take, get_or, Option, Some, None, refl, sym, ap, ◌∙◌, subst, arith}
+use Rattle.std.proofs.Common.{◌≡◌, ℕ, zero, suc, ◌+◌, ◌-◌, ◌≤◌, ◌<◌, Bool, true, false, cond, List, []}
+use Rattle.std.proofs.Common.{◌∷◌, ◌++◌, length, replicate, take, get_or, Option, Some, None, refl, sym, ap, ◌∙◌, subst, arith}
 use Rattle.std.specs.Prelude.{slice_set, Result, Ok, Err, OnErr}
 use Rattle.std.specs.List.{slice_index_or}
 use Rattle.mj_store.specs.declared.access.Answer.TheVariants as answers
 use Rattle.mj_ask.specs.declared.ask.Reply.TheVariants as replies
 use Rattle.mj_txlog.specs.Accesses.{Transaction, is_full, unlock_reply}
-use Rattle.mj_txlog.specs.Logged.{Logged}
 use Rattle.mj_store.specs.Questions.{Content}
-use Rattle.mj_sys.specs.Transactions.{Transactions, Transacted, transaction_of, with_transaction, logged, all_logged, unlock_told}
+use Rattle.mj_sys.specs.Transactions.{Transactions, Transacted, Ongoing, transaction_of, with_transaction, logged, all_logged, unlock_told}
 use Rattle.mj_subs.specs.Name.{Name}
 use Rattle.mj_locktab.specs.declared.taken.Taken.{Taken}
 use Rattle.mj_locktab.specs.declared.taken.Taken.TheVariants as takes
@@ -84,31 +84,31 @@ taken_some t names takes.Limit = refl
 
 -- ---- the transactions of logs
 
-pub seen_length : (logs : List (Option Logged)) → length (all_logged logs) ≡ length logs
+pub seen_length : (logs : List (Option Ongoing)) → length (all_logged logs) ≡ length logs
 seen_length [] = refl
 seen_length (l ∷ logs) = ap suc (seen_length logs)
 
-seen_at : (logs : List (Option Logged)) (k : ℕ) → slice_index_or (all_logged logs) k None ≡ logged (slice_index_or logs k None)
+seen_at : (logs : List (Option Ongoing)) (k : ℕ) → slice_index_or (all_logged logs) k None ≡ logged (slice_index_or logs k None)
 seen_at [] zero = refl
 seen_at [] (suc k) = refl
 seen_at (l ∷ logs) zero = refl
 seen_at (l ∷ logs) (suc k) = seen_at logs k
 
-pub seen_set : (logs : List (Option Logged)) (k : ℕ) (l : Option Logged) → all_logged (slice_set logs k l) ≡ slice_set (all_logged logs) k (logged l)
+pub seen_set : (logs : List (Option Ongoing)) (k : ℕ) (l : Option Ongoing) → all_logged (slice_set logs k l) ≡ slice_set (all_logged logs) k (logged l)
 seen_set [] zero l = refl
 seen_set [] (suc k) l = refl
 seen_set (x ∷ logs) zero l = refl
 seen_set (x ∷ logs) (suc k) l = ap (λ ts. logged x ∷ ts) (seen_set logs k l)
 
 -- a log is put back of which the transaction is the same
-set_like : (logs : List (Option Logged)) (k : ℕ) (old own : Option Logged) → old ≡ get_or logs k old → logged own ≡ logged old → all_logged (slice_set logs k own) ≡ all_logged logs
+set_like : (logs : List (Option Ongoing)) (k : ℕ) (old own : Option Ongoing) → old ≡ get_or logs k old → logged own ≡ logged old → all_logged (slice_set logs k own) ≡ all_logged logs
 set_like [] zero old own at is = refl
 set_like [] (suc k) old own at is = refl
 set_like (x ∷ logs) zero old own at is = ap (λ t. t ∷ all_logged logs) (is ∙ ap logged at)
 set_like (x ∷ logs) (suc k) old own at is = ap (λ ts. logged x ∷ ts) (set_like logs k old own at is)
 
 -- where nothing was done, the globals and the transactions are as they were
-pub nothing_done : {T E : Type 0} (r : Result T E) (globals globals' : Content) (logs : List (Option Logged)) (k : ℕ) (old own : Option Logged) (v : Transacted)
+pub nothing_done : {T E : Type 0} (r : Result T E) (globals globals' : Content) (logs : List (Option Ongoing)) (k : ℕ) (old own : Option Ongoing) (v : Transacted)
     → old ≡ get_or logs k old → OnErr r ((globals' ≡ globals) × (logged own ≡ logged old)) → record { globals = globals; transactions = all_logged logs } ≡ v
     → OnErr r (record { globals = globals'; transactions = all_logged (slice_set logs k own) } ≡ v)
 nothing_done (Ok x) globals globals' logs k old own v at done is = tt
@@ -117,39 +117,39 @@ nothing_done (Err e) globals globals' logs k old own v at done is =
     subst (λ g. P g (all_logged (slice_set logs k own))) (sym done.0) (subst (λ ts. P globals ts) (sym (set_like logs k old own at done.1)) is)
 
 -- the log at a job's place, and the logs where it is this one
-abbrev pub log_of : List (Option Logged) → ℕ → Option Logged
+abbrev pub log_of : List (Option Ongoing) → ℕ → Option Ongoing
 log_of logs zero = None
 log_of logs (suc k) = slice_index_or logs k None
 
-abbrev pub with_log : List (Option Logged) → ℕ → Option Logged → List (Option Logged)
+abbrev pub with_log : List (Option Ongoing) → ℕ → Option Ongoing → List (Option Ongoing)
 with_log logs zero l = logs
 with_log logs (suc k) l = slice_set logs k l
 
-pub seen_of : (logs : List (Option Logged)) (job : ℕ) → transaction_of (all_logged logs) job ≡ logged (log_of logs job)
+pub seen_of : (logs : List (Option Ongoing)) (job : ℕ) → transaction_of (all_logged logs) job ≡ logged (log_of logs job)
 seen_of logs zero = refl
 seen_of logs (suc k) = seen_at logs k
 
-pub seen_with : (logs : List (Option Logged)) (job : ℕ) (l : Option Logged) → with_transaction (all_logged logs) job (logged l) ≡ all_logged (with_log logs job l)
+pub seen_with : (logs : List (Option Ongoing)) (job : ℕ) (l : Option Ongoing) → with_transaction (all_logged logs) job (logged l) ≡ all_logged (with_log logs job l)
 seen_with logs zero l = refl
 seen_with logs (suc k) l = sym (seen_set logs k l)
 
-pub seen_without : (logs : List (Option Logged)) (job : ℕ) → with_transaction (all_logged logs) job None ≡ all_logged (with_log logs job None)
+pub seen_without : (logs : List (Option Ongoing)) (job : ℕ) → with_transaction (all_logged logs) job None ≡ all_logged (with_log logs job None)
 seen_without logs job = seen_with logs job None
 
 -- one log more, of no transaction
-pub seen_more : (logs : List (Option Logged)) → all_logged (logs ++ None ∷ []) ≡ all_logged logs ++ None ∷ []
+pub seen_more : (logs : List (Option Ongoing)) → all_logged (logs ++ None ∷ []) ≡ all_logged logs ++ None ∷ []
 seen_more [] = refl
 seen_more (x ∷ logs) = ap (λ ts. logged x ∷ ts) (seen_more logs)
 
-seen_take : (logs : List (Option Logged)) (n : ℕ) → all_logged (take n logs) ≡ take n (all_logged logs)
+seen_take : (logs : List (Option Ongoing)) (n : ℕ) → all_logged (take n logs) ≡ take n (all_logged logs)
 seen_take logs zero = refl
 seen_take [] (suc n) = refl
 seen_take (x ∷ logs) (suc n) = ap (λ ts. logged x ∷ ts) (seen_take logs n)
 
-pub seen_front : (logs left : List (Option Logged)) (n : ℕ) → left ≡ take n logs → all_logged left ≡ take n (all_logged logs)
+pub seen_front : (logs left : List (Option Ongoing)) (n : ℕ) → left ≡ take n logs → all_logged left ≡ take n (all_logged logs)
 seen_front logs left n is = ap all_logged is ∙ seen_take logs n
 
 -- the last log is gone
-pub seen_fewer : (logs left : List (Option Logged)) (n : ℕ) → n ≡ length logs → left ≡ take (n - 1) logs
+pub seen_fewer : (logs left : List (Option Ongoing)) (n : ℕ) → n ≡ length logs → left ≡ take (n - 1) logs
     → all_logged left ≡ take (length (all_logged logs) - 1) (all_logged logs)
 seen_fewer logs left n all is = seen_front logs left (n - 1) is ∙ ap (λ m. take (m - 1) (all_logged logs)) (all ∙ sym (seen_length logs))

@@ -1,42 +1,34 @@
--- What the reads of open transactions have passed over, as it is kept beside them.
-use Rattle.std.specs.Prelude.{◌≡◌, ℕ, ◌+◌, ◌<◌, ◌≤◌, nat_lt, List, [], length, slice_get, Option, Some, None, if◌then◌else◌}
-use Rattle.std.specs.List.{slice_index_or}
-use Rattle.mj_store.specs.Questions.{Content}
-use Rattle.mj_txlog.specs.Accesses.{Transaction}
-use Rattle.mj_txlog.specs.Skips.{AreSkips, gone_by}
-use Rattle.mj_sys.specs.Transactions.{Transactions, with_transaction}
-use Rattle.mj_sys.specs.declared.passed.Passed.{Passed}
+-- What is so of the transactions that are open on globals: they follow them, and what their reads have passed over isn't to be seen.
+use Rattle.std.specs.Prelude.{◌≡◌, ◌≤◌, ℕ, true, List, [], ◌∷◌, Option, Some, None, ⊤}
+use Rattle.mj_subs.specs.Name.{Name}
+use Rattle.mj_store.specs.Questions.{Content, value_at}
+use Rattle.mj_globs.specs.Stamps.{Stamped, stamp_at, is_still}
+use Rattle.mj_txlog.specs.Follows.{Follows}
+use Rattle.mj_txlog.specs.Skips.{AreBare, front, last, gone_by}
+use Rattle.mj_sys.specs.Transactions.{Ongoing}
+use Rattle.mj_sys.specs.declared.passed.PassedWord.{PassedWord}
 
--- so many changes of the globals are counted (this profile)
-abbrev pub changes_limit : ℕ
-changes_limit = 18446744073709551615
+-- What a transaction passed over, at a stamp of its word. As long as that stands still, none of it is to be seen
+pub record IsPassed (globals : Stamped) (gone : Content) (p : PassedWord) : Type 0 where
+  pub behind : (n : Name) (d : List ℕ) → value_at p.skips n ≡ Some d → p.at ≤ stamp_at globals.stamps n
+  pub still : (n : Name) (d : List ℕ) → value_at p.skips n ≡ Some d → is_still p.at (stamp_at globals.stamps n) ≡ true
+      → AreBare globals.content gone (front n) (last n.subscripts) d
 
--- one change more. At the end it stays so
-abbrev pub counted : ℕ → ℕ
-counted changes = if nat_lt changes changes_limit then changes + 1 else changes
+-- so it is for each word
+abbrev pub ArePassed : Stamped → Content → List PassedWord → Type 0
+ArePassed globals gone [] = ⊤
+ArePassed globals gone (p ∷ ps) = IsPassed globals gone p × ArePassed globals gone ps
 
--- The globals before and after, each with the count of their changes: as long as the same count stands, and not that of the end, they are the same
-pub record IsCounted (old : Content) (before : ℕ) (new : Content) (after : ℕ) : Type 0 where
-  pub further : before ≤ after
-  pub same : after ≡ before → after < changes_limit → new ≡ old
+-- the transaction follows these globals, and what it passed over isn't to be seen in them
+pub record IsOpenOn (globals : Stamped) (o : Ongoing) : Type 0 where
+  pub follows : Follows o.log globals
+  pub passed : ArePassed globals (gone_by o.log.transaction.accesses) o.passed
 
--- the names that a transaction killed, none where none is open
-abbrev pub killed_by : Option Transaction → Content
-killed_by None = []
-killed_by (Some t) = gone_by t.accesses
+-- so does that of a row, if its job has one open, and those of all rows
+abbrev pub IsOpen : Stamped → Option Ongoing → Type 0
+IsOpen globals None = ⊤
+IsOpen globals (Some o) = IsOpenOn globals o
 
--- What a transaction passed over at some count of changes. As long as that count stands, and isn't that of the end, none of it is to be seen
-pub record IsPassed (globals : Content) (changes : ℕ) (t : Option Transaction) (p : Passed) : Type 0 where
-  pub before : p.at ≤ changes
-  pub still : p.at ≡ changes → changes < changes_limit → AreSkips globals (killed_by t) p.skips
-
--- so each row has it, for the transaction that its job has open
-pub record ArePassed (globals : Content) (changes : ℕ) (transactions : Transactions) (passed : List Passed) : Type 0 where
-  pub placed : length passed ≡ length transactions
-  pub each : (k : ℕ) (p : Passed) → slice_get passed k ≡ Some p → IsPassed globals changes (slice_index_or transactions k None) p
-
--- it is so still once the job has no transaction
-abbrev pub Forgets : List Passed → ℕ → List Passed → Type 0
-Forgets old job new =
-    (globals : Content) (changes : ℕ) (transactions : Transactions) → ArePassed globals changes transactions old
-    → ArePassed globals changes (with_transaction transactions job None) new
+abbrev pub AreOpen : Stamped → List (Option Ongoing) → Type 0
+AreOpen globals [] = ⊤
+AreOpen globals (o ∷ os) = IsOpen globals o × AreOpen globals os

@@ -14,6 +14,7 @@ use Rattle.mj_locktab.specs.Locks.{Locks}
 use Rattle.mj_txlog.specs.Accesses.{Transaction, is_full, with_unlock, with_gained}
 use Rattle.mj_txlog.specs.Logged.{Logged}
 use Rattle.mj_txlog.specs.declared.entry.Unlock.{Unlock}
+use Rattle.mj_sys.specs.declared.passed.PassedWord.{PassedWord}
 use Rattle.mj_txn.specs.Closing.{told_in, after_told, unlocked_by, rolled_back, Closed, committed}
 
 -- for each job's row the transaction that the job has open, if it has one
@@ -35,13 +36,18 @@ abbrev pub with_transaction : Transactions → ℕ → Option Transaction → Tr
 with_transaction transactions zero t = transactions
 with_transaction transactions (suc k) t = slice_set transactions k t
 
--- the transaction of a log, if there is one, and those of all rows
-abbrev pub logged : Option Logged → Option Transaction
-logged None = None
-logged (Some log) = Some log.transaction
+-- a transaction that a job has open: its log, and what its reads have passed over
+pub record Ongoing : Type 0 where
+  pub log : Logged
+  pub passed : List PassedWord
 
-abbrev pub all_logged : List (Option Logged) → Transactions
-all_logged logs = map logged logs
+-- the transaction of a row, if its job has one open, and those of all rows
+abbrev pub logged : Option Ongoing → Option Transaction
+logged None = None
+logged (Some o) = Some o.log.transaction
+
+abbrev pub all_logged : List (Option Ongoing) → Transactions
+all_logged rows = map logged rows
 
 -- of the globals and the transactions that of a job, and where it is this one, or none
 abbrev pub own_of : Transacted → ℕ → Option Transaction

@@ -15,6 +15,7 @@
 mod accessed;
 mod claim;
 mod event;
+mod ongoing;
 mod opening;
 mod passed;
 mod served;

@@ -18,7 +18,6 @@ ghost use Rattle.mj_sys.specs.Opening.{opening_of};
 ghost use Rattle.mj_sys.specs.Kept.{ComesOfAsk, outcome_as, without};
 
 use crate::opening::Unmade;
-use crate::passed::none_passed;
 use crate::served::Held;
 use crate::transacted::Transacted;
 use crate::transactions::none_open;
@@ -112,13 +111,6 @@ impl<D: Device> Shared<D> {
                 starts,
             });
         };
-        let Ok(passed) = none_passed(alloc, starts.len()) else {
-            return Err(Unmade {
-                globals,
-                pool,
-                starts,
-            });
-        };
         let jobs = match Jobs::of(alloc, starts) {
             Ok(jobs) => jobs,
             Err(starts) => {
@@ -132,7 +124,7 @@ impl<D: Device> Shared<D> {
         let principals = pool.left(&principal(alloc));
         Ok(Shared {
             alloc,
-            transacted: Transacted::new(alloc, globals, logs, passed),
+            transacted: Transacted::new(alloc, globals, logs),
             locks: LockTable::new(alloc),
             pool,
             holders,

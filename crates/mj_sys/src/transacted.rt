@@ -6,62 +6,51 @@ ghost use Rattle.mj_locktab.specs.Tries.{outcome_of as try_of, after_try, TryGiv
 ghost use Rattle.mj_txlog.specs.declared.entry.Unlock.TheVariants as unlocks;
 ghost use Rattle.mj_sys.specs.Transactions.{all_logged, own_of, with_own, twice, told_to, unlock_told, after_unlock, with_waiting, begun_as, locks_back};
 ghost use Rattle.mj_sys.specs.Kept.{transaction_after_try, with_accessed, closed_of, with_closed};
-ghost use Rattle.mj_sys.specs.Passed.{ArePassed};
+ghost use Rattle.mj_sys.specs.Passed.{AreOpen};
 
-use crate::passed::{Passed, forget};
+use crate::accessed::answer;
+use crate::ongoing::Ongoing;
 use crate::transactions::{
-    access_at, begun, commit, outside, place, put_back, roll_back, take_out, try_take, unlock,
-    unlock_all,
+    access_at, begun, commit, place, put_back, roll_back, take_out, try_take, unlock, unlock_all,
 };
 use mj_ask::{Kind, Reply};
 use mj_globs::Globals;
 use mj_locktab::{LockTable, Taken};
-use mj_store::Access;
+use mj_store::{Access, Store};
 use mj_subs::Name;
-use mj_txlog::TxLog;
 use std::alloc::{AllocError, Global};
 use std::marker::Model;
 
-// The globals, and for each row the transaction that its job has open. Beside that stands what its reads have passed over, as long as it, which the
-// type keeps true of the globals as they are.
+// The globals, and for each row the transaction that its job has open. The type keeps that each of these follows the globals, and that what its reads
+// have passed over isn't to be seen in them.
 #[derive(Drop)]
 pub struct Transacted {
     alloc: Global,
     globals: Globals,
-    // how many changes of the globals were counted
-    changes: u64,
-    logs: Vec<Option<TxLog>>,
-    passed: Vec<Passed>,
+    logs: Vec<Option<Ongoing>>,
 }
 
 impl Model for Transacted {
     ghost use Rattle.mj_sys.specs.Transactions.{Transacted, all_logged};
-    ghost use Rattle.mj_sys.specs.Passed.{ArePassed};
+    ghost use Rattle.mj_sys.specs.Passed.{AreOpen};
 
     ghost Value = { Transacted };
 
     ghost view = { λ s. record { globals = s.globals.content; transactions = all_logged s.logs.items } };
 
-    ghost invariant = { λ s. ArePassed s.globals.content s.changes (all_logged s.logs.items) s.passed.items };
+    ghost invariant = { λ s. AreOpen s.globals s.logs.items };
 }
 
 impl Transacted {
-    // These globals, with these transactions open, of which nothing is passed over.
-    pub fn new(
-        alloc: Global,
-        globals: Globals,
-        logs: Vec<Option<TxLog>>,
-        passed: Vec<Passed>,
-    ) -> Transacted
-        requires { ArePassed globals.content 0 (all_logged logs.items) passed.items }
+    // These globals, with these transactions open.
+    pub fn new(alloc: Global, globals: Globals, logs: Vec<Option<Ongoing>>) -> Transacted
+        requires { AreOpen globals logs.items }
         ensures { result ≡ record { globals = globals.content; transactions = all_logged logs.items } }
     {
         Transacted {
             alloc,
             globals,
-            changes: 0,
             logs,
-            passed,
         }
     }
 
@@ -73,14 +62,12 @@ impl Transacted {
     }
 
     // One row more, without a transaction.
-    #[tactic(auto, using(crate::proofs::Places::seen_more, crate::proofs::Passing::rows_more))]
+    #[tactic(auto, using(crate::proofs::Places::seen_more, crate::proofs::Passing::row_more))]
     pub fn add_row(&mut self) -> Result<(), AllocError>
         ensures added { OnOk result (self.new ≡ record { globals = self.old.globals; transactions = self.old.transactions ++ None ∷ [] }) }
         ensures err { OnErr result (self.new ≡ self.old) }
     {
-        self.logs.reserve(1)?;
-        self.passed.push(Passed::new(self.alloc))?;
-        self.logs.push_reserved(None);
+        self.logs.push(None)?;
         Ok(())
     }
 
@@ -89,7 +76,6 @@ impl Transacted {
         ensures { self.new ≡ record { globals = self.old.globals; transactions = take (length self.old.transactions - 1) self.old.transactions } }
     {
         drop(self.logs.pop());
-        drop(self.passed.pop());
     }
 
     // An access, in the job's transaction if it has one open: what it is told, once for the job and once for the history.
@@ -99,15 +85,18 @@ impl Transacted {
         ensures after { OnOk result (self.new ≡ with_accessed self.old job access.now) }
         ensures err { OnErr result (self.new ≡ self.old) }
     {
+        self.globals.rises();
         match place(self.logs.len(), job) {
-            None => outside(&mut self.globals, &mut self.changes, access),
-            Some(at) => access_at(
-                &mut self.logs[at],
-                &mut self.passed[at],
-                &mut self.globals,
-                &mut self.changes,
-                access,
-            ),
+            None => {
+                let told = answer(&mut self.globals, access);
+                self.globals.rises();
+                told
+            }
+            Some(at) => {
+                let told = access_at(&mut self.logs[at], &mut self.globals, access);
+                self.globals.rises();
+                told
+            }
         }
     }
 
@@ -187,10 +176,12 @@ impl Transacted {
         ensures err { OnErr result ((locks.new.holds ≡ locks.old.holds) × (self.new ≡ self.old)) }
     {
         let own = take_out(&mut self.logs, job);
-        match commit(&own, &mut self.globals, &mut self.changes, locks, job) {
+        self.globals.rises();
+        let told = commit(&own, &mut self.globals, locks, job);
+        self.globals.rises();
+        match told {
             Ok(told) => {
                 drop(own);
-                forget(&mut self.passed, job);
                 Ok(told)
             }
             Err(refused) => {
@@ -209,6 +200,5 @@ impl Transacted {
         let own = take_out(&mut self.logs, job);
         roll_back(&own, locks, job);
         drop(own);
-        forget(&mut self.passed, job);
     }
 }

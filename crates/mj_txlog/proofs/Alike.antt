@@ -46,7 +46,7 @@ seen_more g xs e = ap (λ (ws : List Access). after_accesses ws g) (writes_more 
 -- ---- the text of one name
 
 module _ (m : Name) where
-  find_killed : (c : Content) (n : Name) → find name_cmp m (after_kill c n) ≡ cond (is_none (rest_of n m)) (find name_cmp m c) None
+  pub find_killed : (c : Content) (n : Name) → find name_cmp m (after_kill c n) ≡ cond (is_none (rest_of n m)) (find name_cmp m c) None
   find_killed c n = find-where_key name_cmp (λ k. is_none (rest_of n k)) m (λ x e. ap (λ k. is_none (rest_of n k)) (sym (name_cmp-IsAntisymmetric m x e))) c
 
   pub find_set : (c : Content) (n : Name) (v : List ℕ) → find name_cmp m (after_set c n v) ≡ cond (eq_by_cmp name_cmp m n) (Some v) (find name_cmp m c)

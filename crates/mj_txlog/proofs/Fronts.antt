@@ -76,7 +76,7 @@ rest_split n x l e =
     let w = both_true (kinds_eq n.global x.global) (bytes_eq n.word x.word) h.0 in
     λ i. record { global = kinds_same n.global x.global w.0 i; word = (bytes_eq-Decides n.word x.word).0 w.1 i; subscripts = front_split n.subscripts x.subscripts l h.1 i }
 
-word_itself : (n : Name) (p : List (List ℕ)) → same_word n (with_subscripts n p) ≡ true
+pub word_itself : (n : Name) (p : List (List ℕ)) → same_word n (with_subscripts n p) ≡ true
 word_itself n p = and_true (kinds_eq n.global n.global) (bytes_eq n.word n.word) (kind_itself n.global) (bytes_itself n.word)
 
 pub rest_itself : (n : Name) → rest_of n n ≡ Some []

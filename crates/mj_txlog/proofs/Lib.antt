@@ -12,3 +12,6 @@ pub mod Nexts
 pub mod Passing
 pub mod Bare
 pub mod Goes
+pub mod Following
+pub mod Appending
+pub mod Only

@@ -59,7 +59,7 @@ module _ (c d : Content) (g : T (is_sorted name_cmp c)) (h : T (is_sorted name_c
   order_alike n (s ∷ p) way alike =
       ap (λ (t : Subtree). next_past subscript_cmp way (is_empty (last_of s p)) (last_of s p) (first_subscripts t)) (subtree_alike (with_subscripts n (but_last s p)) c d g h alike)
 
-  answer_alike : (a : Access) → is_write a ≡ false → AreAlike (reach_of a) c d → answer_of a c ≡ answer_of a d
+  pub answer_alike : (a : Access) → is_write a ≡ false → AreAlike (reach_of a) c d → answer_of a c ≡ answer_of a d
   answer_alike (access.Value n) r alike = ap answer.Value (alike n (ap is_some (rest_itself n)))
   answer_alike (access.Data n) r alike = ap (λ (t : Subtree). answer.Data (data_of t)) (subtree_alike n c d g h alike)
   answer_alike (access.Order n way) r alike = ap answer.Order (order_alike n n.subscripts way alike)

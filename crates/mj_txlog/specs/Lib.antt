@@ -1,5 +1,6 @@
 pub mod Accesses
 pub mod Logged
+pub mod Follows
 pub mod Sight
 pub mod Skips
 pub mod Laid

@@ -1,8 +1,8 @@
 -- What is seen of the log of an open transaction.
-use Rattle.mj_globs.specs.Stamps.{Stamps}
+use Rattle.std.specs.Prelude.{ℕ, List}
 use Rattle.mj_txlog.specs.Accesses.{Transaction}
 
--- The transaction, and the stamps that the words of its reads had when they were made. A log that takes none has none.
+-- The transaction, and for each of its accesses the stamp that it kept: a read keeps that of its word.
 pub record Logged : Type 0 where
   pub transaction : Transaction
-  pub stamps : Stamps
+  pub stamps : List ℕ

@@ -1,11 +1,11 @@
 -- What the reads of a transaction have passed over: runs of subscripts below names, of which nothing in the globals is to be seen.
-use Rattle.std.specs.Prelude.{◌≡◌, ℕ, Bool, true, false, cond, List, [], ◌∷◌, Some, None}
+use Rattle.std.specs.Prelude.{◌≡◌, ℕ, Bool, true, false, cond, List, [], ◌∷◌, Option, Some, None}
 use Rattle.std.specs.List.{fold}
 use Rattle.std.specs.Ordering.{is_lt}
 use Rattle.mj_subs.specs.Name.{Name}
 use Rattle.mj_subs.specs.Collation.{subscript_cmp}
 use Rattle.mj_store.specs.Nodes.{along, last_of}
-use Rattle.mj_store.specs.Questions.{Content, with_subscripts, value_at}
+use Rattle.mj_store.specs.Questions.{Content, with_subscripts, same_word, value_at}
 use Rattle.mj_store.specs.Changes.{followed_by}
 use Rattle.mj_store.specs.declared.store.Direction.{Direction}
 use Rattle.mj_store.specs.declared.store.Direction.TheVariants as way
@@ -101,3 +101,12 @@ abbrev pub KeepsPassed : Content → Name → Direction → Bool → List ℕ �
 KeepsPassed old f way is_passed at next far new =
     (globals gone : Content) → AreSkips globals gone old → (is_passed ≡ true → AreBareAlong globals gone f way at far)
     → AreBareAlong globals gone f way next far → AreSkips globals gone new
+
+-- all runs are below names of this name's word
+abbrev pub AreWithin : Name → Content → Type 0
+AreWithin n runs = (m : Name) (d : List ℕ) → value_at runs m ≡ Some d → same_word n m ≡ true
+
+-- so they are where a name of that word is at hand, and there are none where it isn't
+abbrev pub AreOf : Option Name → Content → Type 0
+AreOf None runs = runs ≡ []
+AreOf (Some n) runs = AreWithin n runs

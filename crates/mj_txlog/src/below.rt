@@ -8,7 +8,7 @@ ghost use Rattle.mj_txlog.specs.Laid.{with_kept, IsLaid};
 
 use crate::names::followed;
 use crate::overlay::Overlay;
-use mj_globs::Globals;
+use mj_globs::Texts;
 use mj_store::Store;
 use mj_subs::{Name, Subs};
 use mj_text::Text;
@@ -16,15 +16,11 @@ use std::alloc::AllocError;
 
 // A store that is as the globals with the own writes made on them, at the name and below it: what didn't go of what stands there in the globals, and the
 // own texts over it.
-pub(crate) fn seen_below(
-    globals: &Globals,
-    own: &Overlay,
-    name: &Name,
-) -> Result<Globals, AllocError>
-    ensures { IfOk result (λ below. (es : Accesses) → IsLaid own.now es → AreAlike name.now below.content (seen globals.now.content es)) }
+pub(crate) fn seen_below(globals: &Texts, own: &Overlay, name: &Name) -> Result<Texts, AllocError>
+    ensures { IfOk result (λ below. (es : Accesses) → IsLaid own.now es → AreAlike name.now below (seen globals.now es)) }
 {
     globals.rises();
-    let mut below = Globals::new(globals.allocator());
+    let mut below = Texts::new(globals.allocator());
     let nodes = globals.subtree(name)?;
     for node in nodes.as_slice() {
         add_kept(&mut below, own, name, &node.0, &node.1)?;
@@ -41,13 +37,13 @@ pub(crate) fn seen_below(
 
 // Puts a node of the globals to the store, if it didn't go.
 fn add_kept(
-    below: &mut Globals,
+    below: &mut Texts,
     own: &Overlay,
     name: &Name,
     more: &Subs,
     text: &Text,
 ) -> Result<(), AllocError>
-    ensures { OnOk result (below.new.content ≡ with_kept own.now below.old.content (followed_by name.now more.now) text.now) }
+    ensures { OnOk result (below.new ≡ with_kept own.now below.old (followed_by name.now more.now) text.now) }
 {
     let at = followed(below.allocator(), name, more)?;
     let added = match own.went(&at) {

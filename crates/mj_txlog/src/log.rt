@@ -1,16 +1,20 @@
 // The list of a transaction's accesses.
 
-ghost use Rattle.std.specs.Prelude.{◌≡◌, ◌≤◌, [], false, true, length, IfOk, OnOk, OnErr};
+ghost use Rattle.std.specs.Prelude.{◌≡◌, ◌≤◌, ◌∷◌, ◌++◌, [], false, true, cond, length, ◌↔◌, IsTrue, IfOk, OnOk, OnErr};
+ghost use Rattle.mj_globs.specs.Stamps.{Stamped};
 ghost use Rattle.mj_store.specs.Runs.{answer_of};
 ghost use Rattle.mj_txlog.specs.declared.entry.Entry.TheVariants.{Access as access_entry};
 ghost use Rattle.mj_txlog.specs.Accesses.{is_write, is_full, reply_in, seen, with_entry, with_told, with_unlock, unlock_reply, with_gained};
+ghost use Rattle.mj_txlog.specs.Follows.{stamp_kept, with_stamp, Follows, stale_of};
 ghost use Rattle.mj_txlog.specs.Skips.{AreSkips, gone_by};
 
 use crate::entry::{Entry, Unlock, is_refused, is_write};
+use crate::follows::are_following;
 use crate::names::copies_of;
 use crate::overlay::Overlay;
 use crate::sight::answer;
 use crate::skips::Skips;
+use crate::stale::stale_among;
 use mj_globs::Globals;
 use mj_store::{Access, Answer};
 use mj_subs::Name;
@@ -26,6 +30,8 @@ pub struct TxLog {
     alloc: Global,
     serial: bool,
     entries: Vec<Entry>,
+    // for each of them the stamp that its word had when it was made, where it is a read
+    stamps: Vec<u64>,
     // the writes among them, by what they leave
     own: Overlay,
     gained: Vec<Name>,
@@ -42,22 +48,26 @@ impl Model for TxLog {
 
     ghost view = { λ t. record {
       transaction = record { serial = t.serial; accesses = t.entries.items; gained = t.gained.items };
-      stamps = [];
+      stamps = t.stamps.items;
     } };
 
-    ghost invariant = { λ t. (length t.entries.items ≤ ACCESSES_LIMIT) × IsLaid t.own t.entries.items × (t.own.gone ≡ gone_by t.entries.items) };
+    ghost invariant = { λ t.
+        (length t.entries.items ≤ ACCESSES_LIMIT) × IsLaid t.own t.entries.items × (t.own.gone ≡ gone_by t.entries.items)
+        × (length t.stamps.items ≡ length t.entries.items) };
 }
 
 impl TxLog {
     /// A transaction that has just begun.
     #[tactic(auto, using(crate::proofs::Laid::none_laid))]
     pub fn new(alloc: Global, serial: bool) -> TxLog
-        ensures { result.transaction ≡ record { serial = serial; accesses = []; gained = [] } }
+        ensures transaction { result.transaction ≡ record { serial = serial; accesses = []; gained = [] } }
+        ensures stamps { result.stamps ≡ [] }
     {
         TxLog {
             alloc,
             serial,
             entries: Vec::new(alloc),
+            stamps: Vec::new(alloc),
             own: Overlay::new(alloc),
             gained: Vec::new(alloc),
         }
@@ -83,6 +93,29 @@ impl TxLog {
         &self.entries
     }
 
+    /// For each of its accesses the stamp that it kept: a read keeps that of its word.
+    pub fn stamps(&self) -> &[u64]
+        ensures value { result.now ≡ self.now.stamps }
+        ensures each { length result.now ≡ length self.now.transaction.accesses }
+    {
+        &self.stamps
+    }
+
+    /// Whether what its stamps say of its reads is so, which a commit is told beforehand: none is above that of its word, and as long as they are the
+    /// same, the read has its answer.
+    pub fn follows(&self, globals: &Globals) -> Result<bool, AllocError>
+        ensures { IfOk result (λ follows. IsTrue follows ↔ Follows self.now globals.now) }
+    {
+        are_following(self.alloc, globals, &self.entries, &self.stamps)
+    }
+
+    /// How many of its reads are of words whose stamps have changed since, or count as changed.
+    pub fn stale(&self, globals: &Globals) -> u32
+        ensures { result ≡ stale_of self.now globals.now.stamps }
+    {
+        stale_among(globals, &self.entries, &self.stamps)
+    }
+
     /// The names of the locks that were gained since it began, one for each count.
     pub fn gained(&self) -> &[Name]
         ensures { result.now ≡ self.now.transaction.gained }
@@ -104,7 +137,11 @@ impl TxLog {
         ensures answer { IfOk result (λ told. told.0 ≡ reply_in self.old.transaction globals.now.content access) }
         ensures again { IfOk result (λ told. told.1 ≡ reply_in self.old.transaction globals.now.content access) }
         ensures appended { OnOk result (self.new.transaction ≡ with_told self.old.transaction access globals.now.content) }
+        ensures stamped { OnOk result (self.new.stamps
+            ≡ with_stamp self.old.stamps (reply_in self.old.transaction globals.now.content access) (stamp_kept access globals.now.stamps)) }
         ensures unchanged { OnErr result (self.new.transaction ≡ self.old.transaction) }
+        ensures same { OnErr result (self.new.stamps ≡ self.old.stamps) }
+        ensures follows { Follows self.old globals.now → Follows self.new globals.now }
         ensures skips { AreSkips globals.now.content (gone_by self.new.transaction.accesses) skips.new }
     {
         if is_write(&access) {
@@ -115,7 +152,10 @@ impl TxLog {
             return Ok((Answer::Limit, Answer::Limit));
         }
         match self.answers(globals, skips, &access) {
-            Ok((told, kept)) => self.append(access, told, kept),
+            Ok((told, kept)) => {
+                let stamp = globals.stamp(access.name());
+                self.append(access, told, kept, stamp)
+            }
             Err(refused) => {
                 drop(access); // for the proof
                 Err(refused)
@@ -137,7 +177,14 @@ impl TxLog {
         ensures again { IfOk result (λ x. x.0.1 ≡ answer_of read.now (seen globals.now.content self.now.transaction.accesses)) }
         ensures kept { IfOk result (λ x. x.1 ≡ answer_of read.now (seen globals.now.content self.now.transaction.accesses)) }
     {
-        let answer = answer(self.alloc, globals, &self.entries, &self.own, skips, read)?;
+        let answer = answer(
+            self.alloc,
+            globals.texts(),
+            &self.entries,
+            &self.own,
+            skips,
+            read,
+        )?;
         match twice(&answer) {
             Ok((again, kept)) => Ok(((answer, again), kept)),
             Err(refused) => {
@@ -153,13 +200,17 @@ impl TxLog {
         access: Access,
         told: (Answer, Answer),
         kept: Answer,
+        stamp: u64,
     ) -> Result<(Answer, Answer), AllocError>
         requires { is_full self.old.transaction ≡ false }
+        ensures each { length self.old.stamps ≡ length self.old.transaction.accesses }
         ensures answer { IfOk result (λ t. t ≡ told) }
         ensures appended { OnOk result (self.new.transaction ≡ with_entry self.old.transaction (access_entry access kept)) }
+        ensures stamped { OnOk result (self.new.stamps ≡ self.old.stamps ++ stamp ∷ []) }
         ensures unchanged { OnErr result (self.new.transaction ≡ self.old.transaction) }
+        ensures same { OnErr result (self.new.stamps ≡ self.old.stamps) }
     {
-        match self.push(Entry::Access(access, kept)) {
+        match self.push(Entry::Access(access, kept), stamp) {
             Ok(()) => Ok(told),
             Err(refused) => {
                 drop(told); // for the proof
@@ -168,14 +219,20 @@ impl TxLog {
         }
     }
 
-    // Appends an entry, and makes the write that it is, if it is one.
+    // Appends an entry with the stamp that it keeps, and makes the write that it is, if it is one.
     #[tactic(auto, using(crate::proofs::Laid::more_laid, crate::proofs::Goes::gone_laid))]
-    fn push(&mut self, entry: Entry) -> Result<(), AllocError>
+    fn push(&mut self, entry: Entry, stamp: u64) -> Result<(), AllocError>
         requires { is_full self.old.transaction ≡ false }
+        ensures each { length self.old.stamps ≡ length self.old.transaction.accesses }
         ensures appended { OnOk result (self.new.transaction ≡ with_entry self.old.transaction entry) }
+        ensures stamped { OnOk result (self.new.stamps ≡ self.old.stamps ++ stamp ∷ []) }
         ensures unchanged { OnErr result (self.new.transaction ≡ self.old.transaction) }
+        ensures same { OnErr result (self.new.stamps ≡ self.old.stamps) }
     {
-        let room = self.entries.reserve(1);
+        let room = match self.entries.reserve(1) {
+            Ok(()) => self.stamps.reserve(1),
+            Err(refused) => Err(refused),
+        };
         let made = match room {
             Ok(()) => self.own.add(&entry),
             Err(refused) => Err(refused),
@@ -183,6 +240,7 @@ impl TxLog {
         match made {
             Ok(()) => {
                 self.entries.push_reserved(entry);
+                self.stamps.push_reserved(stamp);
                 Ok(())
             }
             Err(refused) => {
@@ -193,38 +251,47 @@ impl TxLog {
     }
 
     /// Makes a write in the transaction, as `see` does, for which no globals are wanted.
+    #[tactic(auto, using(crate::proofs::Appending::write_follows, crate::proofs::Appending::same_follows))]
     pub fn write(&mut self, access: Access) -> Result<(Answer, Answer), AllocError>
         requires { is_write access ≡ true }
         ensures answer { IfOk result (λ told. told.0 ≡ reply_in self.old.transaction [] access) }
         ensures again { IfOk result (λ told. told.1 ≡ reply_in self.old.transaction [] access) }
         ensures appended { OnOk result (self.new.transaction ≡ with_told self.old.transaction access []) }
+        ensures stamped { OnOk result (self.new.stamps ≡ with_stamp self.old.stamps (reply_in self.old.transaction [] access) 0) }
         ensures unchanged { OnErr result (self.new.transaction ≡ self.old.transaction) }
+        ensures same { OnErr result (self.new.stamps ≡ self.old.stamps) }
+        ensures follows { (globals : Stamped) → Follows self.old globals → Follows self.new globals }
     {
         if self.is_full() || is_refused(&access) {
             drop(access); // for the proof
             return Ok((Answer::Limit, Answer::Limit));
         }
-        self.push(Entry::Access(access, Answer::Done))?;
+        self.push(Entry::Access(access, Answer::Done), 0)?;
         Ok((Answer::Done, Answer::Done))
     }
 
     /// Appends an unlock, which waits for the commit. Past the limit it is answered that it passes one, and isn't appended.
+    #[tactic(auto, using(crate::proofs::Appending::free_follows, crate::proofs::Appending::same_follows))]
     pub fn unlock(&mut self, unlock: Unlock) -> Result<Answer, AllocError>
         ensures answer { IfOk result (λ a. a ≡ unlock_reply self.old.transaction) }
         ensures appended { OnOk result (self.new.transaction ≡ with_unlock self.old.transaction unlock) }
+        ensures stamped { OnOk result (self.new.stamps ≡ cond (is_full self.old.transaction) self.old.stamps (self.old.stamps ++ 0 ∷ [])) }
         ensures unchanged { OnErr result (self.new.transaction ≡ self.old.transaction) }
+        ensures same { OnErr result (self.new.stamps ≡ self.old.stamps) }
+        ensures follows { (globals : Stamped) → Follows self.old globals → Follows self.new globals }
     {
         if self.is_full() {
             drop(unlock); // for the proof
             return Ok(Answer::Limit);
         }
-        self.push(Entry::Unlock(unlock))?;
+        self.push(Entry::Unlock(unlock), 0)?;
         Ok(Answer::Done)
     }
 
     /// Counts the lock of each name once more, which a rollback gives back: all of them, or none.
     pub fn gain(&mut self, names: &[Name]) -> Result<(), AllocError>
         ensures gained { OnOk result (self.new.transaction ≡ with_gained self.old.transaction names.now) }
+        ensures stamped { self.new.stamps ≡ self.old.stamps }
         ensures unchanged { OnErr result (self.new.transaction ≡ self.old.transaction) }
     {
         let mut copies = copies_of(self.alloc, names)?;

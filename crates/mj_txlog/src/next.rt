@@ -21,7 +21,7 @@ use crate::log::ACCESSES_LIMIT;
 use crate::names::{cut_to, with_one};
 use crate::overlay::Overlay;
 use crate::skips::Skips;
-use mj_globs::Globals;
+use mj_globs::Texts;
 use mj_store::{Direction, Store};
 use mj_subs::{Name, SUBSCRIPTS_LIMIT, Sub};
 use mj_text::Text;
@@ -44,16 +44,16 @@ enum StepOutcome {
 // kills of its own, of which there are no more than accesses: what is copied, where steps find nothing, is for none that the language can make.
 #[cycle(ahead)]
 pub(crate) fn next_below(
-    globals: &Globals,
+    globals: &Texts,
     own: &Overlay,
     skips: &mut Skips,
     front: &Name,
     from: &Sub,
     way: Direction,
 ) -> Result<Option<Sub>, AllocError>
-    requires { KeepSkips globals.now.content own.now skips.old }
-    ensures next { IfOk result (λ next. IsSeenNext globals.now.content own.now front.now from.now way next) }
-    ensures skips { KeepSkips globals.now.content own.now skips.new }
+    requires { KeepSkips globals.now own.now skips.old }
+    ensures next { IfOk result (λ next. IsSeenNext globals.now own.now front.now from.now way next) }
+    ensures skips { KeepSkips globals.now own.now skips.new }
 {
     if front.subscripts().len() < SUBSCRIPTS_LIMIT {
         let mine = next_in(own.over(), front, from, way)?;
@@ -82,7 +82,7 @@ pub(crate) fn next_below(
 // Which of two stands next: the own text at hand, or one of the globals.
 #[cycle(ahead)]
 fn next_of_both(
-    globals: &Globals,
+    globals: &Texts,
     own: &Overlay,
     skips: &mut Skips,
     front: &Name,
@@ -90,11 +90,11 @@ fn next_of_both(
     mine: &Option<Sub>,
     way: Direction,
 ) -> Result<StepOutcome, AllocError>
-    requires skips { KeepSkips globals.now.content own.now skips.old }
+    requires skips { KeepSkips globals.now own.now skips.old }
     requires room { length front.now.subscripts < SUBSCRIPTS_LIMIT }
     requires mine { mine.now ≡ order_at own.now.over (followed_by front.now (from.now ∷ [])) way }
-    ensures found { IfOk result (λ found. IsFound globals.now.content own.now front.now from.now way mine.now found) }
-    ensures skips { KeepSkips globals.now.content own.now skips.new }
+    ensures found { IfOk result (λ found. IsFound globals.now own.now front.now from.now way mine.now found) }
+    ensures skips { KeepSkips globals.now own.now skips.new }
 {
     if own.went(front)? || is_covered(globals.allocator(), skips, front)? {
         return Ok(StepOutcome::Own);
@@ -108,7 +108,7 @@ fn next_of_both(
 // Which of two stands next, in steps over the globals that begin where nothing was passed over yet.
 #[cycle(ahead)]
 fn pass_over(
-    globals: &Globals,
+    globals: &Texts,
     own: &Overlay,
     skips: &mut Skips,
     front: &Name,
@@ -116,11 +116,11 @@ fn pass_over(
     mine: &Option<Sub>,
     way: Direction,
 ) -> Result<StepOutcome, AllocError>
-    requires skips { KeepSkips globals.now.content own.now skips.old }
+    requires skips { KeepSkips globals.now own.now skips.old }
     requires room { length front.now.subscripts < SUBSCRIPTS_LIMIT }
     requires mine { mine.now ≡ order_at own.now.over (followed_by front.now (at.old ∷ [])) way }
-    ensures found { IfOk result (λ found. IsFound globals.now.content own.now front.now at.old way mine.now found) }
-    ensures skips { KeepSkips globals.now.content own.now skips.new }
+    ensures found { IfOk result (λ found. IsFound globals.now own.now front.now at.old way mine.now found) }
+    ensures skips { KeepSkips globals.now own.now skips.new }
 {
     let mut is_passed = false;
     for _ in 0..ACCESSES_LIMIT {
@@ -135,7 +135,7 @@ fn pass_over(
 // Takes one step from a subscript, up to which all was passed over: what comes next is seen, or it and what follows it is passed over too.
 #[cycle(ahead)]
 fn take_step(
-    globals: &Globals,
+    globals: &Texts,
     own: &Overlay,
     skips: &mut Skips,
     front: &Name,
@@ -144,11 +144,11 @@ fn take_step(
     mine: &Option<Sub>,
     way: Direction,
 ) -> Result<StepOutcome, AllocError>
-    requires skips { KeepSkips globals.now.content own.now skips.old }
+    requires skips { KeepSkips globals.now own.now skips.old }
     requires room { length front.now.subscripts < SUBSCRIPTS_LIMIT }
-    requires bare { (es : Accesses) → IsLaid own.now es → is_passed ≡ true → IsBare globals.now.content own.now.gone front.now at.old }
-    ensures step { IfOk result (λ step. IsStep globals.now.content own.now front.now way mine.now at.old step at.new) }
-    ensures skips { KeepSkips globals.now.content own.now skips.new }
+    requires bare { (es : Accesses) → IsLaid own.now es → is_passed ≡ true → IsBare globals.now own.now.gone front.now at.old }
+    ensures step { IfOk result (λ step. IsStep globals.now own.now front.now way mine.now at.old step at.new) }
+    ensures skips { KeepSkips globals.now own.now skips.new }
 {
     let next = match next_before(globals, front, at, mine, way)? {
         None => return Ok(StepOutcome::Own),
@@ -190,19 +190,18 @@ fn is_covered(alloc: Global, skips: &Skips, name: &Name) -> Result<bool, AllocEr
 // something is seen at it or below it.
 #[cycle(ahead)]
 fn far_from(
-    globals: &Globals,
+    globals: &Texts,
     own: &Overlay,
     skips: &mut Skips,
     front: &Name,
     next: &Sub,
     way: Direction,
 ) -> Result<Option<Sub>, AllocError>
-    requires skips { KeepSkips globals.now.content own.now skips.old }
+    requires skips { KeepSkips globals.now own.now skips.old }
     requires room { length front.now.subscripts < SUBSCRIPTS_LIMIT }
-    ensures passed { IfOk result (λ r.
-        IfSome r (λ far. (es : Accesses) → IsLaid own.now es → IsJump globals.now.content own.now.gone front.now way next.now far)) }
-    ensures stands { IfOk result (λ r. IfNone r (IsSeen globals.now.content own.now (followed_by front.now (next.now ∷ [])))) }
-    ensures skips { KeepSkips globals.now.content own.now skips.new }
+    ensures passed { IfOk result (λ r. IfSome r (λ far. (es : Accesses) → IsLaid own.now es → IsJump globals.now own.now.gone front.now way next.now far)) }
+    ensures stands { IfOk result (λ r. IfNone r (IsSeen globals.now own.now (followed_by front.now (next.now ∷ [])))) }
+    ensures skips { KeepSkips globals.now own.now skips.new }
 {
     if let Some(far) = skips.end_of(front, next, way)? {
         return Ok(Some(far));
@@ -291,8 +290,8 @@ fn keep_from(
 }
 
 // Whether nothing stands below a name.
-fn is_leaf(store: &Globals, name: &Name) -> bool
-    ensures { result ≡ nat_lt (data_at store.now.content name.now) 10 }
+fn is_leaf(store: &Texts, name: &Name) -> bool
+    ensures { result ≡ nat_lt (data_at store.now name.now) 10 }
 {
     store.data(name) < 10
 }
@@ -300,14 +299,14 @@ fn is_leaf(store: &Globals, name: &Name) -> bool
 // Whether a text stands at the name or below it.
 #[cycle(ahead)]
 pub(crate) fn stands(
-    globals: &Globals,
+    globals: &Texts,
     own: &Overlay,
     skips: &mut Skips,
     name: &Name,
 ) -> Result<bool, AllocError>
-    requires { KeepSkips globals.now.content own.now skips.old }
-    ensures there { IfOk result (λ b. (es : Accesses) → IsLaid own.now es → b ≡ not (nat_eq (data_at (seen globals.now.content es) name.now) 0)) }
-    ensures skips { KeepSkips globals.now.content own.now skips.new }
+    requires { KeepSkips globals.now own.now skips.old }
+    ensures there { IfOk result (λ b. (es : Accesses) → IsLaid own.now es → b ≡ not (nat_eq (data_at (seen globals.now es) name.now) 0)) }
+    ensures skips { KeepSkips globals.now own.now skips.new }
 {
     if is_any(own.over(), name) {
         return Ok(true);
@@ -327,22 +326,22 @@ pub(crate) fn stands(
 }
 
 // Whether a text stands at a name of one store, or below it.
-fn is_any(store: &Globals, name: &Name) -> bool
-    ensures { result ≡ not (nat_eq (data_at store.now.content name.now) 0) }
+fn is_any(store: &Texts, name: &Name) -> bool
+    ensures { result ≡ not (nat_eq (data_at store.now name.now) 0) }
 {
     store.data(name) != 0
 }
 
 // The first subscript below a name.
 pub(crate) fn first_sub(
-    globals: &Globals,
+    globals: &Texts,
     own: &Overlay,
     skips: &mut Skips,
     name: &Name,
 ) -> Result<Option<Sub>, AllocError>
-    requires { KeepSkips globals.now.content own.now skips.old }
-    ensures next { IfOk result (λ next. IsSeenNext globals.now.content own.now name.now [] way.Forward next) }
-    ensures skips { KeepSkips globals.now.content own.now skips.new }
+    requires { KeepSkips globals.now own.now skips.old }
+    ensures next { IfOk result (λ next. IsSeenNext globals.now own.now name.now [] way.Forward next) }
+    ensures skips { KeepSkips globals.now own.now skips.new }
 {
     let blank = Sub::from_text(Text::new(globals.allocator()));
     next_below(globals, own, skips, name, &blank, Direction::Forward)
@@ -350,13 +349,13 @@ pub(crate) fn first_sub(
 
 // The next subscript below a name, in a direction, where what stands below the name is copied.
 fn next_copied(
-    globals: &Globals,
+    globals: &Texts,
     own: &Overlay,
     front: &Name,
     from: &Sub,
     way: Direction,
 ) -> Result<Option<Sub>, AllocError>
-    ensures { IfOk result (λ next. IsSeenNext globals.now.content own.now front.now from.now way next) }
+    ensures { IfOk result (λ next. IsSeenNext globals.now own.now front.now from.now way next) }
 {
     globals.rises();
     let below = seen_below(globals, own, front)?;
@@ -368,12 +367,12 @@ fn next_copied(
 
 // The next subscript in one store.
 fn next_in(
-    store: &Globals,
+    store: &Texts,
     front: &Name,
     from: &Sub,
     way: Direction,
 ) -> Result<Option<Sub>, AllocError>
-    ensures { IfOk result (λ next. next ≡ order_at store.now.content (followed_by front.now (from.now ∷ [])) way) }
+    ensures { IfOk result (λ next. next ≡ order_at store.now (followed_by front.now (from.now ∷ [])) way) }
 {
     let at = with_one(store.allocator(), front, from)?;
     let next = match store.order(&at, way) {
@@ -386,14 +385,14 @@ fn next_in(
 
 // The next subscript in one store, if it stands before another in the direction, where that is there.
 fn next_before(
-    store: &Globals,
+    store: &Texts,
     front: &Name,
     from: &Sub,
     other: &Option<Sub>,
     way: Direction,
 ) -> Result<Option<Sub>, AllocError>
-    ensures before { IfOk result (λ next. IfSome next (IsNextBefore store.now.content front.now from.now way other.now)) }
-    ensures none { IfOk result (λ next. IfNone next (IsNoneBefore store.now.content front.now from.now way other.now)) }
+    ensures before { IfOk result (λ next. IfSome next (IsNextBefore store.now front.now from.now way other.now)) }
+    ensures none { IfOk result (λ next. IfNone next (IsNoneBefore store.now front.now from.now way other.now)) }
 {
     let at = with_one(store.allocator(), front, from)?;
     let next = match store.order(&at, way) {

@@ -14,7 +14,7 @@ ghost use Rattle.mj_txlog.specs.Laid.{went, laid_after, laid_more, text_over, is
 
 use crate::entry::Entry;
 use crate::names::cut_to;
-use mj_globs::Globals;
+use mj_globs::Texts;
 use mj_store::{Access, Store};
 use mj_subs::Name;
 use mj_text::{Failure, Fault, Text};
@@ -25,8 +25,8 @@ use std::marker::Model;
 #[derive(Drop)]
 pub struct Overlay {
     alloc: Global,
-    over: Globals,
-    gone: Globals,
+    over: Texts,
+    gone: Texts,
 }
 
 impl Model for Overlay {
@@ -34,7 +34,7 @@ impl Model for Overlay {
 
     ghost Value = { Laid };
 
-    ghost view = { λ o. record { over = o.over.content; gone = o.gone.content } };
+    ghost view = { λ o. record { over = o.over; gone = o.gone } };
 }
 
 impl Overlay {
@@ -46,8 +46,8 @@ impl Overlay {
     {
         Overlay {
             alloc,
-            over: Globals::new(alloc),
-            gone: Globals::new(alloc),
+            over: Texts::new(alloc),
+            gone: Texts::new(alloc),
         }
     }
 
@@ -88,8 +88,8 @@ impl Overlay {
     }
 
     // What was given and still stands.
-    pub(crate) fn over(&self) -> &Globals
-        ensures which { result.now.content ≡ self.now.over }
+    pub(crate) fn over(&self) -> &Texts
+        ensures which { result.now ≡ self.now.over }
         ensures rises { T (is_sorted name_cmp self.now.over) }
     {
         self.over.rises();
@@ -125,8 +125,8 @@ impl Overlay {
     }
 
     // Whether a name has a text over the globals.
-    pub(crate) fn is_text(&self, globals: &Globals, name: &Name) -> Result<bool, AllocError>
-        ensures { IfOk result (λ b. b ≡ is_some (text_over self.now name.now (value_at globals.now.content name.now))) }
+    pub(crate) fn is_text(&self, globals: &Texts, name: &Name) -> Result<bool, AllocError>
+        ensures { IfOk result (λ b. b ≡ is_some (text_over self.now name.now (value_at globals.now name.now))) }
     {
         if self.over.value(name).is_some() {
             return Ok(true);
@@ -138,8 +138,8 @@ impl Overlay {
     }
 
     // The text of a name over the globals.
-    pub(crate) fn text(&self, globals: &Globals, name: &Name) -> Result<Option<Text>, AllocError>
-        ensures { IfOk result (λ t. t ≡ text_over self.now name.now (value_at globals.now.content name.now)) }
+    pub(crate) fn text(&self, globals: &Texts, name: &Name) -> Result<Option<Text>, AllocError>
+        ensures { IfOk result (λ t. t ≡ text_over self.now name.now (value_at globals.now name.now)) }
     {
         if let Some(text) = self.over.value(name) {
             return Ok(Some(text.try_clone()?));

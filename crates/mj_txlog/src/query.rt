@@ -15,21 +15,21 @@ use crate::names::{cut_to, with_one};
 use crate::next::{first_sub, next_below};
 use crate::overlay::Overlay;
 use crate::skips::Skips;
-use mj_globs::Globals;
+use mj_globs::Texts;
 use mj_store::Direction;
 use mj_subs::{Name, Sub};
 use std::alloc::AllocError;
 
 // The next name. It is told if no text stands at or below a blank subscript of the name, as none does for all that the language can make.
 pub(crate) fn query(
-    globals: &Globals,
+    globals: &Texts,
     own: &Overlay,
     skips: &mut Skips,
     name: &Name,
 ) -> Result<Option<Option<Name>>, AllocError>
-    requires { KeepSkips globals.now.content own.now skips.old }
-    ensures next { IfOk result (λ x. IfSome x (λ next. (es : Accesses) → IsLaid own.now es → next ≡ query_at (seen globals.now.content es) name.now)) }
-    ensures skips { KeepSkips globals.now.content own.now skips.new }
+    requires { KeepSkips globals.now own.now skips.old }
+    ensures next { IfOk result (λ x. IfSome x (λ next. (es : Accesses) → IsLaid own.now es → next ≡ query_at (seen globals.now es) name.now)) }
+    ensures skips { KeepSkips globals.now own.now skips.new }
 {
     match first_below(globals, own, skips, name)? {
         Some(next) => Ok(Some(Some(next))),
@@ -40,14 +40,14 @@ pub(crate) fn query(
 // The first name with a text at the name or below it.
 #[cycle(down)]
 fn first_within(
-    globals: &Globals,
+    globals: &Texts,
     own: &Overlay,
     skips: &mut Skips,
     name: &Name,
 ) -> Result<Option<Name>, AllocError>
-    requires { KeepSkips globals.now.content own.now skips.old }
-    ensures next { IfOk result (λ next. IsSeenFirst globals.now.content own.now name.now (is_within name.now.subscripts) next) }
-    ensures skips { KeepSkips globals.now.content own.now skips.new }
+    requires { KeepSkips globals.now own.now skips.old }
+    ensures next { IfOk result (λ next. IsSeenFirst globals.now own.now name.now (is_within name.now.subscripts) next) }
+    ensures skips { KeepSkips globals.now own.now skips.new }
 {
     if own.is_text(globals, name)? {
         return Ok(Some(name.try_clone()?));
@@ -58,14 +58,14 @@ fn first_within(
 // The first one below it.
 #[cycle(down)]
 fn first_below(
-    globals: &Globals,
+    globals: &Texts,
     own: &Overlay,
     skips: &mut Skips,
     name: &Name,
 ) -> Result<Option<Name>, AllocError>
-    requires { KeepSkips globals.now.content own.now skips.old }
-    ensures next { IfOk result (λ next. IsSeenFirst globals.now.content own.now name.now (is_below name.now.subscripts) next) }
-    ensures skips { KeepSkips globals.now.content own.now skips.new }
+    requires { KeepSkips globals.now own.now skips.old }
+    ensures next { IfOk result (λ next. IsSeenFirst globals.now own.now name.now (is_below name.now.subscripts) next) }
+    ensures skips { KeepSkips globals.now own.now skips.new }
 {
     match first_sub(globals, own, skips, name)? {
         None => Ok(None),
@@ -81,14 +81,14 @@ fn first_below(
 // The first one past it and all below it.
 #[cycle(up)]
 fn first_past(
-    globals: &Globals,
+    globals: &Texts,
     own: &Overlay,
     skips: &mut Skips,
     name: &Name,
 ) -> Result<Option<Option<Name>>, AllocError>
-    requires { KeepSkips globals.now.content own.now skips.old }
-    ensures next { IfOk result (λ x. IfSome x (λ next. IsSeenFirst globals.now.content own.now name.now (is_beyond name.now.subscripts) next)) }
-    ensures skips { KeepSkips globals.now.content own.now skips.new }
+    requires { KeepSkips globals.now own.now skips.old }
+    ensures next { IfOk result (λ x. IfSome x (λ next. IsSeenFirst globals.now own.now name.now (is_beyond name.now.subscripts) next)) }
+    ensures skips { KeepSkips globals.now own.now skips.new }
 {
     match name.subscripts().as_slice() {
         [] => Ok(Some(None)),
@@ -105,16 +105,15 @@ fn first_past(
 // one past it can't be told.
 #[cycle(up)]
 fn first_beside(
-    globals: &Globals,
+    globals: &Texts,
     own: &Overlay,
     skips: &mut Skips,
     front: &Name,
     last: &Sub,
 ) -> Result<Option<Option<Name>>, AllocError>
-    requires { KeepSkips globals.now.content own.now skips.old }
-    ensures next { IfOk result (λ x.
-        IfSome x (λ next. IsSeenFirst globals.now.content own.now front.now (is_beyond (front.now.subscripts ++ last.now ∷ [])) next)) }
-    ensures skips { KeepSkips globals.now.content own.now skips.new }
+    requires { KeepSkips globals.now own.now skips.old }
+    ensures next { IfOk result (λ x. IfSome x (λ next. IsSeenFirst globals.now own.now front.now (is_beyond (front.now.subscripts ++ last.now ∷ [])) next)) }
+    ensures skips { KeepSkips globals.now own.now skips.new }
 {
     match next_below(globals, own, skips, front, last, Direction::Forward)? {
         None => first_past(globals, own, skips, front),

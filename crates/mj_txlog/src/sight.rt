@@ -18,7 +18,7 @@ use crate::next::{first_sub, next_below};
 use crate::overlay::{Overlay, data_either};
 use crate::query::query;
 use crate::skips::Skips;
-use mj_globs::Globals;
+use mj_globs::Texts;
 use mj_store::{Access, Answer, Direction, Store};
 use mj_subs::{Name, Sub};
 use mj_text::Text;
@@ -27,7 +27,7 @@ use std::alloc::{AllocError, Global};
 /// The answer to a read on the globals as they are, with the writes among these accesses made on them. The overlay has these writes.
 pub fn answer(
     alloc: Global,
-    globals: &Globals,
+    globals: &Texts,
     earlier: &[Entry],
     own: &Overlay,
     skips: &mut Skips,
@@ -35,9 +35,9 @@ pub fn answer(
 ) -> Result<Answer, AllocError>
     requires read { is_write read.now ≡ false }
     requires own { IsLaid own.now earlier.now }
-    requires skips { AreSkips globals.now.content own.now.gone skips.old }
-    ensures answer { IfOk result (λ a. a ≡ answer_of read.now (seen globals.now.content earlier.now)) }
-    ensures skips { AreSkips globals.now.content own.now.gone skips.new }
+    requires skips { AreSkips globals.now own.now.gone skips.old }
+    ensures answer { IfOk result (λ a. a ≡ answer_of read.now (seen globals.now earlier.now)) }
+    ensures skips { AreSkips globals.now own.now.gone skips.new }
 {
     match read {
         Access::Value(name) => {
@@ -51,15 +51,15 @@ pub fn answer(
 // The answer to a read, by what stands at the name on which it depends and below it.
 fn seen_answer(
     alloc: Global,
-    globals: &Globals,
+    globals: &Texts,
     own: &Overlay,
     skips: &mut Skips,
     read: &Access,
 ) -> Result<Answer, AllocError>
     requires read { is_write read.now ≡ false }
-    requires skips { KeepSkips globals.now.content own.now skips.old }
-    ensures skips { KeepSkips globals.now.content own.now skips.new }
-    ensures answer { IfOk result (λ a. (es : Accesses) → IsLaid own.now es → a ≡ answer_of read.now (seen globals.now.content es)) }
+    requires skips { KeepSkips globals.now own.now skips.old }
+    ensures skips { KeepSkips globals.now own.now skips.new }
+    ensures answer { IfOk result (λ a. (es : Accesses) → IsLaid own.now es → a ≡ answer_of read.now (seen globals.now es)) }
 {
     let reach = reach_of(alloc, read)?;
     let answer = answer_at(globals, own, skips, read, &reach);
@@ -69,7 +69,7 @@ fn seen_answer(
 
 // The answer to a read, where the name on which it depends is at hand.
 fn answer_at(
-    globals: &Globals,
+    globals: &Texts,
     own: &Overlay,
     skips: &mut Skips,
     read: &Access,
@@ -77,9 +77,9 @@ fn answer_at(
 ) -> Result<Answer, AllocError>
     requires read { is_write read.now ≡ false }
     requires reach { reach.now ≡ reach_of read.now }
-    requires skips { KeepSkips globals.now.content own.now skips.old }
-    ensures skips { KeepSkips globals.now.content own.now skips.new }
-    ensures answer { IfOk result (λ a. (es : Accesses) → IsLaid own.now es → a ≡ answer_of read.now (seen globals.now.content es)) }
+    requires skips { KeepSkips globals.now own.now skips.old }
+    ensures skips { KeepSkips globals.now own.now skips.new }
+    ensures answer { IfOk result (λ a. (es : Accesses) → IsLaid own.now es → a ≡ answer_of read.now (seen globals.now es)) }
 {
     globals.rises();
     if own.went(reach)? {
@@ -106,10 +106,10 @@ fn answer_at(
 }
 
 // Whether a text stands at the name, and whether one stands below it.
-fn data(globals: &Globals, own: &Overlay, skips: &mut Skips, name: &Name) -> Result<u8, AllocError>
-    requires { KeepSkips globals.now.content own.now skips.old }
-    ensures skips { KeepSkips globals.now.content own.now skips.new }
-    ensures data { IfOk result (λ d. (es : Accesses) → IsLaid own.now es → d ≡ data_at (seen globals.now.content es) name.now) }
+fn data(globals: &Texts, own: &Overlay, skips: &mut Skips, name: &Name) -> Result<u8, AllocError>
+    requires { KeepSkips globals.now own.now skips.old }
+    ensures skips { KeepSkips globals.now own.now skips.new }
+    ensures data { IfOk result (λ d. (es : Accesses) → IsLaid own.now es → d ≡ data_at (seen globals.now es) name.now) }
 {
     let here = own.is_text(globals, name)?;
     let below = first_sub(globals, own, skips, name)?;
@@ -131,7 +131,7 @@ fn digits_of(here: bool, below: bool) -> u8
 
 // The next subscript in place of the name's last one.
 fn order(
-    globals: &Globals,
+    globals: &Texts,
     own: &Overlay,
     skips: &mut Skips,
     name: &Name,
@@ -139,9 +139,9 @@ fn order(
     front: &Name,
 ) -> Result<Option<Sub>, AllocError>
     requires front { front.now ≡ with_subscripts name.now (front_of name.now.subscripts) }
-    requires skips { KeepSkips globals.now.content own.now skips.old }
-    ensures skips { KeepSkips globals.now.content own.now skips.new }
-    ensures next { IfOk result (λ next. (es : Accesses) → IsLaid own.now es → next ≡ order_at (seen globals.now.content es) name.now way) }
+    requires skips { KeepSkips globals.now own.now skips.old }
+    ensures skips { KeepSkips globals.now own.now skips.new }
+    ensures next { IfOk result (λ next. (es : Accesses) → IsLaid own.now es → next ≡ order_at (seen globals.now es) name.now way) }
 {
     match name.subscripts().as_slice() {
         [] => Ok(None),
@@ -151,14 +151,14 @@ fn order(
 
 // The answer to a read where own writes are among what it depends on.
 fn answer_among(
-    globals: &Globals,
+    globals: &Texts,
     own: &Overlay,
     read: &Access,
     reach: &Name,
 ) -> Result<Answer, AllocError>
     requires read { is_write read.now ≡ false }
     requires reach { reach.now ≡ reach_of read.now }
-    ensures { IfOk result (λ a. (es : Accesses) → IsLaid own.now es → a ≡ answer_of read.now (seen globals.now.content es)) }
+    ensures { IfOk result (λ a. (es : Accesses) → IsLaid own.now es → a ≡ answer_of read.now (seen globals.now es)) }
 {
     globals.rises();
     let below = seen_below(globals, own, reach)?;
@@ -169,9 +169,9 @@ fn answer_among(
 }
 
 // The answer to a read.
-fn look(globals: &Globals, read: &Access) -> Result<Answer, AllocError>
+fn look(globals: &Texts, read: &Access) -> Result<Answer, AllocError>
     requires { is_write read.now ≡ false }
-    ensures { IfOk result (λ a. a ≡ answer_of read.now globals.now.content) }
+    ensures { IfOk result (λ a. a ≡ answer_of read.now globals.now) }
 {
     Ok(match read {
         Access::Value(name) => Answer::Value(text_of(globals, name)?),
@@ -208,8 +208,8 @@ fn front_of<'a>(list: &'a [Sub]) -> &'a [Sub]
 }
 
 // The text of a name, for keeps.
-fn text_of(globals: &Globals, name: &Name) -> Result<Option<Text>, AllocError>
-    ensures { IfOk result (λ text. text ≡ value_at globals.now.content name.now) }
+fn text_of(globals: &Texts, name: &Name) -> Result<Option<Text>, AllocError>
+    ensures { IfOk result (λ text. text ≡ value_at globals.now name.now) }
 {
     Ok(match globals.value(name) {
         None => None,

@@ -4,16 +4,17 @@
 // passed is kept as runs of subscripts, from the first to the last, and a later read goes from one end of a run to the other. A run holds as long
 // as the globals are the same, whatever the transaction does: what went doesn't come back.
 
-ghost use Rattle.std.specs.Prelude.{◌≡◌, ◌∷◌, [], false, IfOk, OnOk, OnErr};
+ghost use Rattle.std.specs.Prelude.{◌≡◌, ◌⊎◌, ◌∷◌, [], true, false, ℕ, List, IfOk};
+ghost use Rattle.mj_store.specs.Questions.{Content};
 ghost use Rattle.std.specs.Option.{IfSome, option_copied};
 ghost use Rattle.std.specs.Ordering.{is_lt};
 ghost use Rattle.mj_subs.specs.Collation.{subscript_cmp};
-ghost use Rattle.mj_store.specs.Questions.{value_at};
+ghost use Rattle.mj_store.specs.Questions.{value_at, same_word};
 ghost use Rattle.mj_store.specs.Changes.{followed_by, after_set, after_kill};
-ghost use Rattle.mj_txlog.specs.Skips.{LiesInRun, IsFar, IsNextRun, Joins, far_end, later_of};
+ghost use Rattle.mj_txlog.specs.Skips.{LiesInRun, IsFar, IsNextRun, Joins, AreWithin, AreOf, far_end, later_of};
 
 use crate::names::with_one;
-use mj_globs::Globals;
+use mj_globs::Texts;
 use mj_store::{Direction, Store};
 use mj_subs::{Name, Sub};
 use std::alloc::{AllocError, Global};
@@ -24,15 +25,23 @@ use std::marker::Model;
 #[derive(Drop)]
 pub struct Skips {
     alloc: Global,
-    runs: Globals,
+    // whether all runs are of one word
+    one: bool,
+    // a name of that word, where there is a run
+    of: Option<Name>,
+    runs: Texts,
 }
 
 impl Model for Skips {
+    ghost use Rattle.std.specs.Prelude.{◌≡◌, true};
     ghost use Rattle.mj_store.specs.Questions.{Content};
+    ghost use Rattle.mj_txlog.specs.Skips.{AreOf};
 
     ghost Value = { Content };
 
-    ghost view = { λ s. s.runs.content };
+    ghost view = { λ s. s.runs };
+
+    ghost invariant = { λ s. s.one ≡ true → AreOf s.of s.runs };
 }
 
 impl Skips {
@@ -42,15 +51,44 @@ impl Skips {
     {
         Skips {
             alloc,
-            runs: Globals::new(alloc),
+            one: false,
+            of: None,
+            runs: Texts::new(alloc),
         }
+    }
+
+    /// None, to which only those of one word are added.
+    pub fn of_one_word(alloc: Global) -> Skips
+        ensures { result ≡ [] }
+    {
+        Skips {
+            alloc,
+            one: true,
+            of: None,
+            runs: Texts::new(alloc),
+        }
+    }
+
+    /// Whether all runs are below names of this name's word, where only those of one word are added.
+    pub fn are_of(&self, name: &Name) -> bool
+        ensures { result ≡ true → AreWithin name.now self.now }
+    {
+        self.one && is_of(&self.of, name)
+    }
+
+    /// Whether there may be a run, where only those of one word are added.
+    pub fn may_be_any(&self) -> bool
+        ensures { result ≡ false → self.now ≡ [] }
+    {
+        !self.one || self.of.is_some()
     }
 
     /// Forgets all runs.
     pub fn clear(&mut self)
         ensures { self.new ≡ [] }
     {
-        self.runs = Globals::new(self.alloc);
+        self.runs = Texts::new(self.alloc);
+        self.of = None;
     }
 
     // The far end of a run in which the subscript lies, below a name, if that is found.
@@ -129,11 +167,13 @@ impl Skips {
         self.runs.kill(name);
     }
 
-    // Keeps a run at a name.
+    // Keeps a run at a name, if it is one that is added.
     fn set(&mut self, at: &Name, last: &Sub) -> Result<(), AllocError>
-        ensures ok { OnOk result (self.new ≡ after_set self.old at.now last.now) }
-        ensures err { OnErr result (self.new ≡ self.old) }
+        ensures { (self.new ≡ after_set self.old at.now last.now) ⊎ (self.new ≡ self.old) }
     {
+        if self.one && !claim(&mut self.of, at)? {
+            return Ok(());
+        }
         self.runs.set(at, last.text())
     }
 
@@ -225,6 +265,38 @@ impl Skips {
             Some(text) => Ok(Some(Sub::from_text(text.try_clone()?))),
         }
     }
+}
+
+// Whether a name is of that word, or there is no word yet.
+fn is_of(of: &Option<Name>, name: &Name) -> bool
+    ensures { result ≡ true → (runs : Content) → AreOf of.now runs → AreWithin name.now runs }
+{
+    match of {
+        None => true,
+        Some(one) => is_same_word(one, name),
+    }
+}
+
+// Whether a name is of that word, which is its own where there is none yet.
+#[tactic(auto, using(crate::proofs::Only::first_of_word, crate::proofs::Only::set_within))]
+fn claim(of: &mut Option<Name>, at: &Name) -> Result<bool, AllocError>
+    ensures of { IfOk result (λ is. is ≡ true → (runs : Content) (last : List ℕ) → AreOf of.old runs → AreOf of.new (after_set runs at.now last)) }
+    ensures kept { (runs : Content) → AreOf of.old runs → AreOf of.new runs }
+{
+    match of {
+        None => {
+            *of = Some(at.try_clone()?);
+            Ok(true)
+        }
+        Some(one) => Ok(is_same_word(one, at)),
+    }
+}
+
+// Whether the names are of one kind and word.
+fn is_same_word(one: &Name, other: &Name) -> bool
+    ensures { result ≡ true → same_word one.now other.now ≡ true }
+{
+    one.is_global() == other.is_global() && one.word() == other.word()
 }
 
 // The far end of a run.

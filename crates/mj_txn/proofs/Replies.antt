@@ -1,6 +1,8 @@
 -- One access more, and the changes that accesses make.
-use Rattle.std.proofs.Common.{◌≡◌, ◌↔◌, ℕ, ◌+◌, ◌<◌, true, false, cond, ◌||◌, List, [], ◌∷◌, ◌++◌, length, get_or, take, drop, Option, Some, None, refl, sym, ap, ◌∙◌, subst, append_assoc}
+use Rattle.std.proofs.Common.{◌≡◌, ◌↔◌, ℕ, zero, suc, ◌+◌, ◌<◌, true, false, cond, ◌||◌, List, [], ◌∷◌, ◌++◌, length, get_or, take, drop, Option, Some, None, refl, sym, ap, ◌∙◌, subst, append_assoc, arith}
 use Rattle.std.proofs.lemmas.List.{take_more, take-append-drop, drop_more}
+use Rattle.std.proofs.lemmas.Option.{slice_get-get_or, slice_get_within}
+use Rattle.std.specs.Prelude.{slice_get}
 use Rattle.std.specs.Option.{MatchOption}
 use Rattle.std.specs.List.{list_any, cons_option}
 use Rattle.mj_store.specs.Questions.{Content}
@@ -13,7 +15,10 @@ use Rattle.mj_globs.specs.declared.change.Change.TheVariants as change
 use Rattle.mj_globs.specs.Changes.{after_changes, goes_too_deep}
 use Rattle.mj_txlog.specs.declared.entry.Entry.{Entry}
 use Rattle.mj_txlog.specs.declared.entry.Entry.TheVariants as entry
+use Rattle.mj_globs.specs.Stamps.{Stamped}
 use Rattle.mj_txlog.specs.Accesses.{Accesses, Transaction, seen}
+use Rattle.mj_txlog.specs.Follows.{FollowsAt, AreFollowing, is_stale, stale_among}
+use Rattle.mj_txlog.proofs.Following.{fresh_answer, none_stale}
 use Rattle.mj_txn.specs.Commits.{HoldsNow, Hold, DiffersNow, Differs, CommitsAs, change_of, changes_of}
 use Rattle.mj_txn.specs.declared.committing.Outcome.{Outcome}
 use Rattle.mj_txn.specs.declared.committing.Outcome.TheVariants as outcome
@@ -63,6 +68,27 @@ exact t g outcome.Done h = (λ e. h, λ f. refl)
 exact t g (outcome.Clash c) h =
     let d : Differs g t.accesses c.place c.then c.now = h.1 in
     (λ e. absurd cc, λ f. absurd (unheld g d.earlier d.e c.place c.then c.now d.differs (hold_at g [] d.earlier d.e d.later (subst (λ (xs : Accesses). Hold g [] xs) d.is (f h.0)))))
+
+-- ---- reads whose stamps stand still
+
+hold_by : (g : Content) (front xs : Accesses) → ((i : ℕ) (e : Entry) → slice_get xs i ≡ Some e → HoldsNow g (front ++ take i xs) e) → Hold g front xs
+hold_by g front [] each = tt
+hold_by g front (x ∷ xs) each = (
+  subst (λ (f : Accesses). HoldsNow g f x) (append_nil front) (each zero x refl),
+  hold_by g (front ++ x ∷ []) xs (λ i e at. subst (λ (f : Accesses). HoldsNow g f e) (sym (append_assoc front (x ∷ []) (take i xs))) (each (suc i) e at)),
+)
+
+-- an access holds that isn't stale
+pub fresh_holds : (g : Stamped) (earlier : Accesses) (e : Entry) (s : ℕ) → FollowsAt g earlier e s → is_stale g.stamps e s ≡ false → HoldsNow g.content earlier e
+fresh_holds g earlier (entry.Access a r) s follows fresh read = fresh_answer g earlier a r s (follows read) fresh read
+fresh_holds g earlier (entry.Unlock u) s follows fresh = tt
+
+-- and all do where none is
+pub all_hold : (g : Stamped) (es : Accesses) (ss : List ℕ) → length ss ≡ length es → AreFollowing g es ss → stale_among g.stamps es ss ≡ 0 → Hold g.content [] es
+all_hold g es ss len follows none = hold_by g.content [] es (λ i e at.
+    let lt : i < length es = slice_get_within es i e at in
+    let kept : slice_get ss i ≡ Some (get_or ss i 0) = slice_get-get_or ss i 0 (omega (arith, len, lt)) in
+    fresh_holds g (take i es) e (get_or ss i 0) (follows i e (get_or ss i 0) at kept) (none_stale g.stamps es ss none i e (get_or ss i 0) at kept))
 
 -- ---- changes
 

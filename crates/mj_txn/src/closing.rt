@@ -5,7 +5,9 @@ ghost use Rattle.mj_locktab.specs.Tries.{outcome_of as try_of, after_try, TryGiv
 ghost use Rattle.mj_txn.specs.Closing.{is_local_write, told_in, after_told, gained_by_try, unlocked, unlocked_by, rolled_back, committed, clash_of};
 ghost use Rattle.mj_ask.specs.declared.ask.Reply.TheVariants as replies;
 ghost use Rattle.mj_txlog.specs.Accesses.{unlock_reply, with_unlock};
+ghost use Rattle.mj_txlog.specs.Follows.{Follows};
 ghost use Rattle.mj_txlog.specs.Skips.{AreSkips, gone_by};
+ghost use Rattle.mj_globs.specs.Stamps.{Stamped, Rises};
 ghost use Rattle.mj_txlog.specs.declared.entry.Unlock.TheVariants as unlocks;
 
 use crate::changed::Changed;
@@ -32,6 +34,7 @@ pub fn access(
     ensures again { IfOk result (λ told. told.1 ≡ told_in log.old.transaction globals.now.content access.now) }
     ensures log { OnOk result (log.new.transaction ≡ after_told log.old.transaction globals.now.content access.now) }
     ensures unchanged { OnErr result (log.new.transaction ≡ log.old.transaction) }
+    ensures follows { Follows log.old globals.now → Follows log.new globals.now }
     ensures skips { AreSkips globals.now.content (gone_by log.new.transaction.accesses) skips.new }
 {
     if is_local_write(access) {
@@ -63,6 +66,7 @@ pub fn try_take(
     ensures locks { OnOk result (locks.new.holds ≡ after_try locks.old.holds job names.now) }
     ensures meaning { IfOk result (λ taken. TryGives locks.old.holds job names.now taken locks.new.holds) }
     ensures log { IfOk result (λ taken. log.new.transaction ≡ gained_by_try log.old.transaction names.now taken) }
+    ensures follows { (globals : Stamped) → Follows log.old globals → Follows log.new globals }
     ensures unchanged { OnErr result ((locks.new.holds ≡ locks.old.holds) × (log.new.transaction ≡ log.old.transaction)) }
 {
     locks.keeps();
@@ -83,6 +87,7 @@ pub fn try_take(
 pub fn unlock(log: &mut TxLog, names: &[Name]) -> Result<Answer, AllocError>
     ensures answer { IfOk result (λ a. a ≡ unlock_reply log.old.transaction) }
     ensures waits { OnOk result (log.new.transaction ≡ with_unlock log.old.transaction (unlocks.Names names.now)) }
+    ensures follows { (globals : Stamped) → Follows log.old globals → Follows log.new globals }
     ensures unchanged { OnErr result (log.new.transaction ≡ log.old.transaction) }
 {
     let list = NameList::of(log.allocator(), names)?;
@@ -104,11 +109,13 @@ pub fn close(
     locks: &mut LockTable,
     job: u32,
 ) -> Result<(Reply, Reply), AllocError>
+    requires { Follows log.now globals.old }
     ensures reply { IfOk result (λ told. told.0 ≡ (committed log.now.transaction job globals.old.content locks.old.holds).reply) }
     ensures again { IfOk result (λ told. told.1 ≡ told.0) }
     ensures globals { OnOk result (globals.new.content ≡ (committed log.now.transaction job globals.old.content locks.old.holds).globals) }
     ensures locks { OnOk result (locks.new.holds ≡ (committed log.now.transaction job globals.old.content locks.old.holds).locks) }
     ensures unchanged { OnErr result ((globals.new.content ≡ globals.old.content) × (locks.new.holds ≡ locks.old.holds)) }
+    ensures stamps { Rises globals.old globals.new }
 {
     match commit(log, globals)? {
         Outcome::Done => {

@@ -1,6 +1,8 @@
 // A commit.
 
 ghost use Rattle.std.specs.Prelude.{◌≡◌, ◌↔◌, IfOk, OnErr};
+ghost use Rattle.mj_globs.specs.Stamps.{Rises};
+ghost use Rattle.mj_txlog.specs.Follows.{Follows, stale_of};
 ghost use Rattle.mj_txn.specs.Commits.{MayCommit, CommitsAs, after_commit};
 ghost use Rattle.mj_txn.specs.Testing.{outcome_of};
 ghost use Rattle.mj_txn.specs.declared.committing.Outcome.TheVariants as outcome;
@@ -23,27 +25,34 @@ pub enum Outcome {
 
 /// Commits the transaction. A SERIAL one is done exactly where each of its reads, asked now on the globals with its own writes before that
 /// read, has the answer that it had, and otherwise the first read that has another answer is named. Where it is done all writes are made,
-/// and else none. The transaction itself stays as it is: what waits for its commit, and what a rollback gives back, is the caller's to do.
+/// and else none. A read is asked only where the stamp of its word has changed: where none is stale the commit is done. The transaction itself stays
+/// as it is: what waits for its commit, and what a rollback gives back, is the caller's to do.
 pub fn commit(log: &TxLog, globals: &mut Globals) -> Result<Outcome, AllocError>
+    requires { Follows log.now globals.old }
     ensures outcome { IfOk result (λ r. CommitsAs log.now.transaction globals.old.content r) }
     ensures exactly { IfOk result (λ r. (r ≡ outcome.Done) ↔ MayCommit log.now.transaction globals.old.content) }
     ensures told { IfOk result (λ r. r ≡ outcome_of log.now.transaction globals.old.content) }
     ensures globals { IfOk result (λ r. globals.new.content ≡ after_commit log.now.transaction globals.old.content r) }
+    ensures fresh { stale_of log.now globals.old.stamps ≡ 0 → IfOk result (λ r. r ≡ outcome.Done) }
     ensures unchanged { OnErr result (globals.new.content ≡ globals.old.content) }
+    ensures stamps { Rises globals.old globals.new }
 {
     made(log, globals)
 }
 
 // Commits, told by what holds of what comes of it.
-#[tactic(auto, using(crate::proofs::Replies::exact))]
+#[tactic(auto, using(crate::proofs::Replies::exact, mj_globs::proofs::Stamping::rises_same))]
 fn made(log: &TxLog, globals: &mut Globals) -> Result<Outcome, AllocError>
+    requires { Follows log.now globals.old }
     ensures outcome { IfOk result (λ r. CommitsAs log.now.transaction globals.old.content r) }
     ensures exactly { IfOk result (λ r. (r ≡ outcome.Done) ↔ MayCommit log.now.transaction globals.old.content) }
     ensures globals { IfOk result (λ r. globals.new.content ≡ after_commit log.now.transaction globals.old.content r) }
+    ensures fresh { stale_of log.now globals.old.stamps ≡ 0 → IfOk result (λ r. r ≡ outcome.Done) }
     ensures unchanged { OnErr result (globals.new.content ≡ globals.old.content) }
+    ensures stamps { Rises globals.old globals.new }
 {
     if log.is_serial() {
-        if let Some(changed) = first_changed(log.allocator(), globals, log.entries())? {
+        if let Some(changed) = first_changed(log, globals)? {
             return Ok(Outcome::Clash(changed));
         }
     }

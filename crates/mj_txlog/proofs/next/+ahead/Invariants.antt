@@ -26,7 +26,7 @@ decreases-stands l = 6 * (32 - length l.name.now.subscripts) + 1
 -- what stands in the globals so far is seen only where an own text does; nothing is left of what was passed last; and what is kept of it is so
 abbrev pub invariant-pass_over-loop : goal.invariant-pass_over-loop
 invariant-pass_over-loop l = record {
-  passed : (es : Accesses) → IsLaid l.own es → ArePassed l.own.over l.globals.content (seen l.globals.content es) l.front l.way l.fn.at l.at;
-  bare : (es : Accesses) → IsLaid l.own es → l.is_passed ≡ true → IsBare l.globals.content l.own.gone l.front l.at;
-  skips : KeepSkips l.globals.content l.own l.skips;
+  passed : (es : Accesses) → IsLaid l.own es → ArePassed l.own.over l.globals (seen l.globals es) l.front l.way l.fn.at l.at;
+  bare : (es : Accesses) → IsLaid l.own es → l.is_passed ≡ true → IsBare l.globals l.own.gone l.front l.at;
+  skips : KeepSkips l.globals l.own l.skips;
 }

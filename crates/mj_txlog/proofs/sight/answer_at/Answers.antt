@@ -13,15 +13,15 @@ use Rattle.mj_txlog.proofs.sight.answer_at.Goals as goal
 
 pub returns-then-branch-clause-answer : goal.returns-then-branch-clause-answer
 returns-then-branch-clause-answer c = IfOk-weaker c.look.result _ _
-    (λ out h es laid. answer_below c.args.read.now c.args.reach.now c.args.own.now.over c.args.globals.now.content es out c.requires.read c.over.ensures.rises c.rises.ensures c.requires.reach
-    (went_alike c.args.own.now es c.args.reach.now laid c.args.globals.now.content (sym c.in_ok-went.ensures ∙ c.if-branch.true))
+    (λ out h es laid. answer_below c.args.read.now c.args.reach.now c.args.own.now.over c.args.globals.now es out c.requires.read c.over.ensures.rises c.rises.ensures c.requires.reach
+    (went_alike c.args.own.now es c.args.reach.now laid c.args.globals.now (sym c.in_ok-went.ensures ∙ c.if-branch.true))
     (h ∙ ap (answer_of c.args.read.now) c.over.ensures.which))
     c.look.ensures
 
 pub returns-then-is_clear-clause-answer : goal.returns-then-is_clear-clause-answer
 returns-then-is_clear-clause-answer c = IfOk-weaker c.look-then-is_clear.result _ _
-    (λ out h es laid. answer_below c.args.read.now c.args.reach.now c.args.globals.now.content c.args.globals.now.content es out c.requires.read c.rises.ensures c.rises.ensures c.requires.reach
-    (clear_alike c.args.own.now es c.args.reach.now laid c.args.globals.now.content (sym c.in_ok-went.ensures ∙ c.if-branch.false) (sym c.if-is_clear.ensures))
+    (λ out h es laid. answer_below c.args.read.now c.args.reach.now c.args.globals.now c.args.globals.now es out c.requires.read c.rises.ensures c.rises.ensures c.requires.reach
+    (clear_alike c.args.own.now es c.args.reach.now laid c.args.globals.now (sym c.in_ok-went.ensures ∙ c.if-branch.false) (sym c.if-is_clear.ensures))
     h)
     c.look-then-is_clear.ensures
 
@@ -34,5 +34,5 @@ returns-in-Data-clause-answer c es laid =
     ap answer.Data
     (c.data_either.ensures
     ∙ (λ i. data_either (over i) (c.data-in-Data.ensures i))
-    ∙ data_laid c.args.own.now es c.in-Data.name laid c.args.globals.now.content stays none)
-    ∙ ap (λ (a : Access). answer_of a (seen c.args.globals.now.content es)) (sym c.in-Data.is)
+    ∙ data_laid c.args.own.now es c.in-Data.name laid c.args.globals.now stays none)
+    ∙ ap (λ (a : Access). answer_of a (seen c.args.globals.now es)) (sym c.in-Data.is)

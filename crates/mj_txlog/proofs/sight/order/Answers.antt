@@ -18,5 +18,5 @@ returns-in-len1-up-clause-next c = IfOk-weaker c.next_below.result _ _
     ∙ (λ i. with_subscripts c.args.name.now (front_of (sym same i) ++ last ∷ []))
     ∙ ap (with_subscripts c.args.name.now) (front_last list last c.in-len1-up.len_at_least c.last-item.is ∙ same)
     in
-    h es laid ∙ ap (λ (k : Name). order_at (seen c.args.globals.now.content es) k c.args.way) whole)
+    h es laid ∙ ap (λ (k : Name). order_at (seen c.args.globals.now es) k c.args.way) whole)
     c.next_below.ensures.next

@@ -4,10 +4,15 @@ use Rattle.mj_txlog.specs.declared.entry.Entry.{Entry}
 use Rattle.mj_txlog.specs.Accesses.{Accesses}
 use Rattle.mj_txlog.specs.Laid.{IsLaid}
 use Rattle.mj_txlog.proofs.Goes.{laid_skips}
+use Rattle.mj_txlog.proofs.Following.{following_at}
 use Rattle.mj_txn.specs.declared.changed.Changed.{Changed}
 use Rattle.mj_txn.specs.Commits.{HoldsNow, DiffersNow}
 use Rattle.mj_txn.proofs.Replies.{told_some, told_none, hold_next, differs_at}
 use Rattle.mj_txn.proofs.changed.first_over.Goals as goal
+
+pub changed_now-requires-clause-follows : goal.changed_now-requires-clause-follows
+changed_now-requires-clause-follows c =
+    following_at c.args.globals.now c.args.entries.now c.args.stamps.now c.loop-i.i c.index-entries-i.result 0 c.requires.each c.loop-i-test.true c.index-entries-i.is c.requires.follow
 
 pub returns-in-Ok-Some : goal.returns-in-Ok-Some
 returns-in-Ok-Some c =

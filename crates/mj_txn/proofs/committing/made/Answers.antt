@@ -1,9 +1,8 @@
-use Rattle.std.proofs.Common.{◌≡◌, false, [], sym, ap, ◌∙◌, subst, if◌then◌else◌}
+use Rattle.std.proofs.Common.{◌≡◌, false, [], Some, None, sym, ap, ◌∙◌, ⊥, if◌then◌else◌}
 use Rattle.std.specs.List.{list_any}
 use Rattle.mj_text.specs.declared.fault.Failure.TheVariants as failure
 use Rattle.mj_text.specs.declared.fault.Fault.TheVariants as fault
 use Rattle.mj_globs.specs.Changes.{after_changes, goes_too_deep}
-use Rattle.mj_txlog.specs.Accesses.{Accesses}
 use Rattle.mj_txn.specs.declared.changed.Changed.{Changed}
 use Rattle.mj_txn.specs.declared.committing.Outcome.TheVariants as outcome
 use Rattle.mj_txn.specs.Commits.{Hold, Differs, changes_of}
@@ -12,23 +11,29 @@ use Rattle.mj_txn.proofs.committing.made.Goals as goal
 
 pub returns-in-Some-clause-exactly : goal.returns-in-Some-clause-exactly
 returns-in-Some-clause-exactly c =
-    exact c.args.log.now.transaction c.args.globals.now.content (outcome.Clash c.in-Some.changed) (
+    let g = c.args.globals.now.content in
+    let es = c.args.log.now.transaction.accesses in
+    exact c.args.log.now.transaction g (outcome.Clash c.in-Some.changed) (
       sym c.if-is_serial.ensures,
-      subst (λ (xs : Accesses). Differs c.args.globals.now.content xs c.in-Some.changed.place c.in-Some.changed.«then» c.in-Some.changed.now) c.entries.ensures.value
-          (told_some (Hold c.args.globals.now.content [] c.entries.result.now) (λ (d : Changed). Differs c.args.globals.now.content c.entries.result.now d.place d.«then» d.now)
-          c.in_ok-changed.field-0 c.in-Some.changed c.in_ok-changed.ensures c.in-Some.is),
+      told_some (Hold g [] es) (λ (d : Changed). Differs g es d.place d.«then» d.now) c.in_ok-changed.field-0 c.in-Some.changed c.in_ok-changed.ensures.first c.in-Some.is,
     )
+
+pub returns-in-Some-clause-fresh : goal.returns-in-Some-clause-fresh
+returns-in-Some-clause-fresh c none =
+    let is : c.in_ok-changed.field-0 ≡ None = c.in_ok-changed.ensures.fresh none in
+    let other : c.in_ok-changed.field-0 ≡ Some c.in-Some.changed = c.in-Some.is in
+    absurd (let no : ⊥ = cc (is, other) in no)
 
 pub returns-in-Ok-clause-globals : goal.returns-in-Ok-clause-globals
 returns-in-Ok-clause-globals c =
     c.in-Ok.ensures.ok
-    ∙ ap (after_changes c.args.globals.now.content) (c.deref.ensures.value ∙ c.in_ok-changes.ensures ∙ ap changes_of c.entries-2.ensures.value)
+    ∙ ap (after_changes c.args.globals.now.content) (c.deref.ensures.value ∙ c.in_ok-changes.ensures ∙ ap changes_of c.entries.ensures.value)
     ∙ changes_seen c.args.log.now.transaction.accesses c.args.globals.now.content
 
 pub unreachable-requires : goal.unreachable-requires
 unreachable-requires c =
     let none : list_any goes_too_deep c.deref.result.now ≡ false =
-    ap (list_any goes_too_deep) (c.deref.ensures.value ∙ c.in_ok-changes.ensures ∙ ap changes_of c.entries-2.ensures.value) ∙ none_deep c.args.log.now.transaction.accesses in
+    ap (list_any goes_too_deep) (c.deref.ensures.value ∙ c.in_ok-changes.ensures ∙ ap changes_of c.entries.ensures.value) ∙ none_deep c.args.log.now.transaction.accesses in
     let memory : c.in-Err-Fault.field-0 ≡ failure.Memory = c.in-Err-Fault.ensures.error ∙ ap (λ b. if b then failure.Fault fault.Limit else failure.Memory) none in
     let fault : c.in-Err-Fault.field-0 ≡ failure.Fault c.in-Err-Fault.field-0-0 = c.in-Err-Fault.field-0-is in
     cc (memory, fault)

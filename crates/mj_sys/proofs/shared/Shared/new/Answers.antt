@@ -8,7 +8,6 @@ use Rattle.mj_sys.specs.Transactions.{Transactions, Transacted, all_logged}
 use Rattle.mj_sys.specs.Kept.{Service, devices_of}
 use Rattle.mj_sys.proofs.Placed.{free_all}
 use Rattle.mj_sys.proofs.Together.{at_first_together}
-use Rattle.mj_sys.proofs.Passing.{none_made}
 use Rattle.mj_sys.proofs.shared.Shared.new.Goals as goal
 
 pub invariant_of-result : goal.invariant_of-result
@@ -19,9 +18,7 @@ invariant_of-result g c =
     rw (left, holders, c.in-Ok-of.ensures.ok) (at_first_together pool c.args.starts.items c.requires.fits)
 
 pub new-requires : goal.new-requires
-new-requires g c =
-    none_made c.args.globals.content (all_logged c.in-Ok-none_open.logs.items) c.in-Ok-none_passed.passed.items c.len-2.result c.len-3.result c.in-Ok-none_open.ensures c.in-Ok-none_passed.ensures
-    (c.len-2.ensures ∙ sym c.len-3.ensures)
+new-requires g c = c.in-Ok-none_open.ensures.open c.args.globals
 
 pub returns-clause-ok : goal.returns-clause-ok
 returns-clause-ok g c =
@@ -36,7 +33,7 @@ returns-clause-ok g c =
     let none : Transactions = replicate (length c.args.starts.items) None in
     let of : Locks → Devices → Rows → Service = of_all (at_first none) in
     let devices : Devices = devices_of c.left-principals.result pool c.in-Ok.holders.items in
-    ap (λ x. of_all x c.new-2.result.holds devices c.in-Ok-of.jobs) (c.new.ensures ∙ ap at_first (c.in-Ok-none_open.ensures ∙ ap (λ n. replicate n None) (c.len-2.ensures ∙ c.args.starts.ok.0)))
+    ap (λ x. of_all x c.new-2.result.holds devices c.in-Ok-of.jobs) (c.new.ensures ∙ ap at_first (c.in-Ok-none_open.ensures.logged ∙ ap (λ n. replicate n None) (c.len-2.ensures ∙ c.args.starts.ok.0)))
     ∙ ap (λ l. of l devices c.in-Ok-of.jobs) c.new-2.ensures
     ∙ ap (λ p. of [] (devices_of p pool c.in-Ok.holders.items) c.in-Ok-of.jobs) left
     ∙ ap (λ h. of [] (devices_of (left_of principal pool) pool h) c.in-Ok-of.jobs) holders

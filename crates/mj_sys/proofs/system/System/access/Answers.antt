@@ -26,6 +26,7 @@ pub returns-clause-ok : goal.returns-clause-ok
 returns-clause-ok g c =
     let n = c.access_next.new in
     let after : Recorded = record { history = n.history.items; claimed = n.shared.claimed } in
-    subst (λ (r : Recorded). IfOk c.access_next.result (λ t. Serves g.O.Opening.opening r c.args.claim.now (asks.Shared (shared_asks.Access c.args.access)) false (serveds.Reply t) after n.claim)) c.self.view_is
+    let ask = asks.Shared (shared_asks.Access c.args.access) in
+    subst (λ (r : Recorded). IfOk c.access_next.result (λ t. Serves g.O.Opening.opening r c.args.claim.now ask false (serveds.Reply t) after n.claim)) c.self.view_is
     (serves_if g.O.Opening.opening c.self.inside.shared c.self.inside.history.items c.self.inside.counts.items c.args.claim.now (shared_asks.Access c.args.access) false (ready g c)
     n.shared n.history.items n.counts.items n.claim c.access_next.ensures.apart serveds.Reply c.access_next.result c.access_next.ensures.ok)

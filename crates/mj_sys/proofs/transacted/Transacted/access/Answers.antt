@@ -1,21 +1,30 @@
-use Rattle.std.proofs.Common.{sym, subst}
-use Rattle.std.specs.Prelude.{slice_set}
-use Rattle.mj_sys.specs.Passed.{ArePassed}
-use Rattle.mj_sys.specs.Transactions.{all_logged, logged}
-use Rattle.mj_sys.proofs.Passing.{all_set}
-use Rattle.mj_sys.proofs.Places.{seen_set, nothing_done}
+use Rattle.std.proofs.Common.{◌∙◌, ◌<◌, subst}
+use Rattle.mj_sys.proofs.Passing.{row_there, row_set, rows_on}
+use Rattle.mj_sys.proofs.Places.{nothing_done}
 use Rattle.mj_sys.proofs.transacted.Transacted.access.Goals as goal
+
+pub access_at-requires : goal.access_at-requires
+access_at-requires c =
+    let i = c.self.inside in
+    row_there i.globals i.logs.items c.in-Some.at c.index_mut.result.now (subst (λ n. c.in-Some.at < n) (c.len.ensures ∙ i.logs.ok.0) c.in-Some.ensures.some.1)
+    c.index_mut.ensures.value c.self.invariant
+
+pub invariant_of-self-in-None : goal.invariant_of-self-in-None
+invariant_of-self-in-None c =
+    let i = c.self.inside in
+    let made = c.answer-told in
+    rows_on i.globals made.new.globals i.logs.items c.rises.ensures c.rises-2.ensures made.ensures.stamps c.self.invariant
 
 pub invariant_of-self-in-Some : goal.invariant_of-self-in-Some
 invariant_of-self-in-Some c =
     let i = c.self.inside in
-    let made = c.access_at in
-    subst (λ ts. ArePassed made.new.globals.content made.new.changes ts (slice_set i.passed.items c.in-Some.at made.new.passed)) (sym (seen_set i.logs.items c.in-Some.at made.new.own))
-    (all_set i.globals.content i.changes made.new.globals.content made.new.changes (all_logged i.logs.items) i.passed.items c.in-Some.at (logged made.new.own) made.new.passed
-    made.ensures.counted made.ensures.passed c.self.invariant)
+    let made = c.access_at-told in
+    row_set made.new.globals i.logs.items c.in-Some.at made.new.own made.ensures.open
+    (rows_on i.globals made.new.globals i.logs.items c.rises.ensures c.rises-2.ensures made.ensures.stamps c.self.invariant)
 
 pub returns-in-Some-clause-err : goal.returns-in-Some-clause-err
 returns-in-Some-clause-err c =
     let i = c.self.inside in
-    nothing_done c.access_at.result i.globals.content c.access_at.new.globals.content i.logs.items c.in-Some.at c.index_mut.result.now c.access_at.new.own c.args.self.now
-    c.index_mut.ensures.value c.access_at.ensures.err c.self.view_is
+    let made = c.access_at-told in
+    nothing_done made.result i.globals.content made.new.globals.content i.logs.items c.in-Some.at c.index_mut.result.now made.new.own c.args.self.now
+    c.index_mut.ensures.value made.ensures.err c.self.view_is

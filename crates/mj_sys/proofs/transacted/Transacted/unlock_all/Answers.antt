@@ -1,15 +1,7 @@
-use Rattle.std.proofs.Common.{ap, ◌∙◌}
-use Rattle.mj_txlog.specs.declared.entry.Unlock.TheVariants as unlocks
-use Rattle.mj_sys.specs.Transactions.{all_logged, logged}
-use Rattle.mj_sys.specs.Passed.{killed_by}
-use Rattle.mj_sys.proofs.Passing.{back_like, killed_given}
 use Rattle.mj_sys.proofs.transacted.Transacted.unlock_all.Goals as goal
 
 pub invariant_of-self : goal.invariant_of-self
 invariant_of-self c =
     let i = c.self.inside in
-    let out = c.take_out-own in
-    let given = c.unlock_all-told in
-    back_like i.globals.content i.changes (all_logged i.logs.items) (all_logged out.new.logs.items) (all_logged c.put_back.new.logs.items)
-    i.passed.items c.args.job (logged given.new.own) out.ensures.left c.put_back.ensures
-    (killed_given (logged out.result) (logged given.new.own) unlocks.All _ given.result given.ensures.own given.ensures.err ∙ ap killed_by out.ensures.taken) c.self.invariant
+    let out = c.take_out-own.ensures.open i.globals c.self.invariant in
+    c.put_back.ensures.open i.globals (c.unlock_all-told.ensures.open i.globals out.0) out.1

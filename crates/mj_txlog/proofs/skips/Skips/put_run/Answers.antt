@@ -4,7 +4,8 @@ use Rattle.mj_subs.specs.Name.{Name}
 use Rattle.mj_store.specs.Questions.{Content}
 use Rattle.mj_store.specs.Changes.{after_set, after_kill, followed_by}
 use Rattle.mj_txlog.specs.Skips.{IsNextRun, Joins}
-use Rattle.mj_txlog.proofs.Passing.{lengthened, joined, only_killed, same_joins, either}
+use Rattle.mj_txlog.proofs.Passing.{lengthened, joined, only_killed, same_joins}
+use Rattle.mj_txlog.proofs.Only.{one_of}
 use Rattle.mj_txlog.proofs.skips.Skips.put_run.Goals as goal
 
 pub returns-in-Some : goal.returns-in-Some
@@ -15,7 +16,7 @@ returns-in-Some c =
     let to = c.args.to.now in
     let base = after_kill old c.in-Some.name in
     let P : Content → Type 0 = Joins old f first to in
-    either P c.set-done.result (after_set c.forget.new.self c.args.at.now c.later.result.now) c.forget.new.self c.set-done.new.self c.set-done.ensures.ok c.set-done.ensures.err
+    one_of P c.set-done.new.self (after_set c.forget.new.self c.args.at.now c.later.result.now) c.forget.new.self c.set-done.ensures
     (subst (λ (x : Content). P (after_set x c.args.at.now c.later.result.now)) (sym c.forget.ensures)
     (subst (λ (n : Name). P (after_set base n c.later.result.now)) (sym c.requires.at)
     (subst (λ (x : List ℕ). P (after_set base (followed_by f (first ∷ [])) x)) (sym c.later.ensures)
@@ -30,5 +31,5 @@ returns-in-None c =
     let first = c.args.first.now in
     let to = c.args.to.now in
     let P : Content → Type 0 = Joins old f first to in
-    either P c.set.result (after_set old c.args.at.now to) old c.set.new.self c.set.ensures.ok c.set.ensures.err
+    one_of P c.set.new.self (after_set old c.args.at.now to) old c.set.ensures
     (subst (λ (n : Name). P (after_set old n to)) (sym c.requires.at) (lengthened old f first to)) (same_joins old f first to)
