@@ -4,10 +4,10 @@
 ghost use Rattle.std.specs.Prelude.{◌<◌};
 
 use mj_globs::Globals;
-use mj_store::{Access, Answer, Direction, Store, ask, is_same_answer, perform};
+use mj_store::{Access, Answer, Direction, Nodes, Store, ask, is_same_answer, perform};
 use mj_subs::{Name, Sub, Subs};
 use mj_text::{Failure, Text};
-use mj_txlog::{Entry, Skips, TxLog, is_write};
+use mj_txlog::{Entry, Skips, TxLog, Unlock, is_write};
 use mj_txn::{Outcome, commit};
 use std::alloc::{AllocError, Global};
 use std::test::Fail;
@@ -16,7 +16,7 @@ const SUBSCRIPTS: [&str; 5] = ["", "1", "2", "10", "x"];
 
 const WORDS: [&str; 2] = ["A", "B"];
 
-const STEPS: u64 = 3_000;
+const STEPS: u64 = 3_800;
 
 // Numbers by chance, the same in each run.
 #[derive(Drop)]
@@ -67,7 +67,8 @@ fn difference(
     Ok(None)
 }
 
-// Whether both do one thing alike: an access of the transaction, a change by another job, or a commit, after which another transaction begins.
+// Whether both do one thing alike: an access of the transaction, an unlock, a change by another job, or a commit, after which another transaction begins, in
+// three of four SERIAL.
 fn is_alike(
     alloc: Global,
     globals: &mut Globals,
@@ -77,13 +78,14 @@ fn is_alike(
     match chance.below(24) {
         0 => {
             let alike = is_commit_alike(globals, log);
-            *log = TxLog::new(alloc, true);
+            *log = TxLog::new(alloc, chance.below(4) != 0);
             alike
         }
         1 | 2 => {
             change(alloc, globals, chance)?;
             Ok(true)
         }
+        3 => is_unlock_alike(log),
         _ => {
             let access = access(alloc, chance)?;
             is_access_alike(alloc, globals, log, access)
@@ -154,10 +156,22 @@ fn make_writes(globals: &mut Globals, entries: &[Entry]) -> Result<(), AllocErro
     Ok(())
 }
 
+// An unlock changes nothing that reads see, and waits for the commit.
+fn is_unlock_alike(log: &mut TxLog) -> Result<bool, Failure> {
+    let told = log.unlock(Unlock::All);
+    let alike = matches!(&told, Ok(Answer::Done));
+    drop(told);
+    Ok(alike)
+}
+
 // ---- a commit
 
 fn is_commit_alike(globals: &mut Globals, log: &TxLog) -> Result<bool, Failure> {
-    let place = plain_place(globals, log.entries())?;
+    let place = if log.is_serial() {
+        plain_place(globals, log.entries())?
+    } else {
+        None
+    };
     let left = match place {
         None => plain_seen(globals, log.entries())?,
         Some(_) => globals.try_clone()?,
@@ -265,7 +279,7 @@ fn give(alloc: Global, globals: &mut Globals, name: &Name, value: u64) -> Result
 
 fn access(alloc: Global, chance: &mut Chance) -> Result<Access, Failure> {
     let name = name(alloc, chance)?;
-    Ok(match chance.below(10) {
+    Ok(match chance.below(11) {
         0 => Access::Value(name),
         1 => Access::Data(name),
         2 | 3 => Access::Order(name, Direction::Forward),
@@ -273,17 +287,33 @@ fn access(alloc: Global, chance: &mut Chance) -> Result<Access, Failure> {
         5 => Access::Query(name),
         6 => Access::Subtree(name),
         7 => Access::Kill(name),
+        8 => Access::Put(name, nodes(alloc, chance)?),
         value => Access::Set(name, Text::from_number(alloc, value as i64)),
     })
 }
 
-// One of two words, with at most two subscripts of a few.
-fn name(alloc: Global, chance: &mut Chance) -> Result<Name, Failure> {
+// At most three texts, at names below the one that they are put to, and at itself.
+fn nodes(alloc: Global, chance: &mut Chance) -> Result<Nodes, Failure> {
+    let mut nodes = Nodes::new(alloc);
+    for value in 0..chance.below(4) {
+        nodes.push(subscripts(alloc, chance)?, Text::from_number(alloc, value as i64))?;
+    }
+    Ok(nodes)
+}
+
+// At most two subscripts of a few.
+fn subscripts(alloc: Global, chance: &mut Chance) -> Result<Subs, Failure> {
     let mut list = Subs::new(alloc);
     for _ in 0..chance.below(3) {
         let sub = SUBSCRIPTS[chance.below(5) as usize];
         list.push(Sub::from_text(Text::from(alloc, sub.as_bytes())?))?;
     }
+    Ok(list)
+}
+
+// One of two words, with at most two subscripts.
+fn name(alloc: Global, chance: &mut Chance) -> Result<Name, Failure> {
+    let list = subscripts(alloc, chance)?;
     let word = WORDS[chance.below(2) as usize];
     Ok(Name::global(Text::from(alloc, word.as_bytes())?, list))
 }
