@@ -1,5 +1,5 @@
 -- A transaction goes on following the globals, whatever changes in them and whatever it does.
-use Rattle.std.proofs.Common.{◌≡◌, ℕ, zero, suc, ◌+◌, ◌≤◌, ◌<◌, Bool, true, false, not, cond, ◌&&◌, List, [], ◌∷◌, ◌++◌, length, take, get_or, Option, Some, None, refl, sym, ap, ◌∙◌, subst, arith}
+use Rattle.std.proofs.Common.{◌≡◌, ℕ, zero, suc, ◌+◌, ◌≤◌, ◌<◌, Bool, true, false, not, cond, ◌&&◌, List, [], ◌∷◌, ◌++◌, length, take, get_or, Some, None, refl, sym, ap, ◌∙◌, subst, arith}
 use Rattle.std.specs.Prelude.{T, ◌↔◌, IsTrue, nat_lt, slice_get, if◌then◌else◌}
 use Rattle.std.specs.FinMap.{find, is_sorted}
 use Rattle.std.specs.Option.{is_some}
@@ -9,21 +9,19 @@ use Rattle.std.proofs.lemmas.Option.{same_Some, slice_get-get_or, slice_get_with
 use Rattle.mj_subs.specs.Name.{Name}
 use Rattle.mj_subs.specs.Collation.{subscript_cmp, name_cmp}
 use Rattle.mj_store.specs.Nodes.{after_front}
-use Rattle.mj_store.specs.Questions.{Content, value_at, same_word, rest_of}
+use Rattle.mj_store.specs.Questions.{Content, same_word, rest_of}
 use Rattle.mj_store.specs.Runs.{name_of, answer_of, after_access, after_accesses}
 use Rattle.mj_store.specs.declared.access.Access.{Access}
 use Rattle.mj_store.specs.declared.access.Access.TheVariants as access
 use Rattle.mj_store.specs.declared.access.Answer.{Answer}
-use Rattle.mj_store.specs.declared.access.Answer.TheVariants as answer
 use Rattle.mj_globs.specs.Stamps.{Stamps, Stamped, stamp_at, is_still, Rises}
 use Rattle.mj_globs.proofs.Stamping.{still_same, one_stamp}
 use Rattle.mj_txlog.specs.declared.entry.Entry.{Entry}
 use Rattle.mj_txlog.specs.declared.entry.Entry.TheVariants as entry
-use Rattle.mj_txlog.specs.declared.entry.Unlock.{Unlock}
-use Rattle.mj_txlog.specs.Accesses.{Accesses, is_write, is_full, writes_of, seen, Transaction, reply_in, with_entry, with_reply, with_unlock}
+use Rattle.mj_txlog.specs.Accesses.{Accesses, is_write, writes_of, seen}
 use Rattle.mj_txlog.specs.Sight.{reach_of}
 use Rattle.mj_txlog.specs.Logged.{Logged}
-use Rattle.mj_txlog.specs.Follows.{stamp_kept, with_stamp, FollowsNow, FollowsAt, AreFollowing, Follows, is_stale, stale_among}
+use Rattle.mj_txlog.specs.Follows.{FollowsNow, FollowsAt, AreFollowing, Follows, is_stale, stale_among}
 use Rattle.mj_txlog.proofs.Alike.{same_access}
 use Rattle.mj_txlog.proofs.Looks.{answer_alike}
 use Rattle.mj_txlog.proofs.Sorted.{rises_seen}
@@ -147,17 +145,6 @@ following_whole g es ss i len all so =
 
 -- ---- one access, by its cases
 
-pub write_follows : (g : Stamped) (earlier : Accesses) (a : Access) (r : Answer) (s : ℕ) → is_write a ≡ true → FollowsAt g earlier (entry.Access a r) s
-write_follows g earlier a r s write read = absurd (let no : ⊥ = cc in no)
-
-pub above_unfollowing : (g : Stamped) (earlier : Accesses) (a : Access) (r : Answer) (s : ℕ) → is_write a ≡ false → stamp_at g.stamps (name_of a) < s
-    → FollowsAt g earlier (entry.Access a r) s → ⊥
-above_unfollowing g earlier a r s read above follows = let behind = (follows read).behind in omega (arith, above, behind)
-
-pub changed_follows : (g : Stamped) (earlier : Accesses) (a : Access) (r : Answer) (s : ℕ) → s ≤ stamp_at g.stamps (name_of a) → is_still s (stamp_at g.stamps (name_of a)) ≡ false
-    → FollowsAt g earlier (entry.Access a r) s
-changed_follows g earlier a r s behind other read = record { behind = behind; still = λ e. absurd (let no : ⊥ = cc in no) }
-
 pub still_follows : (g : Stamped) (earlier : Accesses) (a : Access) (r : Answer) (s : ℕ) (b : Bool) → is_write a ≡ false → s ≤ stamp_at g.stamps (name_of a)
     → is_still s (stamp_at g.stamps (name_of a)) ≡ true → IsTrue b ↔ (answer_of a (seen g.content earlier) ≡ r) → IsTrue b ↔ FollowsAt g earlier (entry.Access a r) s
 still_follows g earlier a r s b read behind still has =
@@ -166,61 +153,6 @@ still_follows g earlier a r s b read behind still has =
 -- a test of an access tells whether it is so
 pub told_access : (g : Stamped) (earlier : Accesses) (e x : Entry) (s : ℕ) (b : Bool) → e ≡ x → IsTrue b ↔ FollowsAt g earlier x s → IsTrue b ↔ FollowsAt g earlier e s
 told_access g earlier e x s b is told = subst (λ (y : Entry). IsTrue b ↔ FollowsAt g earlier y s) (sym is) told
-
-pub told_true : {P : Type 0} → P → IsTrue true ↔ P
-told_true p = (λ t. p, λ q. refl)
-
-pub told_false : {P : Type 0} → (P → ⊥) → IsTrue false ↔ P
-told_false none = (λ t. absurd (let never : ⊥ = cc in never), λ p. absurd (none p))
-
--- ---- what each call makes of it
-
--- an access that was answered on these globals, with the stamp of its word there
-told_follows : (g : Stamped) (es : Accesses) (ss : List ℕ) (a : Access) (r : Answer) → length ss ≡ length es → AreFollowing g es ss → (is_write a ≡ false → r ≡ answer_of a (seen g.content es))
-    → AreFollowing g (es ++ entry.Access a r ∷ []) (ss ++ stamp_kept a g.stamps ∷ [])
-told_follows g es ss a r len follows is =
-    following_more g es ss (entry.Access a r) (stamp_kept a g.stamps) len follows (λ read.
-    let stamp : stamp_kept a g.stamps ≡ stamp_at g.stamps (name_of a) = ap (λ w. if w then 0 else stamp_at g.stamps (name_of a)) read in
-    record { behind = omega (arith, stamp); still = λ _. sym (is read) })
-
-pub reply_follows : (g : Stamped) (t : Transaction) (ss : List ℕ) (a : Access) (r : Answer) → length ss ≡ length t.accesses → AreFollowing g t.accesses ss
-    → (is_write a ≡ false → r ≡ answer_of a (seen g.content t.accesses)) → AreFollowing g (with_reply t a r).accesses (with_stamp ss r (stamp_kept a g.stamps))
-reply_follows g t ss a answer.Limit len h is = h
-reply_follows g t ss a (answer.Value v) len h is = told_follows g t.accesses ss a (answer.Value v) len h is
-reply_follows g t ss a (answer.Data v) len h is = told_follows g t.accesses ss a (answer.Data v) len h is
-reply_follows g t ss a (answer.Order v) len h is = told_follows g t.accesses ss a (answer.Order v) len h is
-reply_follows g t ss a (answer.Query v) len h is = told_follows g t.accesses ss a (answer.Query v) len h is
-reply_follows g t ss a (answer.Subtree v) len h is = told_follows g t.accesses ss a (answer.Subtree v) len h is
-reply_follows g t ss a answer.Done len h is = told_follows g t.accesses ss a answer.Done len h is
-
--- an access in a transaction
-pub access_follows : (g : Stamped) (log new : Logged) (a : Access) → length log.stamps ≡ length log.transaction.accesses → Follows log g
-    → new.transaction ≡ with_reply log.transaction a (reply_in log.transaction g.content a) → new.stamps ≡ with_stamp log.stamps (reply_in log.transaction g.content a) (stamp_kept a g.stamps)
-    → Follows new g
-access_follows g log new a len follows is stamps =
-    subst (λ (t : Transaction). AreFollowing g t.accesses new.stamps) (sym is)
-    (subst (λ (ss : List ℕ). AreFollowing g (with_reply log.transaction a (reply_in log.transaction g.content a)).accesses ss) (sym stamps) (by (is_full log.transaction)))
-  where
-    by : (b : Bool) → AreFollowing g (with_reply log.transaction a (cond b answer.Limit (answer_of a (seen g.content log.transaction.accesses)))).accesses
-        (with_stamp log.stamps (cond b answer.Limit (answer_of a (seen g.content log.transaction.accesses))) (stamp_kept a g.stamps))
-    by true = follows
-    by false = reply_follows g log.transaction log.stamps a (answer_of a (seen g.content log.transaction.accesses)) len follows (λ _. refl)
-
--- what changes no access and no stamp
-pub same_follows : (g : Stamped) (log new : Logged) → new.transaction.accesses ≡ log.transaction.accesses → new.stamps ≡ log.stamps → Follows log g → Follows new g
-same_follows g log new accesses stamps follows =
-    subst (λ (xs : Accesses). AreFollowing g xs new.stamps) (sym accesses) (subst (λ (ss : List ℕ). AreFollowing g log.transaction.accesses ss) (sym stamps) follows)
-
--- an unlock
-pub unlock_follows : (g : Stamped) (log new : Logged) (u : Unlock) → length log.stamps ≡ length log.transaction.accesses → Follows log g
-    → new.transaction ≡ with_unlock log.transaction u → new.stamps ≡ cond (is_full log.transaction) log.stamps (log.stamps ++ 0 ∷ []) → Follows new g
-unlock_follows g log new u len follows is stamps =
-    subst (λ (t : Transaction). AreFollowing g t.accesses new.stamps) (sym is)
-    (subst (λ (ss : List ℕ). AreFollowing g (with_unlock log.transaction u).accesses ss) (sym stamps) (by (is_full log.transaction)))
-  where
-    by : (b : Bool) → AreFollowing g (cond b log.transaction (with_entry log.transaction (entry.Unlock u))).accesses (cond b log.stamps (log.stamps ++ 0 ∷ []))
-    by true = follows
-    by false = following_more g log.transaction.accesses log.stamps (entry.Unlock u) 0 len follows tt
 
 -- ---- what isn't stale has its answer
 

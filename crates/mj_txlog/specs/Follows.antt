@@ -1,6 +1,5 @@
 -- What the stamps of its reads say of a transaction.
 use Rattle.std.specs.Prelude.{◌≡◌, ◌≤◌, ℕ, ◌+◌, Bool, true, false, not, ◌&&◌, List, [], ◌∷◌, ◌++◌, Some, take, slice_get, ⊤, if◌then◌else◌}
-use Rattle.mj_store.specs.Questions.{Content}
 use Rattle.mj_store.specs.Runs.{name_of, answer_of}
 use Rattle.mj_store.specs.declared.access.Access.{Access}
 use Rattle.mj_store.specs.declared.access.Answer.{Answer}
