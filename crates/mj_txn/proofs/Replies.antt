@@ -8,6 +8,7 @@ use Rattle.std.specs.List.{list_any, cons_option}
 use Rattle.mj_store.specs.Questions.{Content}
 use Rattle.mj_store.specs.Changes.{is_too_deep, after_put}
 use Rattle.mj_store.specs.Runs.{after_access}
+use Rattle.mj_store.specs.declared.access.Access.{Access}
 use Rattle.mj_store.specs.declared.access.Access.TheVariants as access
 use Rattle.mj_store.specs.declared.access.Answer.{Answer}
 use Rattle.mj_globs.specs.declared.change.Change.{Change}
@@ -16,10 +17,11 @@ use Rattle.mj_globs.specs.Changes.{after_changes, goes_too_deep}
 use Rattle.mj_txlog.specs.declared.entry.Entry.{Entry}
 use Rattle.mj_txlog.specs.declared.entry.Entry.TheVariants as entry
 use Rattle.mj_globs.specs.Stamps.{Stamped}
-use Rattle.mj_txlog.specs.Accesses.{Accesses, Transaction, seen}
+use Rattle.mj_txlog.specs.Accesses.{Accesses, is_write, Transaction, seen}
 use Rattle.mj_txlog.specs.Follows.{FollowsAt, AreFollowing, is_stale, stale_among}
 use Rattle.mj_txlog.proofs.Following.{fresh_answer, none_stale}
-use Rattle.mj_txn.specs.Commits.{HoldsNow, Hold, DiffersNow, Differs, CommitsAs, change_of, changes_of}
+use Rattle.mj_txn.specs.Commits.{HasAnswer, HoldsNow, Hold, IsOther, DiffersNow, Differs, CommitsAs, change_of, changes_of}
+use Rattle.mj_txn.specs.declared.changed.Changed.{Changed}
 use Rattle.mj_txn.specs.declared.committing.Outcome.{Outcome}
 use Rattle.mj_txn.specs.declared.committing.Outcome.TheVariants as outcome
 
@@ -31,6 +33,19 @@ told_some P Q (Some y) x h e = let same : y ≡ x = cc in subst Q same h
 pub told_none : {A : Type 0} (P : Type 0) (Q : A → Type 0) (r : Option A) → MatchOption r P Q → r ≡ None → P
 told_none P Q None h e = h
 told_none P Q (Some y) h e = absurd cc
+
+-- what is told of a read, told of the access that it is
+pub told_read : (g texts : Content) (earlier : Accesses) (e : Entry) (a : Access) (r : Answer) (o : Option Changed) → texts ≡ g → e ≡ entry.Access a r → is_write a ≡ false
+    → MatchOption o (HasAnswer texts earlier a r) (λ (c : Changed). IsOther texts earlier a r c.place c.then c.now)
+    → MatchOption o (HoldsNow g earlier e) (λ (c : Changed). DiffersNow g earlier e c.place c.then c.now)
+told_read g texts earlier e a r o same is read told =
+    subst (λ (x : Entry). MatchOption o (HoldsNow g earlier x) (λ (c : Changed). DiffersNow g earlier x c.place c.then c.now)) (sym is)
+    (subst (λ (t : Content). MatchOption o (HoldsNow t earlier (entry.Access a r)) (λ (c : Changed). DiffersNow t earlier (entry.Access a r) c.place c.then c.now)) same (by o told))
+  where
+    by : (o : Option Changed) → MatchOption o (HasAnswer texts earlier a r) (λ (c : Changed). IsOther texts earlier a r c.place c.then c.now)
+        → MatchOption o (HoldsNow texts earlier (entry.Access a r)) (λ (c : Changed). DiffersNow texts earlier (entry.Access a r) c.place c.then c.now)
+    by None h = λ _. h
+    by (Some c) h = (read, h)
 
 pub append_nil : {A : Type 0} (xs : List A) → xs ++ [] ≡ xs
 append_nil [] = refl
@@ -80,7 +95,7 @@ hold_by g front (x ∷ xs) each = (
 
 -- an access holds that isn't stale
 pub fresh_holds : (g : Stamped) (earlier : Accesses) (e : Entry) (s : ℕ) → FollowsAt g earlier e s → is_stale g.stamps e s ≡ false → HoldsNow g.content earlier e
-fresh_holds g earlier (entry.Access a r) s follows fresh read = fresh_answer g earlier a r s (follows read) fresh read
+fresh_holds g earlier (entry.Access a r) s follows fresh = λ read. fresh_answer g earlier a r s (follows read) fresh read
 fresh_holds g earlier (entry.Unlock u) s follows fresh = tt
 
 -- and all do where none is

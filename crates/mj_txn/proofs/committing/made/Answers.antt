@@ -1,4 +1,4 @@
-use Rattle.std.proofs.Common.{◌≡◌, false, [], Some, None, sym, ap, ◌∙◌, ⊥, if◌then◌else◌}
+use Rattle.std.proofs.Common.{◌≡◌, false, [], Some, None, sym, ap, ◌∙◌, if◌then◌else◌}
 use Rattle.std.specs.List.{list_any}
 use Rattle.mj_text.specs.declared.fault.Failure.TheVariants as failure
 use Rattle.mj_text.specs.declared.fault.Fault.TheVariants as fault
