@@ -1,6 +1,6 @@
 -- Transactions stay open on the globals, whatever changes in these, and whatever is served.
-use Rattle.std.proofs.Common.{◌≡◌, ℕ, zero, suc, ◌+◌, ◌-◌, ◌≤◌, ◌<◌, Bool, true, false, cond, List, [], ◌∷◌}
-use Rattle.std.proofs.Common.{◌++◌, length, replicate, take, get_or, Option, Some, None, refl, sym, ap, ◌∙◌, subst, arith}
+use Rattle.std.proofs.Common.{◌≡◌, ℕ, zero, suc, ◌<◌, Bool, true, false, cond, List, [], ◌∷◌}
+use Rattle.std.proofs.Common.{◌++◌, length, take, get_or, Option, Some, None, refl, sym, ap, ◌∙◌, subst, arith}
 use Rattle.std.specs.Prelude.{T, slice_set, if◌then◌else◌, Result, Ok, Err, IfOk, OnOk, OnErr}
 use Rattle.std.specs.BTreeMap.{insert_entry}
 use Rattle.std.specs.List.{slice_index_or}
@@ -12,7 +12,7 @@ use Rattle.std.specs.declared.cmp.Ordering.TheVariants.{Less, Equal, Greater}
 use Rattle.std.proofs.lemmas.Option.{same_Some}
 use Rattle.mj_subs.specs.Name.{Name}
 use Rattle.mj_subs.specs.Collation.{name_cmp}
-use Rattle.mj_store.specs.Questions.{Content, value_at, same_word}
+use Rattle.mj_store.specs.Questions.{Content}
 use Rattle.mj_store.specs.Changes.{followed_by}
 use Rattle.mj_store.specs.declared.access.Access.{Access}
 use Rattle.mj_globs.specs.Stamps.{Stamped, stamp_at, is_still, Rises}

@@ -1,5 +1,4 @@
 use Rattle.std.proofs.Common.{◌<◌, Option, sym, ◌∙◌, subst}
-use Rattle.mj_globs.specs.Stamps.{Stamped}
 use Rattle.mj_sys.specs.Passed.{IsOpen}
 use Rattle.mj_sys.specs.Transactions.{Ongoing}
 use Rattle.mj_sys.proofs.Passing.{row_there, row_set}

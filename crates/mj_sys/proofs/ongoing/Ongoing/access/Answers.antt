@@ -1,4 +1,4 @@
-use Rattle.std.proofs.Common.{List, Vec, ℕ, Global, sym, ap, ◌∙◌, subst}
+use Rattle.std.proofs.Common.{List, Vec, ℕ, Global, sym, ap, subst}
 use Rattle.std.specs.BTreeMap.{BTreeMap}
 use Rattle.std.specs.Map.{values_of}
 use Rattle.mj_txlog.specs.Skips.{gone_by}
