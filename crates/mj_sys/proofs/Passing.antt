@@ -1,6 +1,6 @@
 -- Transactions stay open on the globals, whatever changes in these, and whatever is served.
-use Rattle.std.proofs.Common.{◌≡◌, ℕ, zero, suc, ◌+◌, ◌-◌, ◌≤◌, ◌<◌, Bool, true, false, cond, List, [], ◌∷◌}
-use Rattle.std.proofs.Common.{◌++◌, length, replicate, take, get_or, Option, Some, None, refl, sym, ap, ◌∙◌, subst, arith, ⊥}
+use Rattle.std.proofs.Common.{◌≡◌, ℕ, zero, suc, ◌<◌, Bool, true, false, cond, List, [], ◌∷◌}
+use Rattle.std.proofs.Common.{◌++◌, length, take, get_or, Option, Some, None, refl, sym, ap, ◌∙◌, subst, arith}
 use Rattle.std.specs.Prelude.{T, slice_set, if◌then◌else◌, Result, Ok, Err, IfOk, OnOk, OnErr}
 use Rattle.std.specs.BTreeMap.{insert_entry}
 use Rattle.std.specs.List.{slice_index_or}
@@ -12,7 +12,7 @@ use Rattle.std.specs.declared.cmp.Ordering.TheVariants.{Less, Equal, Greater}
 use Rattle.std.proofs.lemmas.Option.{same_Some}
 use Rattle.mj_subs.specs.Name.{Name}
 use Rattle.mj_subs.specs.Collation.{name_cmp}
-use Rattle.mj_store.specs.Questions.{Content, value_at, same_word}
+use Rattle.mj_store.specs.Questions.{Content}
 use Rattle.mj_store.specs.Changes.{followed_by}
 use Rattle.mj_store.specs.declared.access.Access.{Access}
 use Rattle.mj_globs.specs.Stamps.{Stamped, stamp_at, is_still, Rises}
@@ -157,12 +157,12 @@ open_same o old new ps is follows same g was =
     }
 
 -- a try of names
-pub gone_tried : {E L : Type 0} (r : Result Taken E) (t new : Transaction) (names : List Name) → IfOk r (λ taken. new ≡ gained_by_try t names taken) → OnErr r (L × (new ≡ t))
+pub gone_tried : {E : Type 0} (L : Type 0) (r : Result Taken E) (t new : Transaction) (names : List Name) → IfOk r (λ taken. new ≡ gained_by_try t names taken) → OnErr r (L × (new ≡ t))
     → gone_by new.accesses ≡ gone_by t.accesses
-gone_tried (Ok takes.Got) t new names ok err = ap (λ (u : Transaction). gone_by u.accesses) ok
-gone_tried (Ok (takes.Busy holder name)) t new names ok err = ap (λ (u : Transaction). gone_by u.accesses) ok
-gone_tried (Ok takes.Limit) t new names ok err = ap (λ (u : Transaction). gone_by u.accesses) ok
-gone_tried (Err e) t new names ok err = ap (λ (u : Transaction). gone_by u.accesses) err.1
+gone_tried L (Ok takes.Got) t new names ok err = ap (λ (u : Transaction). gone_by u.accesses) ok
+gone_tried L (Ok (takes.Busy holder name)) t new names ok err = ap (λ (u : Transaction). gone_by u.accesses) ok
+gone_tried L (Ok takes.Limit) t new names ok err = ap (λ (u : Transaction). gone_by u.accesses) ok
+gone_tried L (Err e) t new names ok err = ap (λ (u : Transaction). gone_by u.accesses) err.1
 
 -- an unlock
 pub gone_waiting : {A E : Type 0} (r : Result A E) (t new : Transaction) (u : Unlock) → OnOk r (new ≡ with_unlock t u) → OnErr r (new ≡ t)

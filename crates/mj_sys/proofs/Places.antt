@@ -153,3 +153,14 @@ seen_front logs left n is = ap all_logged is ∙ seen_take logs n
 pub seen_fewer : (logs left : List (Option Ongoing)) (n : ℕ) → n ≡ length logs → left ≡ take (n - 1) logs
     → all_logged left ≡ take (length (all_logged logs) - 1) (all_logged logs)
 seen_fewer logs left n all is = seen_front logs left (n - 1) is ∙ ap (λ m. take (m - 1) (all_logged logs)) (all ∙ sym (seen_length logs))
+
+-- a row that was put behind the others, and taken away again
+pub taken_back : (ts : Transactions) (t : Option Transaction) → take (length (ts ++ t ∷ []) - 1) (ts ++ t ∷ []) ≡ ts
+taken_back ts t = ap (λ k. take k (ts ++ t ∷ [])) (let e = longer ts in let f : length (ts ++ t ∷ []) - 1 ≡ length ts = omega (arith, e) in f) ∙ front ts where
+  longer : (l : Transactions) → length (l ++ t ∷ []) ≡ suc (length l)
+  longer [] = refl
+  longer (x ∷ l) = ap suc (longer l)
+
+  front : (l : Transactions) → take (length l) (l ++ t ∷ []) ≡ l
+  front [] = refl
+  front (x ∷ l) = ap (λ r. x ∷ r) (front l)

@@ -406,7 +406,7 @@ impl<D: Device> Shared<D> {
     }
 
     // JOB: one more row, where there is room for it and a principal session is left.
-    #[tactic(auto, using(crate::proofs::Passing::taken_back))]
+    #[tactic(auto, using(crate::proofs::Places::taken_back))]
     fn start(
         &mut self,
         job: u32,

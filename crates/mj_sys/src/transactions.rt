@@ -103,17 +103,17 @@ pub fn access_at(
 
 // An access in a transaction.
 fn inside(
-    open: &mut Ongoing,
+    ongoing: &mut Ongoing,
     globals: &Globals,
     access: &Access,
 ) -> Result<(Reply, Reply), AllocError>
-    requires { IsOpenOn globals.now open.old }
-    ensures told { IfOk result (λ told. told ≡ twice (replies.Answer (told_to (Some open.old.log.transaction) globals.now.content access.now))) }
-    ensures log { OnOk result (Some open.new.log.transaction ≡ with_access (Some open.old.log.transaction) globals.now.content access.now) }
-    ensures open { IsOpenOn globals.now open.new }
-    ensures err { OnErr result (open.new.log.transaction ≡ open.old.log.transaction) }
+    requires { IsOpenOn globals.now ongoing.old }
+    ensures told { IfOk result (λ told. told ≡ twice (replies.Answer (told_to (Some ongoing.old.log.transaction) globals.now.content access.now))) }
+    ensures log { OnOk result (Some ongoing.new.log.transaction ≡ with_access (Some ongoing.old.log.transaction) globals.now.content access.now) }
+    ensures open { IsOpenOn globals.now ongoing.new }
+    ensures err { OnErr result (ongoing.new.log.transaction ≡ ongoing.old.log.transaction) }
 {
-    let (reply, again) = open.access(globals, access)?;
+    let (reply, again) = ongoing.access(globals, access)?;
     Ok((Reply::Answer(reply), Reply::Answer(again)))
 }
 

@@ -1,4 +1,4 @@
-use Rattle.std.proofs.Common.{List, Vec, ℕ, Global, sym, ap, ◌∙◌, subst}
+use Rattle.std.proofs.Common.{List, Vec, ℕ, Global, sym, ap, subst}
 use Rattle.std.specs.BTreeMap.{BTreeMap}
 use Rattle.std.specs.Map.{values_of}
 use Rattle.mj_txlog.specs.Skips.{gone_by}
@@ -12,8 +12,8 @@ access-requires c =
     let i = c.self.inside in
     word_passed c.args.globals.now c.args.self.now i.log _ i.passed.entries c.in-Some.word.now c.self.view_is (sym c.in-Some.ensures.value) c.requires
 
-pub access-requires-2 : goal.access-requires-2
-access-requires-2 c =
+pub access-told-requires : goal.access-told-requires
+access-told-requires c =
     subst (λ (p : PassedWord). IsPassed c.args.globals.now (gone_by c.self.inside.log.transaction.accesses) p) (sym c.new-word.ensures)
     (passed_none c.args.globals.now (gone_by c.self.inside.log.transaction.accesses) 0)
 
@@ -30,8 +30,8 @@ returns-in-Some-clause-open c =
     (set_passed g gone _ i.passed.entries made.new.self made.ensures.passed were))
     c.requires
 
-pub returns-then-clause-open : goal.returns-then-clause-open
-returns-then-clause-open c =
+pub returns-then-may_be_any-clause-open : goal.returns-then-may_be_any-clause-open
+returns-then-may_be_any-clause-open c =
     let i = c.self.inside in
     let g = c.args.globals.now in
     let made = c.access-told in
@@ -42,8 +42,8 @@ returns-then-clause-open c =
     (λ were. c.keep.ensures g gone made.ensures.passed (subst (λ (ps : List PassedWord). ArePassed g gone ps) (sym there) were))
     c.requires
 
-pub returns-else-clause-open : goal.returns-else-clause-open
-returns-else-clause-open c =
+pub returns-else-may_be_any-clause-open : goal.returns-else-may_be_any-clause-open
+returns-else-may_be_any-clause-open c =
     let i = c.self.inside in
     let g = c.args.globals.now in
     let made = c.access-told in

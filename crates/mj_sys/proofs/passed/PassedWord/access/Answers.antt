@@ -4,8 +4,8 @@ use Rattle.mj_txlog.specs.Skips.{gone_by}
 use Rattle.mj_sys.proofs.Passing.{passed_at}
 use Rattle.mj_sys.proofs.passed.PassedWord.access.Goals as goal
 
-pub access-requires : goal.access-requires
-access-requires c = c.renew.ensures.skips (gone_by c.args.log.now.transaction.accesses) c.requires
+pub access-told-requires : goal.access-told-requires
+access-told-requires c = c.renew.ensures.skips (gone_by c.args.log.now.transaction.accesses) c.requires
 
 pub returns-clause-passed : goal.returns-clause-passed
 returns-clause-passed c =

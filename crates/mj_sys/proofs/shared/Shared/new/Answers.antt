@@ -1,10 +1,10 @@
-use Rattle.std.proofs.Common.{[], None, replicate, length, sym, ap, ◌∙◌}
+use Rattle.std.proofs.Common.{[], None, replicate, length, ap, ◌∙◌}
 use Rattle.mj_dev.specs.Shelves.{left_of, principal}
 use Rattle.mj_jobs.specs.Rows.{Rows}
 use Rattle.mj_locktab.specs.Locks.{Locks}
 use Rattle.mj_sys.specs.Opening.{free_devices}
 use Rattle.mj_sys.specs.Devices.{Devices}
-use Rattle.mj_sys.specs.Transactions.{Transactions, Transacted, all_logged}
+use Rattle.mj_sys.specs.Transactions.{Transactions, Transacted}
 use Rattle.mj_sys.specs.Kept.{Service, devices_of}
 use Rattle.mj_sys.proofs.Placed.{free_all}
 use Rattle.mj_sys.proofs.Together.{at_first_together}

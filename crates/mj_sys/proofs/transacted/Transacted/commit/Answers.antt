@@ -1,8 +1,8 @@
 use Rattle.mj_sys.proofs.Passing.{open_on, rows_on}
 use Rattle.mj_sys.proofs.transacted.Transacted.commit.Goals as goal
 
-pub commit-requires : goal.commit-requires
-commit-requires c = (c.take_out-own.ensures.open c.self.inside.globals c.self.invariant).0
+pub commit-told-requires : goal.commit-told-requires
+commit-told-requires c = (c.take_out-own.ensures.open c.self.inside.globals c.self.invariant).0
 
 pub invariant_of-self : goal.invariant_of-self
 invariant_of-self c =
