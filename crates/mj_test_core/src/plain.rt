@@ -296,7 +296,10 @@ fn access(alloc: Global, chance: &mut Chance) -> Result<Access, Failure> {
 fn nodes(alloc: Global, chance: &mut Chance) -> Result<Nodes, Failure> {
     let mut nodes = Nodes::new(alloc);
     for value in 0..chance.below(4) {
-        nodes.push(subscripts(alloc, chance)?, Text::from_number(alloc, value as i64))?;
+        nodes.push(
+            subscripts(alloc, chance)?,
+            Text::from_number(alloc, value as i64),
+        )?;
     }
     Ok(nodes)
 }
