@@ -10,6 +10,7 @@ use std::alloc::Global;
 use std::test::Fail;
 
 // What another job does between the read of `^A` and the commit.
+#[derive(Clone, Copy)]
 enum Between {
     // nothing
     Nothing,
