@@ -16,8 +16,7 @@ use std::alloc::{AllocError, Global};
 const BEFORE: &[u8] = b"mj-globals 1\n^A(1)=\"1\"\n^A(2)=\"2\"\n^B=\"0\"\n";
 
 // What another job does before the transaction that clashes is committed, and what stands then.
-const CHANGES: &str = "2 set ^B \"a text that is so long that it has room of its own\" done
-";
+const CHANGES: &str = "2 set ^B \"a text that is so long that it has room of its own\" done\n";
 
 const CHANGED: &[u8] =
     b"mj-globals 1\n^A(1)=\"1\"\n^A(2)=\"2\"\n^B=\"a text that is so long that it has room of its own\"\n";
@@ -57,16 +56,24 @@ fn make(
 ) -> Result<(), Failure> {
     let mut globals = listed(alloc, BEFORE)?;
     let mut log = TxLog::new(alloc, serial);
-    let done = match access_all(alloc, told, &mut log, &globals, events) {
-        Ok(()) => match change_all(alloc, &mut globals, others) {
-            Ok(()) => Ok(commit_these(alloc, told, &log, &mut globals, listing)?),
-            Err(failure) => Err(failure),
-        },
-        Err(failure) => Err(failure),
-    };
+    let done = make_on(alloc, told, &mut log, &mut globals, events, others, listing);
     drop(log);
     drop(globals);
     done
+}
+
+fn make_on(
+    alloc: Global,
+    told: &mut Told,
+    log: &mut TxLog,
+    globals: &mut Globals,
+    events: &str,
+    others: &str,
+    listing: &[u8],
+) -> Result<(), Failure> {
+    access_all(alloc, told, log, globals, events)?;
+    change_all(alloc, globals, others)?;
+    Ok(commit_these(alloc, told, log, globals, listing)?)
 }
 
 fn access_all(
