@@ -32,12 +32,15 @@ use Rattle.mj_subs.proofs.name.Name.TheSendSync as name
 use Rattle.mj_tree.proofs.node.Node.TheLaws.TheKnot as knot
 use Rattle.mj_tree.specs.contracts.node.Node as Node
 use Rattle.mj_tree.specs.contracts.tree.Tree as Tree
+use Rattle.mj_globs.specs.contracts.texts.Texts as Texts
+use Rattle.mj_globs.specs.contracts.stamps.Stamps as Stamps
 use Rattle.mj_globs.specs.contracts.globals.Globals as Globals
 use Rattle.mj_txlog.proofs.entry.Entry.TheSendSync as entry
 use Rattle.mj_txlog.specs.contracts.overlay.Overlay as Overlay
 use Rattle.mj_txlog.specs.contracts.skips.Skips as Skips
 use Rattle.mj_txlog.specs.contracts.log.TxLog as TxLog
-use Rattle.mj_sys.specs.contracts.passed.Passed as Passed
+use Rattle.mj_sys.specs.contracts.passed.PassedWord as PassedWord
+use Rattle.mj_sys.specs.contracts.ongoing.Ongoing as Ongoing
 use Rattle.mj_sys.specs.contracts.transacted.Transacted as Transacted
 use Rattle.mj_locktab.proofs.node.Node.TheLaws.TheKnot as lock_knot
 use Rattle.mj_locktab.specs.contracts.node.Node as LockNode
@@ -61,23 +64,32 @@ node_send = as_row_send Node.the_field (search (knot.send-Node, option.the_send,
 pub tree_send : IsSend Tree.the_row
 tree_send = search (node_send, parts) depth 40
 
+pub texts_send : IsSend Texts.the_row
+texts_send = search (tree_send, parts) depth 40
+
+pub stamps_send : IsSend Stamps.the_row
+stamps_send = search (parts) depth 40
+
 pub globals_send : IsSend Globals.the_row
-globals_send = search (tree_send, parts) depth 40
+globals_send = search (texts_send, stamps_send, parts) depth 40
 
 pub overlay_send : IsSend Overlay.the_row
-overlay_send = search (globals_send, parts) depth 40
+overlay_send = search (texts_send, parts) depth 40
 
 pub skips_send : IsSend Skips.the_row
-skips_send = search (globals_send, parts) depth 40
+skips_send = search (texts_send, name.the_send, parts) depth 40
 
 pub log_send : IsSend TxLog.the_row
 log_send = search (overlay_send, entry.the_send, name.the_send, parts) depth 40
 
-pub passed_send : IsSend Passed.the_row
+pub passed_send : IsSend PassedWord.the_row
 passed_send = search (skips_send, parts) depth 40
 
+pub ongoing_send : IsSend Ongoing.the_row
+ongoing_send = search (log_send, passed_send, parts) depth 40
+
 pub transacted_send : IsSend Transacted.the_row
-transacted_send = search (globals_send, log_send, passed_send, parts) depth 40
+transacted_send = search (globals_send, ongoing_send, parts) depth 40
 
 pub lock_node_send : IsSend LockNode.the_row
 lock_node_send = as_row_send LockNode.the_field (search (lock_knot.send-Node, sub.the_send, parts) depth 40)
