@@ -270,7 +270,9 @@ fn change(alloc: Global, globals: &mut Globals, chance: &mut Chance) -> Result<(
     done
 }
 
-fn give(alloc: Global, globals: &mut Globals, name: &Name, value: u64) -> Result<(), Failure> {
+fn give(alloc: Global, globals: &mut Globals, name: &Name, value: u64) -> Result<(), Failure>
+    requires { value < 4 }
+{
     let text = Text::from_number(alloc, value as i64);
     let done = globals.set(name, &text);
     drop(text);
