@@ -1,7 +1,7 @@
 -- The code of commands has at each place the operands and the FORs that it needs there, and leads to places of its own.
 use Rattle.std.proofs.Common.{◌≡◌, ℕ, ◌+◌, ◌-◌, ◌≤◌, List, [], ◌∷◌, ◌++◌, length, map, Option, Some, None, refl, subst, arith}
 use Rattle.std.specs.Prelude.{⊤}
-use Rattle.mj_ast.specs.Syntax.{Expr, Variable, Destination, Plain, Pieces, Targets, One, Several, Assignment, Killed, Gone, Spared, Merged, Output, Shown, Format, Coded, Called, Jumped, Started, Locked, Opened, Received, Input, Prompted, Arranged, Into, Renewed, Fresh, Kept, Restartable, Command, Set, Write, Halt, Hang, Job, Lock, OpenDevice, UseDevice, CloseDevice, Read, Kill, Merge, If, Else, For, Forever, Do, Goto, Quit, New, TStart, TCommit, TRestart, TRollback, Break}
+use Rattle.mj_ast.specs.Syntax.{Expr, Variable, as_actuals, Destination, Plain, Pieces, Targets, One, Several, Assignment, Killed, Gone, Spared, Merged, Output, Shown, Format, Coded, Called, Jumped, Started, Locked, Opened, Received, Input, Prompted, Arranged, Into, Renewed, Fresh, Kept, Restartable, Command, Set, Write, Halt, Hang, Job, Lock, OpenDevice, UseDevice, CloseDevice, Read, Kill, Merge, If, Else, For, Forever, Do, Goto, Quit, New, TStart, TCommit, TRestart, TRollback, Break}
 use Rattle.mj_semantics.specs.Lines.{Here, entry_of}
 use Rattle.mj_semantics.specs.Transactions.{listed_by, serial_by}
 use Rattle.mj_pcode.specs.declared.instr.Depth.{Depth}
@@ -190,13 +190,14 @@ module _ (fs : List Footing) (k : ℕ) where
 
   start_goes : (here : Here) (s : Started) → Passes fs k (λ pc. start_code here pc s)
   start_goes here s pc =
-      let ca = actuals_code pc s.actuals in
-      let n = given_count (shape_of s.actuals) in
+      let actuals = as_actuals s.actuals in
+      let ca = actuals_code pc actuals in
+      let n = given_count (shape_of actuals) in
       let pw = pc + length ca in
       let cw = timeout_code pw s.timeout in
       let w = wait_size (wait_of s.timeout) in
-      let i = instr.StartJob (entry_of here s.target) (shape_of s.actuals) (wait_of s.timeout) in
-      both fs pc (at 0) (at (0 + n)) (at 0) ca (cw ++ i ∷ []) (actuals_go fs k s.actuals pc 0)
+      let i = instr.StartJob (entry_of here s.target) (shape_of actuals) (wait_of s.timeout) in
+      both fs pc (at 0) (at (0 + n)) (at 0) ca (cw ++ i ∷ []) (actuals_go fs k actuals pc 0)
       (both fs pw (at (0 + n)) (at (0 + n + w)) (at 0) cw (i ∷ []) (timeout_goes fs k s.timeout pw (0 + n))
       (one fs (pw + length cw) (at (0 + n + w)) (at 0) i (same k (0 + n + w - (n + w)) 0 (omega arith)) (omega arith, tt)))
 
@@ -337,10 +338,11 @@ module _ (fs : List Footing) (k : ℕ) where
 
   call_goes : (here : Here) (c : Called) → Passes fs k (call_code here c)
   call_goes here c pc =
-      let ca = actuals_code pc c.actuals in
-      let n = given_count (shape_of c.actuals) in
-      both fs pc (at 0) (at (0 + n)) (at 0) ca (instr.Do (entry_of here c.target) (shape_of c.actuals) ∷ []) (actuals_go fs k c.actuals pc 0)
-      (one fs (pc + length ca) (at (0 + n)) (at 0) (instr.Do (entry_of here c.target) (shape_of c.actuals)) refl (omega arith, tt))
+      let actuals = as_actuals c.actuals in
+      let ca = actuals_code pc actuals in
+      let n = given_count (shape_of actuals) in
+      let i = instr.Do (entry_of here c.target) (shape_of actuals) in
+      both fs pc (at 0) (at (0 + n)) (at 0) ca (i ∷ []) (actuals_go fs k actuals pc 0) (one fs (pc + length ca) (at (0 + n)) (at 0) i refl (omega arith, tt))
 
   calls_go : (here : Here) (list : List Called) → Passes fs k (λ pc. calls_code here pc list)
   calls_go here [] pc = nothing fs pc (at 0)
@@ -364,9 +366,15 @@ module _ (fs : List Footing) (k : ℕ) where
   Closes None = ⊤
   Closes (Some close) = Holds fs close (at 0)
 
-  quit_goes : (out : Option ℕ) → Closes out → Passes fs k (λ pc. quit_code out)
-  quit_goes None closes pc = one fs pc (at 0) (at 0) instr.Quit refl (refl, tt)
-  quit_goes (Some close) closes pc = one fs pc (at 0) (at 0) (instr.Jump close) refl (tt, closes)
+  quit_goes : (out : Option ℕ) (value : Option Expr) → Closes out → Passes fs k (λ pc. quit_code pc out value)
+  quit_goes None None closes pc = one fs pc (at 0) (at 0) instr.Quit refl (refl, tt)
+  quit_goes (Some close) None closes pc = one fs pc (at 0) (at 0) (instr.Jump close) refl (tt, closes)
+  quit_goes None (Some e) closes pc =
+      let ce = expr_code (pc + 1) e in
+      on fs pc (at 0) (at 0) (at 0) instr.CheckFunction (ce ++ instr.GiveValue ∷ []) refl (tt, tt)
+      (both fs (pc + 1) (at 0) (at (0 + 1)) (at 0) ce (instr.GiveValue ∷ []) (expr_goes fs k e (pc + 1) 0)
+      (one fs (pc + 1 + length ce) (at (0 + 1)) (at 0) instr.GiveValue refl (refl, tt)))
+  quit_goes (Some close) (Some e) closes pc = one fs pc (at 0) (at 0) instr.FailQuit refl (tt, tt)
 
   transaction_goes : (a : Option Restartable) → Passes fs k (λ pc. transaction_code a)
   transaction_goes a pc =
@@ -407,7 +415,7 @@ module _ (fs : List Footing) (k : ℕ) where
   command_goes here out Forever closes pc = nothing fs pc (at 0)
   command_goes here out (Do list) closes pc = do_goes here list pc
   command_goes here out (Goto list) closes pc = jumps_go here list pc
-  command_goes here out Quit closes pc = quit_goes out closes pc
+  command_goes here out (Quit value) closes pc = quit_goes out value closes pc
   command_goes here out (New list) closes pc = new_all_goes list pc
   command_goes here out (TStart a) closes pc = transaction_goes a pc
   command_goes here out TCommit closes pc = commit_goes pc

@@ -1,12 +1,13 @@
 -- The code of expressions has at each place the operands and the FORs that it needs there, and leads to places of its own.
 use Rattle.std.proofs.Common.{◌≡◌, ℕ, ◌+◌, ◌-◌, List, [], ◌∷◌, ◌++◌, length, Option, Some, None, refl, sym, ap, ◌∙◌, subst, arith}
 use Rattle.std.specs.Prelude.{⊤}
-use Rattle.mj_ast.specs.Syntax.{Expr, Chain, Tails, Done, Then, Operand, Literal, Value, Intrinsic, Unary, Group, Call, Select, Variable, Var, Exprs, No, More, Choices, Last, Before, About}
+use Rattle.mj_ast.specs.Syntax.{Expr, Chain, Tails, Done, Then, Operand, Literal, Value, Intrinsic, Unary, Group, Call, Select, Variable, Var, Exprs, No, More, Choices, Last, Before, About, Extrinsic, Actuals, NoActual, Given, Omitted}
 use Rattle.mj_pcode.specs.declared.instr.Instr.{Instr}
 use Rattle.mj_pcode.specs.declared.instr.Instr.TheVariants as instr
 use Rattle.mj_pcode.specs.Machine.{given_count, wait_size}
 use Rattle.mj_pcode.specs.Checked.{Footing, footing, footing_behind, Holds, InstrFits}
-use Rattle.mj_asm.specs.Code.{count, reference, expr_code, tails_code, operand_code, choices_code, subscripts_code, exprs_code, actuals_code, shape_of, timeout_code, wait_of, name_code, code_if}
+use Rattle.mj_asm.specs.Code.{count, reference, expr_code, tails_code, operand_code, choices_code, subscripts_code, exprs_code, actuals_code, shape_of, plain_shape, kept_target, timeout_code, wait_of, name_code, code_if}
+use Rattle.mj_asm.proofs.Actuals.{plain_count}
 
 -- what the place behind code holds
 abbrev pub reached : Footing → List Instr → Footing
@@ -160,6 +161,23 @@ module _ (fs : List Footing) where
           (both (pc + length cs + 1) (at (d + n)) (at (d + n + m)) (at (d + 1)) ce (last ∷ []) (exprs_go es (pc + length cs + 1) (d + n))
           (one (pc + length cs + 1 + length ce) (at (d + n + m)) (at (d + 1)) last (same k (d + n + m - (n + m) + 1) (d + 1) (omega arith)) ((omega arith, omega arith), tt))))
       operand_goes (Select choices) pc d = choices_go choices pc d
+      operand_goes (Extrinsic t es) pc d =
+          let ca = actuals_code pc es in
+          let n = given_count (plain_shape (shape_of es)) in
+          let i = instr.Invoke (kept_target t) (plain_shape (shape_of es)) in
+          let passed : at (d + given_count (shape_of es)) ≡ at (d + n) = ap (λ m. at (d + m)) (sym (plain_count (shape_of es))) in
+          both pc (at d) (at (d + n)) (at (d + 1)) ca (i ∷ []) (goes_as pc (at d) (at (d + given_count (shape_of es))) (at (d + n)) ca passed (actuals_go es pc d))
+          (one (pc + length ca) (at (d + n)) (at (d + 1)) i (same k (d + n - n + 1) (d + 1) (omega arith)) (omega arith, tt))
+
+      pub actuals_go : (es : Actuals) (pc d : ℕ) → Goes pc (actuals_code pc es) (at d) (at (d + given_count (shape_of es)))
+      actuals_go NoActual pc d = goes_as pc (at d) (at d) (at (d + 0)) [] (same k d (d + 0) (omega arith)) (nothing pc (at d))
+      actuals_go (Omitted es) pc d = actuals_go es pc d
+      actuals_go (Given e es) pc d =
+          let ce = expr_code pc e in
+          let cr = actuals_code (pc + length ce) es in
+          let n = given_count (shape_of es) in
+          both pc (at d) (at (d + 1)) (at (d + (n + 1))) ce cr (expr_goes e pc d)
+          (goes_as (pc + length ce) (at (d + 1)) (at (d + 1 + n)) (at (d + (n + 1))) cr (same k (d + 1 + n) (d + (n + 1)) (omega arith)) (actuals_go es (pc + length ce) (d + 1)))
 
       pub subscripts_go : (v : Variable) (pc d : ℕ) → Goes pc (subscripts_code pc v) (at d) (at (d + (reference v).count))
       subscripts_go (Var scope word es) pc d = exprs_go es pc d
@@ -193,16 +211,6 @@ module _ (fs : List Footing) where
         let n = (reference v).count in
         both pc (at d) (at (d + n)) (at (d + n)) cs (instr.CheckName (reference v) ∷ []) (subscripts_go v pc d)
         (one (pc + length cs) (at (d + n)) (at (d + n)) (instr.CheckName (reference v)) refl (omega arith, tt))
-
-    pub actuals_go : (es : List (Option Expr)) (pc d : ℕ) → Goes pc (actuals_code pc es) (at d) (at (d + given_count (shape_of es)))
-    actuals_go [] pc d = goes_as pc (at d) (at d) (at (d + 0)) [] (same k d (d + 0) (omega arith)) (nothing pc (at d))
-    actuals_go (None ∷ es) pc d = actuals_go es pc d
-    actuals_go (Some e ∷ es) pc d =
-        let ce = expr_code pc e in
-        let cr = actuals_code (pc + length ce) es in
-        let n = given_count (shape_of es) in
-        both pc (at d) (at (d + 1)) (at (d + (n + 1))) ce cr (expr_goes e pc d)
-        (goes_as (pc + length ce) (at (d + 1)) (at (d + 1 + n)) (at (d + (n + 1))) cr (same k (d + 1 + n) (d + (n + 1)) (omega arith)) (actuals_go es (pc + length ce) (d + 1)))
 
     pub timeout_goes : (o : Option Expr) (pc d : ℕ) → Goes pc (timeout_code pc o) (at d) (at (d + wait_size (wait_of o)))
     timeout_goes None pc d = goes_as pc (at d) (at d) (at (d + 0)) [] (same k d (d + 0) (omega arith)) (nothing pc (at d))

@@ -1,9 +1,9 @@
 -- There is an instruction for each operand at least, so that operands can be counted where instructions can.
 use Rattle.std.proofs.Common.{ℕ, ◌+◌, ◌≤◌, List, [], ◌∷◌, ◌++◌, length, arith, length-append}
-use Rattle.mj_ast.specs.Syntax.{Expr, Chain, Operand, Literal, Value, Intrinsic, Unary, Group, Call, About, Select, Variable, Var, Exprs, No, More, Last, Before, Destination, Plain, Pieces}
+use Rattle.mj_ast.specs.Syntax.{Expr, Chain, Operand, Literal, Value, Intrinsic, Unary, Group, Call, About, Select, Extrinsic, Variable, Var, Exprs, No, More, Last, Before, Destination, Plain, Pieces}
 use Rattle.mj_pcode.specs.declared.instr.Instr.{Instr}
 use Rattle.mj_pcode.specs.declared.instr.Instr.TheVariants as instr
-use Rattle.mj_asm.specs.Code.{count, reference, expr_code, tails_code, operand_code, subscripts_code, exprs_code, size, sizes, destination_code, destinations_code}
+use Rattle.mj_asm.specs.Code.{count, reference, expr_code, tails_code, operand_code, subscripts_code, exprs_code, actuals_code, shape_of, plain_shape, kept_target, size, sizes, destination_code, destinations_code}
 
 -- a list with something in the middle isn't empty
 middle : (a : List Instr) (i : Instr) (b : List Instr) → 1 ≤ length (a ++ i ∷ b)
@@ -23,6 +23,7 @@ mutual
   operand_some pc (Group e) = expr_some pc e
   operand_some pc (Call f es) = middle (exprs_code pc es) (instr.CallFunction f (count es)) []
   operand_some pc (About f v es) = middle (subscripts_code pc v) _ _
+  operand_some pc (Extrinsic t es) = middle (actuals_code pc es) (instr.Invoke (kept_target t) (plain_shape (shape_of es))) []
   operand_some pc (Select (Last c e)) = middle (expr_code pc c) _ _
   operand_some pc (Select (Before c e rest)) = middle (expr_code pc c) _ _
 

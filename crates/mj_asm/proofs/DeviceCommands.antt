@@ -20,7 +20,7 @@ use Rattle.mj_asm.specs.Code.{reference, expr_code, subscripts_code, format_code
 use Rattle.mj_asm.specs.Correct.{Agree}
 use Rattle.mj_pcode.proofs.Agree.{write_at, tab_at, write_code_at, obtain_at, begin_session_at, use_device_at, end_session_at, give_up_at, read_input_at}
 use Rattle.mj_asm.proofs.Lies.{onto, rest_below, drop_more, waited, below_wait, below_more}
-use Rattle.mj_asm.proofs.Expressions.{HasAt, has_front, has_back, end_of, seam, from, one, moved, over, expr_follows, checked, timeout_follows}
+use Rattle.mj_asm.proofs.Expressions.{HasAt, DoesCalls, has_front, has_back, end_of, seam, from, one, moved, over, expr_follows, checked, timeout_follows}
 use Rattle.mj_asm.proofs.VariableCommands.{stored}
 
 module _ (units : List unit.Unit) (u : unit.Unit) (ctx : Context) (there : slice_get units ctx.unit ≡ Some u) (b : ℕ) where
@@ -31,14 +31,14 @@ module _ (units : List unit.Unit) (u : unit.Unit) (ctx : Context) (there : slice
   abbrev runs : ℕ → Stack → Timed
   runs pc stack = from units u ctx there pc stack
 
-  module _ (points : Points) (here : Here) where
+  module _ (points : Points) (here : Here) (invoked : DoesCalls units u ctx there b points here) where
     format_follows : (marks : List FormatMark) (o : Option Expr) (pc : ℕ) (stack : Stack) (rest : Timed)
         → HasAt code pc (format_code pc marks o) → Agree b (runs (pc + length (format_code pc marks o)) stack) rest → Agree b (runs pc stack) (arrange points here marks o rest)
     format_follows marks None pc stack rest has k =
         one units u ctx there b pc stack (instr.WriteFormat marks) _ has.0 (λ n lt. write_at n (map mark_byte marks) (exec units n ctx (pc + 1) stack) rest (k.by n (omega arith)))
     format_follows marks (Some e) pc stack rest has k =
         let ce = expr_code pc e in
-        expr_follows units u ctx there b points here e pc stack _ (has_front code pc ce _ has) (λ v.
+        expr_follows units u ctx there b points here invoked e pc stack _ (has_front code pc ce _ has) (λ v.
         one units u ctx there b (pc + length ce) (v ∷ stack) (instr.WriteTab marks) _ (has_back code pc ce _ has).0 (λ n lt.
         tab_at n marks v (exec units n ctx (pc + length ce + 1) stack) rest ((moved units u ctx there b _ _ stack rest (end_of pc ce (instr.WriteTab marks)) k).by n (omega arith))))
 
@@ -46,13 +46,13 @@ module _ (units : List unit.Unit) (u : unit.Unit) (ctx : Context) (there : slice
         → Agree b (runs pc stack) (output points here o rest)
     output_follows (Shown e) pc stack rest has k =
         let ce = expr_code pc e in
-        expr_follows units u ctx there b points here e pc stack _ (has_front code pc ce _ has) (λ v.
+        expr_follows units u ctx there b points here invoked e pc stack _ (has_front code pc ce _ has) (λ v.
         one units u ctx there b (pc + length ce) (v ∷ stack) instr.Write _ (has_back code pc ce _ has).0 (λ n lt.
         write_at n v (exec units n ctx (pc + length ce + 1) stack) rest ((moved units u ctx there b _ _ stack rest (end_of pc ce instr.Write) k).by n (omega arith))))
     output_follows (Format l) pc stack rest has k = format_follows l.marks l.column pc stack rest has k
     output_follows (Coded e) pc stack rest has k =
         let ce = expr_code pc e in
-        expr_follows units u ctx there b points here e pc stack _ (has_front code pc ce _ has) (λ v.
+        expr_follows units u ctx there b points here invoked e pc stack _ (has_front code pc ce _ has) (λ v.
         one units u ctx there b (pc + length ce) (v ∷ stack) instr.WriteByte _ (has_back code pc ce _ has).0 (λ n lt.
         write_code_at n v (exec units n ctx (pc + length ce + 1) stack) rest ((moved units u ctx there b _ _ stack rest (end_of pc ce instr.WriteByte) k).by n (omega arith))))
 
@@ -78,8 +78,8 @@ module _ (units : List unit.Unit) (u : unit.Unit) (ctx : Context) (there : slice
         let at = pw + length cw in
         let len : at + 2 ≡ pc + length (ce ++ (cw ++ last)) = omega (arith, length-append ce (cw ++ last), length-append cw last) in
         let len' : at + 1 + 1 ≡ pc + length (ce ++ (cw ++ last)) = omega (arith, len) in
-        expr_follows units u ctx there b points here o.device pc stack _ (has_front code pc ce _ has) (λ v.
-        timeout_follows units u ctx there b points here o.timeout pw (v ∷ stack) _ (has_front code pw cw _ back) (λ t st l.
+        expr_follows units u ctx there b points here invoked o.device pc stack _ (has_front code pc ce _ has) (λ v.
+        timeout_follows units u ctx there b points here invoked o.timeout pw (v ∷ stack) _ (has_front code pw cw _ back) (λ t st l.
         one units u ctx there b at st i (open_device v t rest) there_is.0 (λ n lt.
         let past : Timed = exec units n ctx (at + 2) (drop (1 + wait_size w) st) in
         let begun : Stack → Timed = λ base. exec units n ctx (at + 1) base in
@@ -105,7 +105,7 @@ module _ (units : List unit.Unit) (u : unit.Unit) (ctx : Context) (there : slice
         let ce = expr_code pc e in
         let cu = use_code pc e in
         let front = has_front code pc cu _ has in
-        expr_follows units u ctx there b points here e pc stack _ (has_front code pc ce _ front) (λ v.
+        expr_follows units u ctx there b points here invoked e pc stack _ (has_front code pc ce _ front) (λ v.
         one units u ctx there b (pc + length ce) (v ∷ stack) instr.UseDevice _ (has_back code pc ce _ front).0 (λ n lt.
         use_device_at n v (exec units n ctx (pc + length ce + 1) stack) (use_all points here es rest)
         ((moved units u ctx there b _ _ stack (use_all points here es rest) (end_of pc ce instr.UseDevice)
@@ -120,7 +120,7 @@ module _ (units : List unit.Unit) (u : unit.Unit) (ctx : Context) (there : slice
         let there_is = has_back code pc ce last has in
         let len : pe + 3 ≡ pc + length (ce ++ last) = omega (arith, length-append ce last) in
         let len' : pe + 1 + 1 + 1 ≡ pc + length (ce ++ last) = omega (arith, len) in
-        expr_follows units u ctx there b points here e pc stack _ (has_front code pc ce _ has) (λ v.
+        expr_follows units u ctx there b points here invoked e pc stack _ (has_front code pc ce _ has) (λ v.
         one units u ctx there b pe (v ∷ stack) instr.EndSession (close v rest) there_is.0 (λ n lt.
         end_session_at n v (exec units n ctx (pe + 3) stack) rest
         (exec units n ctx (pe + 1) (v ∷ stack)) (turn (give_up v (fault Device)))
@@ -156,15 +156,15 @@ module _ (units : List unit.Unit) (u : unit.Unit) (ctx : Context) (there : slice
         let there_is = has_back code pw cw last back in
         let at = pw + length cw in
         let len : at + 1 + 1 ≡ pc + length (cn ++ (cw ++ last)) = omega (arith, length-append cn (cw ++ last), length-append cw last) in
-        checked units u ctx there b points here v pc stack _ (has_front code pc cs _ front) (has_back code pc cs _ front).0 (λ x ss many e.
+        checked units u ctx there b points here invoked v pc stack _ (has_front code pc cs _ front) (has_back code pc cs _ front).0 (λ x ss many e.
         moved units u ctx there b _ _ (onto ss stack) _ (end_of pc cs (instr.CheckName ref))
-        (timeout_follows units u ctx there b points here r.timeout pw (onto ss stack) _ (has_front code pw cw _ back) (λ t st l.
+        (timeout_follows units u ctx there b points here invoked r.timeout pw (onto ss stack) _ (has_front code pw cw _ back) (λ t st l.
         one units u ctx there b at st (instr.Read r.mode w) (read_input r.mode t (λ text. turn (store x text rest))) there_is.0 (λ n lt.
         let behind : Stack → List ℕ → Timed = λ base text. exec units n ctx (at + 1) (text ∷ base) in
         waited r.timeout t st (onto ss stack) l (λ z. read_input r.mode z (behind (drop (wait_size w) st))) n
         ∙ ap (λ base. read_input r.mode t (behind base) n) (below_wait r.timeout t st (onto ss stack) l)
         ∙ read_input_at n r.mode t (behind (onto ss stack)) (λ text. turn (store x text rest)) (λ text.
-        (stored units u ctx there b points here ref depth x ss (at + 1) (text ∷ onto ss stack) stack rest many e refl there_is.1.0
+        (stored units u ctx there b points here invoked ref depth x ss (at + 1) (text ∷ onto ss stack) stack rest many e refl there_is.1.0
         (over units u ctx there b (at + 1 + 1) (drop (ref.count + 1) (text ∷ onto ss stack)) stack rest (drop_more ref.count text (onto ss stack) ∙ rest_below ss stack ref.count many)
         (moved units u ctx there b _ _ stack rest len k))).by n
         (omega arith))))))

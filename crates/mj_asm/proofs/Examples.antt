@@ -3,7 +3,7 @@ use Rattle.std.specs.Prelude.{◌≡◌, refl, ℕ, true, false, List, [], ◌�
 use Rattle.mj_ast.specs.declared.expr.Scope.TheVariants.{Local, Global}
 use Rattle.mj_ast.specs.declared.routine.FormatMark.TheVariants.{NewLine}
 use Rattle.mj_ast.specs.declared.routine.Serial.TheVariants.{Bare}
-use Rattle.mj_ast.specs.Syntax.{Expr, Chain, Done, Then, Operand, Literal, Value, Var, No, More, One, Several, Plain, Pieces, Gone, Spared, Kill, Merge, Set, Write, Shown, Format, Halt, If, Else, For, Forever, Single, UpTo, Do, Goto, Quit, New, Fresh, Kept, Listed, TStart, TCommit, TRestart, TRollback, Break, Line}
+use Rattle.mj_ast.specs.Syntax.{Expr, Chain, Done, Then, Operand, Literal, Value, Extrinsic, NoActual, Given, Omitted, Var, No, More, One, Several, Plain, Pieces, Gone, Spared, Kill, Merge, Set, Write, Shown, Format, Halt, If, Else, For, Forever, Single, UpTo, Do, Goto, Quit, New, Fresh, Kept, Listed, TStart, TCommit, TRestart, TRollback, Break, Line}
 use Rattle.mj_oper.specs.declared.op.Op.TheVariants.{Add, Is}
 use Rattle.mj_oper.specs.declared.op.TruthOp.TheVariants.{Equal}
 use Rattle.mj_pcode.specs.declared.instr.Restores.TheVariants as restores
@@ -113,7 +113,7 @@ control =
       steps =
           record { condition = None; command = For (Var Local (codes "I") No) (Single (digit 49) ∷ UpTo (digit 50) (digit 51) (digit 52) ∷ []) }
           ∷ record { condition = None; command = If (digit 53 ∷ []) }
-          ∷ record { condition = Some (digit 54); command = Quit }
+          ∷ record { condition = Some (digit 54); command = Quit None }
           ∷ record { condition = None; command = Do (record { target = record { label = Some (codes "B"); routine = Some (codes "S") }; actuals = Some (digit 55) ∷ []; condition = None } ∷ []) } ∷ [];
     }
     ∷ record { label = None; formals = []; level = 2; steps = record { condition = None; command = Else } ∷ record { condition = None; command = Do [] } ∷ [] }
@@ -142,7 +142,7 @@ flow =
       steps =
           record { condition = None; command = If (Chain (Value (Var Local (codes "X") No)) Done ∷ Chain (lit 49) Done ∷ []) }
           ∷ record { condition = None; command = For (Var Local (codes "I") No) (UpTo (Chain (lit 49) Done) (Chain (lit 49) Done) (Chain (lit 51) Done) ∷ []) }
-          ∷ record { condition = Some (Chain (Value (Var Local (codes "I") No)) (Then (Is Equal) (lit 50) Done)); command = Quit }
+          ∷ record { condition = Some (Chain (Value (Var Local (codes "I") No)) (Then (Is Equal) (lit 50) Done)); command = Quit None }
           ∷ record {
             condition = None;
             command =
@@ -166,9 +166,9 @@ flow =
       steps = record {
         condition = None;
         command = If [];
-      } ∷ record { condition = None; command = Forever } ∷ record { condition = None; command = Do [] } ∷ record { condition = None; command = Quit } ∷ [];
+      } ∷ record { condition = None; command = Forever } ∷ record { condition = None; command = Do [] } ∷ record { condition = None; command = Quit None } ∷ [];
     }
-    ∷ record { label = None; formals = []; level = 1; steps = record { condition = Some (Chain (Value (Var Local (codes "X") No)) Done); command = Quit } ∷ [] }
+    ∷ record { label = None; formals = []; level = 1; steps = record { condition = Some (Chain (Value (Var Local (codes "X") No)) Done); command = Quit None } ∷ [] }
     ∷ []
 
 flow_instructions : lines_code 0 here flow
@@ -211,3 +211,43 @@ transactions_instructions : lines_code 0 here transactions
     ∷ instr.Push (49 ∷ []) ∷ instr.JumpUnless 11 ∷ instr.Commit ∷ instr.BeginRestart
     ∷ instr.RollBackForRestart ∷ instr.BeginRestart ∷ instr.RollBack ∷ instr.Discard 0 ∷ []
 transactions_instructions = refl
+
+-- A SET X=$$F(2,)+1 / F(N,M) QUIT N /  FOR  QUIT 2
+abbrev functions : List Line
+functions =
+    record {
+      label = Some (codes "A");
+      formals = [];
+      level = 1;
+      steps = record {
+        condition = None;
+        command = Set (record {
+          targets = One (Plain (Var Local (codes "X") No));
+          value = Chain (Extrinsic (record { label = Some (codes "F"); routine = None }) (Given (digit 50) (Omitted NoActual))) (Then Add (lit 49) Done);
+        } ∷ []);
+      } ∷ [];
+    }
+    ∷ record {
+      label = Some (codes "F");
+      formals = codes "N" ∷ codes "M" ∷ [];
+      level = 1;
+      steps = record { condition = None; command = Quit (Some (Chain (Value (Var Local (codes "N") No)) Done)) } ∷ [];
+    }
+    ∷ record {
+      label = None;
+      formals = [];
+      level = 1;
+      steps = record { condition = None; command = Forever } ∷ record { condition = None; command = Quit (Some (digit 50)) } ∷ [];
+    }
+    ∷ []
+
+functions_instructions : lines_code 0 here functions
+    ≡ instr.Line (record { line = 1; level = 1; next = 7 })
+    ∷ instr.CheckName (record { scope = Local; word = codes "X"; count = 0 })
+    ∷ instr.Push (50 ∷ []) ∷ instr.Invoke (record { label = Some (codes "F"); routine = None }) (true ∷ false ∷ []) ∷ instr.Push (49 ∷ []) ∷ instr.Binary Add
+    ∷ instr.Store (record { scope = Local; word = codes "X"; count = 0 }) (record { above = 1; taken = 1 })
+    ∷ instr.Line (record { line = 2; level = 1; next = 11 })
+    ∷ instr.CheckFunction ∷ instr.Load (record { scope = Local; word = codes "N"; count = 0 }) ∷ instr.GiveValue
+    ∷ instr.Line (record { line = 3; level = 1; next = 16 })
+    ∷ instr.ForForever ∷ instr.ForClose 16 ∷ instr.FailQuit ∷ instr.ForAgain ∷ []
+functions_instructions = refl

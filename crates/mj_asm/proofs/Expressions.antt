@@ -1,29 +1,32 @@
 -- The code of expressions does what they do: from a place on, the machine does what the expression and the rest do, with as many turns as are left.
-use Rattle.std.proofs.Common.{◌≡◌, ℕ, zero, suc, ◌+◌, ◌<◌, ◌≤◌, List, [], ◌∷◌, ◌++◌, length, drop, Option, Some, None, refl, ap, ◌∙◌, subst, arith, length-append}
+use Rattle.std.proofs.Common.{◌≡◌, ℕ, zero, suc, ◌+◌, ◌<◌, ◌≤◌, List, [], ◌∷◌, ◌++◌, length, drop, Bool, true, Option, Some, None, refl, sym, ap, ◌∙◌, subst, arith, length-append}
 use Rattle.std.specs.Prelude.{ℤ, slice_get, Ok, ◌-◌}
 use Rattle.mj_num.specs.Number.{reading}
 use Rattle.mj_subs.specs.Name.{Name}
 use Rattle.mj_oper.specs.Operators.{binary_value, unary_value, truth_value}
 use Rattle.mj_text.specs.declared.fault.Fault.TheVariants.{Select as NoTrue}
-use Rattle.mj_ast.specs.Syntax.{Expr, Chain, Tails, Done, Then, Operand, Literal, Value, Intrinsic, Unary, Group, Call, Select, Variable, Var, Exprs, No, More, Choices, Last, Before, About}
+use Rattle.mj_ast.specs.Syntax.{Expr, Chain, Tails, Done, Then, Operand, Literal, Value, Intrinsic, Unary, Group, Call, Select, Variable, Var, Exprs, No, More, Choices, Last, Before, About, Extrinsic, Target, Actuals, NoActual, Given, Omitted}
 use Rattle.mj_semantics.specs.Functions.{call_value, optional}
-use Rattle.mj_semantics.specs.State.{special_value}
-use Rattle.mj_semantics.specs.Outcome.{Timed, turn, given, fault}
-use Rattle.mj_semantics.specs.Lines.{Here}
-use Rattle.mj_semantics.specs.Points.{Points}
-use Rattle.mj_semantics.specs.Evaluation.{ev, ev_tails, ev_operand, ev_choices, ev_name, ev_all, name_of, read, when, ev_named, ev_local, ev_actuals, named_for, about}
+use Rattle.mj_semantics.specs.State.{special_value, popped}
+use Rattle.mj_semantics.specs.Outcome.{Timed, turn, change, given, fault}
+use Rattle.mj_semantics.specs.Lines.{Here, entry_in, entry_of}
+use Rattle.mj_semantics.specs.Points.{Points, Called}
+use Rattle.mj_semantics.specs.Evaluation.{ev, ev_tails, ev_operand, ev_choices, ev_name, ev_all, name_of, read, when, ev_named, ev_local, ev_actuals, plain_values, named_for, about}
 use Rattle.mj_ast.specs.declared.function.NameFunction.{NameFunction}
 use Rattle.mj_ast.specs.declared.expr.Scope.TheVariants.{Local}
 use Rattle.mj_semantics.specs.Commands.{ev_timeout}
 use Rattle.mj_pcode.specs.declared.instr.Instr.{Instr}
 use Rattle.mj_pcode.specs.declared.instr.Instr.TheVariants as instr
 use Rattle.mj_pcode.specs.declared.instr.Unit as unit
-use Rattle.mj_pcode.specs.Context.{Context}
+use Rattle.mj_pcode.specs.Found.{found}
+use Rattle.mj_pcode.specs.Context.{Context, awaiting}
+use Rattle.mj_pcode.specs.Machine as machine
 use Rattle.mj_pcode.specs.Machine.{Stack, act, act_in, exec, operands, spread, given_count}
-use Rattle.mj_asm.specs.Code.{count, reference, expr_code, tails_code, operand_code, choices_code, subscripts_code, exprs_code, code_if, actuals_code, shape_of, timeout_code}
+use Rattle.mj_asm.specs.Code.{count, reference, expr_code, tails_code, operand_code, choices_code, subscripts_code, exprs_code, code_if, actuals_code, shape_of, plain_shape, kept_target, timeout_code}
 use Rattle.mj_asm.specs.Correct.{Agree}
 use Rattle.mj_pcode.proofs.Agree.{if_at, look_at, given_at, read_at, about_at}
 use Rattle.mj_asm.proofs.Lies.{onto, rest_below, operands_are, both_below, LiesWait}
+use Rattle.mj_asm.proofs.Actuals.{plain_spread, plain_count}
 
 -- the instructions stand in the code at this place
 abbrev pub HasAt : List Instr → ℕ → List Instr → Type 0
@@ -79,8 +82,14 @@ module _ (units : List unit.Unit) (u : unit.Unit) (ctx : Context) (there : slice
     pub over : (pc : ℕ) (stack stack' : Stack) (rest : Timed) → stack ≡ stack' → Agree b (from pc stack') rest → Agree b (from pc stack) rest
     over pc stack stack' rest e h = record { by = λ n le. ap (λ st. exec units n ctx pc st n) e ∙ h.by n le }
 
-    -- what stands in a line, whatever points lead to
-    module _ (points : Points) (here : Here) where
+    -- a function that an instruction calls does what points lead to, and gives its value to the half-done expression
+    abbrev pub DoesCalls : Points → Here → Type 0
+    DoesCalls points here =
+        (t : Target) (vs : List (Option (List ℕ))) (pc n : ℕ) (stack : Stack) (rest : List ℕ → Timed) → n < b → ((v : List ℕ) → Agree b (from pc (v ∷ stack)) (rest v))
+        → machine.calls true (found units (entry_in u.name t)) vs (awaiting ctx pc stack) (exec units n) n ≡ points (Called true (entry_of here t) vs (λ v. change popped (rest v))) n
+
+    -- what stands in a line, whatever points lead to, if functions do what they lead to
+    module _ (points : Points) (here : Here) (invoked : DoesCalls points here) where
       mutual
         pub expr_follows : (e : Expr) (pc : ℕ) (stack : Stack) (rest : List ℕ → Timed)
             → HasAt code pc (expr_code pc e) → ((v : List ℕ) → Agree b (from (pc + length (expr_code pc e)) (v ∷ stack)) (rest v)) → Agree b (from pc stack) (ev points here e rest)
@@ -164,6 +173,32 @@ module _ (units : List unit.Unit) (u : unit.Unit) (ctx : Context) (there : slice
             ∙ ap (λ o. given o (λ y. about f y (optional 0 vs) (λ w. exec units m ctx (pv + length ce + 1) (w ∷ stack))) m) e
             ∙ about_at m f x (optional 0 vs) (λ w. exec units m ctx (pv + length ce + 1) (w ∷ stack)) rest (λ w. (moved _ _ (w ∷ stack) (rest w) len (k w)).by m (omega arith))))).by n (omega arith)))
         operand_follows (Select choices) pc stack rest has k = choices_follow choices pc stack rest has k
+        operand_follows (Extrinsic t es) pc stack rest has k =
+            let ca = actuals_code pc es in
+            let shape = plain_shape (shape_of es) in
+            let i = instr.Invoke (kept_target t) shape in
+            let behind = pc + length ca + 1 in
+            actuals_follow es pc stack _ (has_front code pc ca _ has) (λ vs many.
+            let few : length vs ≡ given_count shape = many ∙ sym (plain_count (shape_of es)) in
+            let begins : List (Option (List ℕ)) → Stack → ℕ → Timed = λ xs st n. machine.calls true (found units (entry_in u.name t)) xs (awaiting ctx behind st) (exec units n) in
+            one (pc + length ca) (onto vs stack) i _ (has_back code pc ca _ has).0 (λ n lt.
+            ap (λ l. begins (spread shape l) (drop (given_count shape) (onto vs stack)) n n) (operands_are vs stack _ few)
+            ∙ ap (λ st. begins (spread shape vs) st n n) (rest_below vs stack _ few)
+            ∙ ap (λ xs. begins xs stack n n) (plain_spread (shape_of es) vs)
+            ∙ invoked t (plain_values (spread (shape_of es) vs)) behind n stack rest lt (λ v. moved _ _ (v ∷ stack) (rest v) (end_of pc ca i) (k v))))
+
+        -- actuals, of which those that are given lie on the stack
+        pub actuals_follow : (es : Actuals) (pc : ℕ) (stack : Stack) (rest : List (Option (List ℕ)) → Timed) → HasAt code pc (actuals_code pc es)
+            → ((vs : List (List ℕ)) → length vs ≡ given_count (shape_of es) → Agree b (from (pc + length (actuals_code pc es)) (onto vs stack)) (rest (spread (shape_of es) vs)))
+            → Agree b (from pc stack) (ev_actuals points here es rest)
+        actuals_follow NoActual pc stack rest has k = moved pc (pc + 0) stack (rest []) (omega arith) (k [] refl)
+        actuals_follow (Omitted es) pc stack rest has k = actuals_follow es pc stack (λ vs. rest (None ∷ vs)) has k
+        actuals_follow (Given e es) pc stack rest has k =
+            let ce = expr_code pc e in
+            let cr = actuals_code (pc + length ce) es in
+            expr_follows e pc stack _ (has_front code pc ce _ has) (λ v.
+            actuals_follow es (pc + length ce) (v ∷ stack) (λ vs. rest (Some v ∷ vs)) (has_back code pc ce _ has) (λ vs many.
+            moved _ _ (onto vs (v ∷ stack)) (rest (Some v ∷ spread (shape_of es) vs)) (seam pc ce cr) (k (v ∷ vs) (omega (arith, many)))))
 
         choices_follow : (x : Choices) (pc : ℕ) (stack : Stack) (rest : List ℕ → Timed) → HasAt code pc (choices_code pc x)
             → ((v : List ℕ) → Agree b (from (pc + length (choices_code pc x)) (v ∷ stack)) (rest v)) → Agree b (from pc stack) (ev_choices points here x rest)
@@ -243,18 +278,6 @@ module _ (units : List unit.Unit) (u : unit.Unit) (ctx : Context) (there : slice
           name_follows v (instr.CheckName r) pc stack rest has at (λ ss n lt many.
           ap (λ l. given (name_of r.scope r.word l) (λ x. exec units n ctx behind (onto ss stack)) n) (operands_are ss stack _ many)
           ∙ given_at n (name_of r.scope r.word ss) (λ x. exec units n ctx behind (onto ss stack)) rest (λ x e. (k x ss many e).by n (omega arith)))
-
-      pub actuals_follow : (es : List (Option Expr)) (pc : ℕ) (stack : Stack) (rest : List (Option (List ℕ)) → Timed) → HasAt code pc (actuals_code pc es)
-          → ((vs : List (List ℕ)) → length vs ≡ given_count (shape_of es) → Agree b (from (pc + length (actuals_code pc es)) (onto vs stack)) (rest (spread (shape_of es) vs)))
-          → Agree b (from pc stack) (ev_actuals points here es rest)
-      actuals_follow [] pc stack rest has k = moved pc (pc + 0) stack (rest []) (omega arith) (k [] refl)
-      actuals_follow (None ∷ es) pc stack rest has k = actuals_follow es pc stack (λ vs. rest (None ∷ vs)) has k
-      actuals_follow (Some e ∷ es) pc stack rest has k =
-          let ce = expr_code pc e in
-          let cr = actuals_code (pc + length ce) es in
-          expr_follows e pc stack _ (has_front code pc ce _ has) (λ v.
-          actuals_follow es (pc + length ce) (v ∷ stack) (λ vs. rest (Some v ∷ vs)) (has_back code pc ce _ has) (λ vs many.
-          moved _ _ (onto vs (v ∷ stack)) (rest (Some v ∷ spread (shape_of es) vs)) (seam pc ce cr) (k (v ∷ vs) (omega (arith, many)))))
 
       pub timeout_follows : (o : Option Expr) (pc : ℕ) (stack : Stack) (rest : Option ℤ → Timed) → HasAt code pc (timeout_code pc o)
           → ((t : Option ℤ) (st : Stack) → LiesWait o t st stack → Agree b (from (pc + length (timeout_code pc o)) st) (rest t)) → Agree b (from pc stack) (ev_timeout points here o rest)

@@ -1,19 +1,19 @@
 -- The code of commands that say where control goes does what they say.
 use Rattle.std.proofs.Common.{◌≡◌, ℕ, zero, suc, ◌+◌, ◌<◌, ◌≤◌, List, [], ◌∷◌, ◌++◌, length, drop, Bool, true, false, Option, Some, None, refl, sym, ap, ◌∙◌, subst, arith, length-append}
 use Rattle.std.specs.Prelude.{⊤, slice_get, if◌then◌else◌}
-use Rattle.mj_text.specs.declared.fault.Fault.TheVariants.{NoLine}
+use Rattle.mj_text.specs.declared.fault.Fault.TheVariants.{NoLine, Quit as WrongQuit}
 use Rattle.mj_subs.specs.Name.{Name}
 use Rattle.mj_num.specs.Number.{reading}
 use Rattle.mj_oper.specs.Operators.{truth_value}
 use Rattle.mj_ask.specs.declared.entry.Entry.{Entry}
 use Rattle.mj_ast.specs.declared.expr.Scope.TheVariants.{Local}
-use Rattle.mj_ast.specs.Syntax.{Expr, Variable, Called, Jumped, Range, Single, Endless, UpTo, Command, Set, Write, Halt, Hang, Job, Lock, OpenDevice, UseDevice, CloseDevice, Read, Kill, Merge, If, Else, For, Forever, Do, Goto, Quit, New, TStart, TCommit, TRestart, TRollback, Break, LineCommand, Line, Routine}
+use Rattle.mj_ast.specs.Syntax.{Expr, Variable, as_actuals, Called, Jumped, Range, Single, Endless, UpTo, Command, Set, Write, Halt, Hang, Job, Lock, OpenDevice, UseDevice, CloseDevice, Read, Kill, Merge, If, Else, For, Forever, Do, Goto, Quit, New, TStart, TCommit, TRestart, TRollback, Break, LineCommand, Line, Routine}
 use Rattle.mj_semantics.specs.State.{State, Place, level_of, may_go, set_test, pushed, popped}
 use Rattle.mj_semantics.specs.Outcome.{Timed, turn, look, change, given, fault, end}
 use Rattle.mj_semantics.specs.Lines.{Here, place_at, next_line, entry_of, entered, levels_of}
-use Rattle.mj_semantics.specs.Evaluation.{when, name_of, ev_actuals, ev_local}
+use Rattle.mj_semantics.specs.Evaluation.{ev, when, name_of, ev_actuals, ev_local}
 use Rattle.mj_semantics.specs.Points.{Leave, Ways, Once as PassesOnce, Always as PassesAlways, By as PassesBy, Points, AtLine, Called as CalledAt, Jumped as JumpedAt, Pass}
-use Rattle.mj_semantics.specs.Commands.{for_again, if_test, ifs, if_all, ranges, calls, block, do_all, jumps, quit_frame, assign_all, output_all, hang_all, start_all, lock_all, open_all, use_all, close_all, read_all, kill_all, merge_all, new_all, start_transaction, commit_transaction, restart_transaction, obey, obey_all}
+use Rattle.mj_semantics.specs.Commands.{for_again, if_test, ifs, if_all, ranges, calls, block, do_all, jumps, end_frame, quit_frame, in_function, quit, assign_all, output_all, hang_all, start_all, lock_all, open_all, use_all, close_all, read_all, kill_all, merge_all, new_all, start_transaction, commit_transaction, restart_transaction, obey, obey_all}
 use Rattle.mj_semantics.specs.Transactions.{roll_back}
 use Rattle.mj_semantics.specs.Job.{points_of, jump, in_pass}
 use Rattle.mj_pcode.specs.declared.instr.Span.TheVariants as span
@@ -21,15 +21,15 @@ use Rattle.mj_pcode.specs.declared.instr.Instr.{Instr}
 use Rattle.mj_pcode.specs.declared.instr.Instr.TheVariants as instr
 use Rattle.mj_pcode.specs.declared.instr.Unit as unit
 use Rattle.mj_pcode.specs.Found.{Found, found, start_of, levels_in}
-use Rattle.mj_pcode.specs.Context.{Passes, Once, Always, By, Loop, Call, Context, passes_of, nameless, suspended, at_unit}
+use Rattle.mj_pcode.specs.Context.{Passes, Once, Always, By, Loop, Call, Context, passes_of, nameless, suspended, awaiting, at_unit}
 use Rattle.mj_pcode.specs.Machine as machine
 use Rattle.mj_pcode.specs.Machine.{Stack, exec, returns, spread, place_in, with_passes}
 use Rattle.mj_asm.specs.Code.{reference, expr_code, subscripts_code, actuals_code, shape_of, code_if, call_code, calls_code, do_code, jump_code, jumps_code, quit_code, ifs_code, if_code, range_code, ranges_code, body_code, for_code, command_code, and_then, obey_code, steps_code}
 use Rattle.mj_asm.specs.Correct.{Agree, next_of, DoLines, IsFound, LeadAlike}
 use Rattle.mj_asm.specs.Laws.{after_one, Leaves, same_place, at_found, call_follows}
-use Rattle.mj_pcode.proofs.Agree.{if_at, look_at, change_at, deeper_at, quit_frame_at, given_at, store_at, if_test_at, again_at, first_at, reading_two_at}
+use Rattle.mj_pcode.proofs.Agree.{if_at, look_at, change_at, deeper_at, end_frame_at, quit_frame_at, in_function_at, given_at, store_at, if_test_at, again_at, first_at, reading_two_at}
 use Rattle.mj_asm.proofs.Lies.{onto, operands_are, rest_below}
-use Rattle.mj_asm.proofs.Expressions.{HasAt, has_front, has_back, seam, from, acts, one, moved, expr_follows, actuals_follow, local_follows, when_follows}
+use Rattle.mj_asm.proofs.Expressions.{HasAt, DoesCalls, has_front, has_back, seam, from, acts, one, moved, expr_follows, actuals_follow, local_follows, when_follows}
 use Rattle.mj_asm.proofs.VariableCommands.{assigns_follow, kill_all_follows, merges_follow, new_all_follows}
 use Rattle.mj_asm.proofs.SharingCommands.{hangs_follow, jobs_follow, lock_all_follows}
 use Rattle.mj_asm.proofs.DeviceCommands.{outputs_follow, opens_follow, uses_follow, closes_follow, inputs_follow}
@@ -101,7 +101,7 @@ module _ (image : List Routine) (units : List unit.Unit) (alike : LeadAlike imag
     QuitsFor b loops (Some close) (Some out) = Agree b (there loops close) out
     QuitsFor b loops _ _ = ⊥
 
-    fewer_quits : (b m : ℕ) (loops : List Loop) (out : Option ℕ) (quit : Option Timed) → m ≤ b → QuitsFor b loops out quit → QuitsFor m loops out quit
+    fewer_quits : (b m : ℕ) (loops : List Loop) (out : Option ℕ) (way : Option Timed) → m ≤ b → QuitsFor b loops out way → QuitsFor m loops out way
     fewer_quits b m loops None None le q = q
     fewer_quits b m loops None (Some t) le q = absurd q
     fewer_quits b m loops (Some c) None le q = absurd q
@@ -111,6 +111,12 @@ module _ (image : List Routine) (units : List unit.Unit) (alike : LeadAlike imag
     goes_on : (b n pc : ℕ) (loops : List Loop) (rest : Timed) → n ≤ b → Agree b (there loops pc) rest → Leaves units n (suspended (in_frame loops) pc) (λ v. change popped rest)
     goes_on b n pc loops rest le h v =
         record { by = λ m le'. change_at m popped (λ q. exec units q (in_frame loops) pc [] q) rest (h.by m (omega arith)) }
+
+    -- and behind a function, with its value upon the operands that were kept
+    goes_on_with : (b n pc : ℕ) (loops : List Loop) (stack : Stack) (rest : List ℕ → Timed) → n ≤ b
+        → ((v : List ℕ) → Agree b (from units u (in_frame loops) at pc (v ∷ stack)) (rest v)) → Leaves units n (awaiting (in_frame loops) pc stack) (λ v. change popped (rest v))
+    goes_on_with b n pc loops stack rest le h v =
+        record { by = λ m le'. change_at m popped (λ q. exec units q (in_frame loops) pc (v ∷ stack) q) (rest v) ((h v).by m (omega arith)) }
 
     module _ (b d : ℕ) (deep : b ≤ d) (lines : (m : ℕ) → m < b → DoLines image units m) (loops : List Loop) where
       abbrev follows_from : ℕ → Timed → Type 0
@@ -122,18 +128,25 @@ module _ (image : List Routine) (units : List unit.Unit) (alike : LeadAlike imag
       points : Points
       points = points_of image d
 
+      -- a function in an expression
+      does_calls : DoesCalls units u ctx at b (points_of image d) here
+      does_calls t vs pc n stack rest lt h =
+          called_at true d n (entry_of here t) vs (awaiting ctx pc stack) (λ v. change popped (rest v)) (omega arith) (lines n lt)
+          (goes_on_with b n pc loops stack rest (omega arith) h)
+
       -- one call
       call_one : (c : Called) (pc : ℕ) (rest : Timed) → HasAt code_here pc (call_code here c pc) → follows_from (pc + length (call_code here c pc)) rest
-          → follows_from pc (ev_actuals (points_of image d) here c.actuals (λ vs. turn (points_of image d (CalledAt false (entry_of here c.target) vs (λ v. change popped rest)))))
+          → follows_from pc (ev_actuals (points_of image d) here (as_actuals c.actuals) (λ vs. turn (points_of image d (CalledAt false (entry_of here c.target) vs (λ v. change popped rest)))))
       call_one c pc rest has h =
-          let ca = actuals_code pc c.actuals in
-          let i = instr.Do (entry_of here c.target) (shape_of c.actuals) in
+          let ca = actuals_code pc (as_actuals c.actuals) in
+          let shape = shape_of (as_actuals c.actuals) in
+          let i = instr.Do (entry_of here c.target) shape in
           let len : pc + length ca + 1 ≡ pc + length (ca ++ i ∷ []) = omega (arith, length-append ca (i ∷ [])) in
           let after : follows_from (pc + length ca + 1) rest = moved units u ctx at b _ _ [] rest len h in
-          actuals_follow units u ctx at b (points_of image d) here c.actuals pc [] _ (has_front code_here pc ca _ has) (λ vs many.
+          actuals_follow units u ctx at b (points_of image d) here does_calls (as_actuals c.actuals) pc [] _ (has_front code_here pc ca _ has) (λ vs many.
           one units u ctx at b (pc + length ca) (onto vs []) i _ (has_back code_here pc ca _ has).0 (λ n lt.
-          ap (λ l. machine.calls false (found units (entry_of here c.target)) (spread (shape_of c.actuals) l) (suspended ctx (pc + length ca + 1)) (after_one units n) n) (operands_are vs [] _ many)
-          ∙ called_at false d n (entry_of here c.target) (spread (shape_of c.actuals) vs) (suspended ctx (pc + length ca + 1)) (λ v. change popped rest) (omega arith) (lines n lt)
+          ap (λ l. machine.calls false (found units (entry_of here c.target)) (spread shape l) (suspended ctx (pc + length ca + 1)) (after_one units n) n) (operands_are vs [] _ many)
+          ∙ called_at false d n (entry_of here c.target) (spread shape vs) (suspended ctx (pc + length ca + 1)) (λ v. change popped rest) (omega arith) (lines n lt)
           (goes_on b n (pc + length ca + 1) loops rest (omega arith) after)))
 
       calls_follow : (list : List Called) (pc : ℕ) (rest : Timed)
@@ -142,8 +155,8 @@ module _ (image : List Routine) (units : List unit.Unit) (alike : LeadAlike imag
       calls_follow (c ∷ list) pc rest has h =
           let cc = code_if pc c.condition (call_code here c) in
           let later : Timed = calls (points_of image d) here list rest in
-          when_follows units u ctx at b (points_of image d) here c.condition (call_code here c)
-          (ev_actuals (points_of image d) here c.actuals (λ vs. turn (points_of image d (CalledAt false (entry_of here c.target) vs (λ v. change popped later))))) later pc []
+          when_follows units u ctx at b (points_of image d) here does_calls c.condition (call_code here c)
+          (ev_actuals (points_of image d) here (as_actuals c.actuals) (λ vs. turn (points_of image d (CalledAt false (entry_of here c.target) vs (λ v. change popped later))))) later pc []
           (has_front code_here pc cc _ has) (λ p has' after. call_one c p later has' after)
           (calls_follow list (pc + length cc) rest (has_back code_here pc cc _ has) (moved units u ctx at b _ _ [] rest (seam pc cc (calls_code here (pc + length cc) list)) h))
 
@@ -175,17 +188,39 @@ module _ (image : List Routine) (units : List unit.Unit) (alike : LeadAlike imag
       jumps_follow (y ∷ list) pc leave rest has q h =
           let cc = code_if pc y.condition (jump_code here y) in
           let later : Timed = jumps (points_of image d) here list leave rest in
-          when_follows units u ctx at b (points_of image d) here y.condition (jump_code here y) (turn (points_of image d (JumpedAt (entry_of here y.target) leave))) later pc []
+          when_follows units u ctx at b (points_of image d) here does_calls y.condition (jump_code here y) (turn (points_of image d (JumpedAt (entry_of here y.target) leave))) later pc []
           (has_front code_here pc cc _ has) (λ p has' after. jump_one y p leave has' q)
           (jumps_follow list (pc + length cc) leave rest (has_back code_here pc cc _ has) q (moved units u ctx at b _ _ [] rest (seam pc cc (jumps_code here (pc + length cc) list)) h))
 
-      quit_follows : (out : Option ℕ) (quit : Option Timed) (leave : Leave) (pc : ℕ) → HasAt code_here pc (quit_code out) → QuitsFor b loops out quit
-          → Leaves units b below leave → follows_from pc (turn (elim quit [ None ↦ quit_frame (leave []) | Some t ↦ t ]))
-      quit_follows None None leave pc has q h =
+      -- a QUIT without a value
+      bare_follows : (out : Option ℕ) (way : Option Timed) (leave : Leave) (pc : ℕ) → HasAt code_here pc (quit_code pc out None) → QuitsFor b loops out way
+          → Leaves units b below leave → follows_from pc (turn (elim way [ None ↦ quit_frame (leave []) | Some t ↦ t ]))
+      bare_follows None None leave pc has q h =
           one units u ctx at b pc [] instr.Quit (quit_frame (leave [])) has.0 (λ n lt. quits_same units n below leave (fewer_leaves units b n below leave (omega arith) h))
-      quit_follows None (Some t) leave pc has q h = absurd q
-      quit_follows (Some c) None leave pc has q h = absurd q
-      quit_follows (Some c) (Some t) leave pc has q h = one units u ctx at b pc [] (instr.Jump c) t has.0 (λ n lt. q.by n (omega arith))
+      bare_follows None (Some t) leave pc has q h = absurd q
+      bare_follows (Some c) None leave pc has q h = absurd q
+      bare_follows (Some c) (Some t) leave pc has q h = one units u ctx at b pc [] (instr.Jump c) t has.0 (λ n lt. q.by n (omega arith))
+
+      -- a QUIT with a value: it looks at the frame, takes the value, and then ends the frame
+      gives_follow : (out : Option ℕ) (way : Option Timed) (e : Expr) (leave : Leave) (pc : ℕ) → HasAt code_here pc (quit_code pc out (Some e)) → QuitsFor b loops out way
+          → Leaves units b below leave
+          → follows_from pc (turn (elim way [ None ↦ in_function (ev (points_of image d) here e (λ v. turn (end_frame (leave v)))) | Some t ↦ fault WrongQuit ]))
+      gives_follow None None e leave pc has q h =
+          let ce = expr_code (pc + 1) e in
+          let inner : Timed = ev (points_of image d) here e (λ v. turn (end_frame (leave v))) in
+          let given_back : follows_from (pc + 1) inner =
+          expr_follows units u ctx at b (points_of image d) here does_calls e (pc + 1) [] _ (has_front code_here (pc + 1) ce _ has.1) (λ v.
+          one units u ctx at b (pc + 1 + length ce) (v ∷ []) instr.GiveValue (end_frame (leave v)) (has_back code_here (pc + 1) ce _ has.1).0 (λ n lt.
+          end_frame_at n (returns (after_one units n) below v) (leave v) (returns_same units n below v ∙ (h v).by n (omega arith)))) in
+          one units u ctx at b pc [] instr.CheckFunction (in_function inner) has.0 (λ n lt. in_function_at n (exec units n ctx (pc + 1) []) inner (given_back.by n (omega arith)))
+      gives_follow None (Some t) e leave pc has q h = absurd q
+      gives_follow (Some c) None e leave pc has q h = absurd q
+      gives_follow (Some c) (Some t) e leave pc has q h = one units u ctx at b pc [] instr.FailQuit (fault WrongQuit) has.0 (λ n lt. refl)
+
+      quit_follows : (out : Option ℕ) (value : Option Expr) (ways : Ways) (pc : ℕ) → HasAt code_here pc (quit_code pc out value) → QuitsFor b loops out ways.for_quit
+          → Leaves units b below ways.leave → follows_from pc (quit (points_of image d) here value ways)
+      quit_follows out None ways pc has q h = bare_follows out ways.for_quit ways.leave pc has q h
+      quit_follows out (Some e) ways pc has q h = gives_follow out ways.for_quit e ways.leave pc has q h
 
       ifs_follow : (es : List Expr) (rest : ℕ → List Instr) (line_end done : Timed) (pc : ℕ) → HasAt code_here pc (ifs_code pc es rest)
           → ((p : ℕ) → HasAt code_here p (rest p) → follows_from (p + length (rest p)) line_end → follows_from p done)
@@ -199,7 +234,7 @@ module _ (image : List Routine) (units : List unit.Unit) (alike : LeadAlike imag
           let back = has_back code_here pc ce (instr.SetTest target ∷ cr) has in
           let len : target ≡ pc + length (ce ++ instr.SetTest target ∷ cr) = omega (arith, length-append ce (instr.SetTest target ∷ cr)) in
           let after = moved units u ctx at b target _ [] line_end len h in
-          expr_follows units u ctx at b (points_of image d) here e pc [] _ (has_front code_here pc ce _ has) (λ v.
+          expr_follows units u ctx at b (points_of image d) here does_calls e pc [] _ (has_front code_here pc ce _ has) (λ v.
           one units u ctx at b (pc + length ce) (v ∷ []) (instr.SetTest target) _ back.0 (λ n lt.
           given_at n (truth_value v) _ _ (λ t q.
           change_at n (set_test t) (if t then (exec units n ctx behind []) else (exec units n ctx target [])) (if t then ifs (points_of image d) here es line_end done else line_end)
@@ -296,7 +331,7 @@ module _ (image : List Routine) (units : List unit.Unit) (alike : LeadAlike imag
             let later : Agree b (there (l' ∷ ls) behind) after =
             moved units u (in_frame (l' ∷ ls)) at b behind
             (pc + length cr) [] after (sym len) (ranges_follow rs l' (pc + length cr) (kept l l'.passes l'.resume stands) (has_back code_here pc cr _ has) whole) in
-            expr_follows units u c at b (points_of image d) here a pc [] _ (has_front code_here pc ca _ front) (λ v.
+            expr_follows units u c at b (points_of image d) here (does_calls b d deep lines (l ∷ ls)) a pc [] _ (has_front code_here pc ca _ front) (λ v.
             one units u c at b (pc + length ca) (v ∷ []) i _ (has_back code_here pc ca _ front).0 (λ n lt.
             store_at n l.name v (exec units n (in_frame (l' ∷ ls)) l.body [])
             (points_of image d (Pass here PassesOnce steps after ways)) (begun d n l' (kept l l'.passes l'.resume stands) after lt (omega arith) later)))
@@ -313,8 +348,8 @@ module _ (image : List Routine) (units : List unit.Unit) (alike : LeadAlike imag
             let len : pc + length cr ≡ last + 1 = omega (arith, length-append ca (c2 ++ i ∷ []), length-append c2 (i ∷ [])) in
             let whole : pc + length cr + length (ranges_code (pc + length cr) rs) ≡ close = omega (arith, e, length-append cr (ranges_code (pc + length cr) rs)) in
             let after : Timed = ranges (points_of image d) here l.name rs steps ways in
-            expr_follows units u c at b (points_of image d) here a pc [] _ (has_front code_here pc ca _ front) (λ v.
-            expr_follows units u c at b (points_of image d) here a2 second (v ∷ []) _ (has_front code_here second c2 _ back) (λ w.
+            expr_follows units u c at b (points_of image d) here (does_calls b d deep lines (l ∷ ls)) a pc [] _ (has_front code_here pc ca _ front) (λ v.
+            expr_follows units u c at b (points_of image d) here (does_calls b d deep lines (l ∷ ls)) a2 second (v ∷ []) _ (has_front code_here second c2 _ back) (λ w.
             one units u c at b last (w ∷ v ∷ []) i _ (has_back code_here second c2 _ back).0 (λ n lt.
             reading_two_at n v w _ _ (λ x step.
             let l' : Loop = with_passes l (By step None) (last + 1) in
@@ -340,9 +375,9 @@ module _ (image : List Routine) (units : List unit.Unit) (alike : LeadAlike imag
             let len : pc + length cr ≡ last + 1 = omega (arith, length-append ca (c2 ++ (c3 ++ i ∷ [])), length-append c2 (c3 ++ i ∷ []), length-append c3 (i ∷ [])) in
             let whole : pc + length cr + length (ranges_code (pc + length cr) rs) ≡ close = omega (arith, e, length-append cr (ranges_code (pc + length cr) rs)) in
             let after : Timed = ranges (points_of image d) here l.name rs steps ways in
-            expr_follows units u c at b (points_of image d) here a pc [] _ (has_front code_here pc ca _ front) (λ v.
-            expr_follows units u c at b (points_of image d) here a2 second (v ∷ []) _ (has_front code_here second c2 _ back) (λ w.
-            expr_follows units u c at b (points_of image d) here a3 third (w ∷ v ∷ []) _ (has_front code_here third c3 _ back') (λ z.
+            expr_follows units u c at b (points_of image d) here (does_calls b d deep lines (l ∷ ls)) a pc [] _ (has_front code_here pc ca _ front) (λ v.
+            expr_follows units u c at b (points_of image d) here (does_calls b d deep lines (l ∷ ls)) a2 second (v ∷ []) _ (has_front code_here second c2 _ back) (λ w.
+            expr_follows units u c at b (points_of image d) here (does_calls b d deep lines (l ∷ ls)) a3 third (w ∷ v ∷ []) _ (has_front code_here third c3 _ back') (λ z.
             one units u c at b last (z ∷ w ∷ v ∷ []) i _ (has_back code_here third c3 _ back').0 (λ n lt.
             reading_two_at n v w _ _ (λ x step.
             given_at n (reading z) _ _ (λ end ok.
@@ -389,7 +424,7 @@ module _ (image : List Routine) (units : List unit.Unit) (alike : LeadAlike imag
         let has_body = has_back code_here first cr cb back.1 in
         let len : close + length cb ≡ pc + length (cs ++ i ∷ (cr ++ cb)) = omega (arith, length-append cs (i ∷ (cr ++ cb)), length-append cr cb) in
         let behind : Agree b (there loops (close + length cb)) ways.line_end = moved units u c at b _ _ [] ways.line_end len h in
-        local_follows units u c at b (points_of image d) here v i pc [] (λ x. ranges (points_of image d) here x rs steps ways) (has_front code_here pc cs _ has) back.0 (λ ss n lt many.
+        local_follows units u c at b (points_of image d) here (does_calls b d deep lines loops) v i pc [] (λ x. ranges (points_of image d) here x rs steps ways) (has_front code_here pc cs _ has) back.0 (λ ss n lt many.
         let opened : List (List ℕ) → Stack → Name → Timed = λ l st x. exec units n (in_frame (record { name = x; passes = Once; body = close + 1; resume = first } ∷ loops)) first st in
         ap (λ l. given (name_of Local (reference v).word l) (λ x. exec units n
         (in_frame (record { name = x; passes = Once; body = close + 1; resume = first } ∷ loops)) first (drop (reference v).count (onto ss []))) n) (operands_are ss [] _ many)
@@ -430,7 +465,7 @@ module _ (image : List Routine) (units : List unit.Unit) (alike : LeadAlike imag
     rest_follows command c done steps f b d deep lines loops out ways pc has h quits leaves made =
         let cc = code_if pc c (λ p. command_code here p out command) in
         let cs = steps_code here (pc + length cc) out steps in
-        when_follows units u (in_frame loops) at b (points_of image d) here c (λ p. command_code here p out command) done (obey_all (points_of image d) here steps ways) pc []
+        when_follows units u (in_frame loops) at b (points_of image d) here (does_calls b d deep lines loops) c (λ p. command_code here p out command) done (obey_all (points_of image d) here steps ways) pc []
         (has_front code_here pc cc cs has) made
         (f b d deep lines loops out ways (pc + length cc) (has_back code_here pc cc cs has) (moved units u (in_frame loops) at b _ _ [] ways.line_end (seam pc cc cs) h) quits leaves)
 
@@ -443,40 +478,40 @@ module _ (image : List Routine) (units : List unit.Unit) (alike : LeadAlike imag
         → Agree b (there loops pc) (obey (points_of image d) here command c steps ways (obey_all (points_of image d) here steps ways))
     step_follows (Set list) c steps f b d deep lines loops out ways pc has h quits leaves =
         rest_follows (Set list) c (assign_all (points_of image d) here list (obey_all (points_of image d) here steps ways)) steps f b d deep lines loops out ways pc has h quits leaves
-        (λ p has' after. assigns_follow units u (in_frame loops) at b (points_of image d) here list p [] _ has' after)
+        (λ p has' after. assigns_follow units u (in_frame loops) at b (points_of image d) here (does_calls b d deep lines loops) list p [] _ has' after)
     step_follows (Write list) c steps f b d deep lines loops out ways pc has h quits leaves =
         rest_follows (Write list) c (output_all (points_of image d) here list (obey_all (points_of image d) here steps ways)) steps f b d deep lines loops out ways pc has h quits leaves
-        (λ p has' after. outputs_follow units u (in_frame loops) at b (points_of image d) here list p [] _ has' after)
+        (λ p has' after. outputs_follow units u (in_frame loops) at b (points_of image d) here (does_calls b d deep lines loops) list p [] _ has' after)
     step_follows Halt c steps f b d deep lines loops out ways pc has h quits leaves =
         rest_follows Halt c (turn (end None)) steps f b d deep lines loops out ways pc has h quits leaves
         (λ p has' after. one units u (in_frame loops) at b p [] instr.Halt _ has'.0 (λ n lt. refl))
     step_follows (Hang es) c steps f b d deep lines loops out ways pc has h quits leaves =
         rest_follows (Hang es) c (hang_all (points_of image d) here es (obey_all (points_of image d) here steps ways)) steps f b d deep lines loops out ways pc has h quits leaves
-        (λ p has' after. hangs_follow units u (in_frame loops) at b (points_of image d) here es p [] _ has' after)
+        (λ p has' after. hangs_follow units u (in_frame loops) at b (points_of image d) here (does_calls b d deep lines loops) es p [] _ has' after)
     step_follows (Job list) c steps f b d deep lines loops out ways pc has h quits leaves =
         rest_follows (Job list) c (start_all (points_of image d) here list (obey_all (points_of image d) here steps ways)) steps f b d deep lines loops out ways pc has h quits leaves
-        (λ p has' after. jobs_follow units u (in_frame loops) at b (points_of image d) here list p [] _ has' after)
+        (λ p has' after. jobs_follow units u (in_frame loops) at b (points_of image d) here (does_calls b d deep lines loops) list p [] _ has' after)
     step_follows (Lock list) c steps f b d deep lines loops out ways pc has h quits leaves =
         rest_follows (Lock list) c (lock_all (points_of image d) here list (obey_all (points_of image d) here steps ways)) steps f b d deep lines loops out ways pc has h quits leaves
-        (λ p has' after. lock_all_follows units u (in_frame loops) at b (points_of image d) here list p [] _ has' after)
+        (λ p has' after. lock_all_follows units u (in_frame loops) at b (points_of image d) here (does_calls b d deep lines loops) list p [] _ has' after)
     step_follows (OpenDevice list) c steps f b d deep lines loops out ways pc has h quits leaves =
         rest_follows (OpenDevice list) c (open_all (points_of image d) here list (obey_all (points_of image d) here steps ways)) steps f b d deep lines loops out ways pc has h quits leaves
-        (λ p has' after. opens_follow units u (in_frame loops) at b (points_of image d) here list p [] _ has' after)
+        (λ p has' after. opens_follow units u (in_frame loops) at b (points_of image d) here (does_calls b d deep lines loops) list p [] _ has' after)
     step_follows (UseDevice es) c steps f b d deep lines loops out ways pc has h quits leaves =
         rest_follows (UseDevice es) c (use_all (points_of image d) here es (obey_all (points_of image d) here steps ways)) steps f b d deep lines loops out ways pc has h quits leaves
-        (λ p has' after. uses_follow units u (in_frame loops) at b (points_of image d) here es p [] _ has' after)
+        (λ p has' after. uses_follow units u (in_frame loops) at b (points_of image d) here (does_calls b d deep lines loops) es p [] _ has' after)
     step_follows (CloseDevice es) c steps f b d deep lines loops out ways pc has h quits leaves =
         rest_follows (CloseDevice es) c (close_all (points_of image d) here es (obey_all (points_of image d) here steps ways)) steps f b d deep lines loops out ways pc has h quits leaves
-        (λ p has' after. closes_follow units u (in_frame loops) at b (points_of image d) here es p [] _ has' after)
+        (λ p has' after. closes_follow units u (in_frame loops) at b (points_of image d) here (does_calls b d deep lines loops) es p [] _ has' after)
     step_follows (Read list) c steps f b d deep lines loops out ways pc has h quits leaves =
         rest_follows (Read list) c (read_all (points_of image d) here list (obey_all (points_of image d) here steps ways)) steps f b d deep lines loops out ways pc has h quits leaves
-        (λ p has' after. inputs_follow units u (in_frame loops) at b (points_of image d) here list p [] _ has' after)
+        (λ p has' after. inputs_follow units u (in_frame loops) at b (points_of image d) here (does_calls b d deep lines loops) list p [] _ has' after)
     step_follows (Kill list) c steps f b d deep lines loops out ways pc has h quits leaves =
         rest_follows (Kill list) c (kill_all (points_of image d) here list (obey_all (points_of image d) here steps ways)) steps f b d deep lines loops out ways pc has h quits leaves
-        (λ p has' after. kill_all_follows units u (in_frame loops) at b (points_of image d) here list p [] _ has' after)
+        (λ p has' after. kill_all_follows units u (in_frame loops) at b (points_of image d) here (does_calls b d deep lines loops) list p [] _ has' after)
     step_follows (Merge list) c steps f b d deep lines loops out ways pc has h quits leaves =
         rest_follows (Merge list) c (merge_all (points_of image d) here list (obey_all (points_of image d) here steps ways)) steps f b d deep lines loops out ways pc has h quits leaves
-        (λ p has' after. merges_follow units u (in_frame loops) at b (points_of image d) here list p [] _ has' after)
+        (λ p has' after. merges_follow units u (in_frame loops) at b (points_of image d) here (does_calls b d deep lines loops) list p [] _ has' after)
     step_follows (If es) c steps f b d deep lines loops out ways pc has h quits leaves =
         if_follows b d deep lines loops es (λ p. steps_code here p out steps) ways.line_end (obey_all (points_of image d) here steps ways) pc has
         (λ p has' after. f b d deep lines loops out ways p has' after quits leaves) h
@@ -491,12 +526,12 @@ module _ (image : List Routine) (units : List unit.Unit) (alike : LeadAlike imag
     step_follows (Goto list) c steps f b d deep lines loops out ways pc has h quits leaves =
         rest_follows (Goto list) c (jumps (points_of image d) here list ways.leave (obey_all (points_of image d) here steps ways)) steps f b d deep lines loops out ways pc has h quits leaves
         (λ p has' after. jumps_follow b d deep lines loops list p ways.leave _ has' leaves after)
-    step_follows Quit c steps f b d deep lines loops out ways pc has h quits leaves =
-        rest_follows Quit c (turn (elim ways.for_quit [ None ↦ quit_frame (ways.leave []) | Some t ↦ t ])) steps f b d deep lines loops out ways pc has h quits leaves
-        (λ p has' after. quit_follows b d deep lines loops out ways.for_quit ways.leave p has' quits leaves)
+    step_follows (Quit value) c steps f b d deep lines loops out ways pc has h quits leaves =
+        rest_follows (Quit value) c (quit (points_of image d) here value ways) steps f b d deep lines loops out ways pc has h quits leaves
+        (λ p has' after. quit_follows b d deep lines loops out value ways p has' quits leaves)
     step_follows (New list) c steps f b d deep lines loops out ways pc has h quits leaves =
         rest_follows (New list) c (new_all list (obey_all (points_of image d) here steps ways)) steps f b d deep lines loops out ways pc has h quits leaves
-        (λ p has' after. new_all_follows units u (in_frame loops) at b (points_of image d) here list p [] _ has' after)
+        (λ p has' after. new_all_follows units u (in_frame loops) at b (points_of image d) here (does_calls b d deep lines loops) list p [] _ has' after)
     step_follows (TStart a) c steps f b d deep lines loops out ways pc has h quits leaves =
         rest_follows (TStart a) c (start_transaction (points_of image d) here a (obey_all (points_of image d) here steps ways)) steps f b d deep lines loops out ways pc has h quits leaves
         (λ p has' after. transaction_follows image units u (in_frame loops) at b d deep here a p _ has' after)

@@ -1,5 +1,6 @@
 pub mod Rows
 pub mod Lies
+pub mod Actuals
 pub mod Expressions
 pub mod VariableCommands
 pub mod SharingCommands

@@ -1,5 +1,5 @@
 -- Trees that lie in vectors, by the vectors' items.
-use Rattle.std.proofs.Common.{◌≡◌, ℕ, ◌+◌, Option, Some, None, Box, Vec, Global, List, [], ◌∷◌, length, refl, sym, ap, ◌∙◌, arith}
+use Rattle.std.proofs.Common.{◌≡◌, ℕ, ◌+◌, Option, Some, None, Box, Vec, Global, List, [], ◌∷◌, length, map, refl, sym, ap, ◌∙◌, arith}
 use Rattle.mj_ast.specs.declared.expr.Expr as expr
 use Rattle.mj_ast.specs.declared.expr.Expr.{out-Expr}
 use Rattle.mj_ast.specs.declared.expr.Variable as variable
@@ -7,10 +7,12 @@ use Rattle.mj_ast.specs.declared.expr.Variable.{out-Variable}
 use Rattle.mj_ast.specs.declared.expr.Choice as choice
 use Rattle.mj_ast.specs.declared.expr.Choice.{out-Choice}
 use Rattle.mj_ast.specs.declared.expr.Operand as operand
+use Rattle.mj_ast.specs.declared.expr.Actual as actual
+use Rattle.mj_ast.specs.declared.routine.Target as target
 use Rattle.mj_ast.specs.declared.function.Function.{Function}
 use Rattle.mj_ast.specs.declared.function.NameFunction.{NameFunction}
-use Rattle.mj_ast.specs.Syntax.{Chain, Then, Call, About, Var, More}
-use Rattle.mj_ast.specs.Trees.{operand_of, expr_of, variable_of, choice_of, tail_row, expr_row, tails_of, exprs_of}
+use Rattle.mj_ast.specs.Syntax.{Expr, Chain, Then, Call, About, Extrinsic, Var, More, as_actuals}
+use Rattle.mj_ast.specs.Trees.{operand_of, expr_of, variable_of, choice_of, target_of, option_of, tail_row, expr_row, actual_row, actual_before, tails_of, exprs_of}
 use Rattle.mj_pcode.specs.declared.instr.Instr.TheVariants.{SelectFails}
 use Rattle.mj_asm.specs.Code.{count, reference, expr_code, choices_code, others_code}
 use Rattle.mj_asm.proofs.Emitted.{choice_code}
@@ -21,7 +23,7 @@ tails_row (expr.more_of-Tail op x rest) = ap (λ ts. Then op (operand_of x) ts) 
 
 pub expr_is : (e : expr.Expr) → expr_of e ≡ Chain (operand_of (out-Expr e).first) (tails_of (out-Expr e).rest.items)
 unfolding out-Expr denote.Hole.Carrier.out
-expr_is (expr.Expr' first shape row) = ap (Chain (operand_of first)) (tails_row row ∙ ap tails_of (sym (expr.items_shown-the_row-Tail-1 shape row)))
+expr_is (expr.Expr' first shape row) = ap (Chain (operand_of first)) (tails_row row ∙ ap tails_of (sym (expr.items_shown-the_row-Tail-2 shape row)))
 
 exprs_row : {m : _} (row : variable.Row_of-Expr m) → expr_row row ≡ exprs_of (variable.items-the_row-Expr m row)
 exprs_row variable.end_of-Expr = refl
@@ -29,11 +31,24 @@ exprs_row (variable.more_of-Expr e rest) = ap (More (expr_of e)) (exprs_row rest
 
 -- a call
 pub call_is : (f : Function) (v : Vec expr.Expr Global) → operand_of (operand.Call f v) ≡ Call f (exprs_of v.items)
-call_is f v = ap (Call f) (exprs_row (operand.TheBlock.hidden-the_row-Expr-0 v) ∙ ap exprs_of (variable.items_hidden-the_row-Expr-0 v))
+call_is f v = ap (Call f) (exprs_row (actual.TheBlock.hidden-the_row-Expr-0 v) ∙ ap exprs_of (variable.items_hidden-the_row-Expr-0 v))
 
 -- a function of a variable
 pub about_is : (f : NameFunction) (x : variable.Variable) (v : Vec expr.Expr Global) → operand_of (operand.About f x v) ≡ About f (variable_of x) (exprs_of v.items)
-about_is f x v = ap (About f (variable_of x)) (exprs_row (operand.TheBlock.hidden-the_row-Expr-0 v) ∙ ap exprs_of (variable.items_hidden-the_row-Expr-0 v))
+about_is f x v = ap (About f (variable_of x)) (exprs_row (actual.TheBlock.hidden-the_row-Expr-0 v) ∙ ap exprs_of (variable.items_hidden-the_row-Expr-0 v))
+
+before_is : (a : actual.Actual) (es : List (Option Expr)) → actual_before a (as_actuals es) ≡ as_actuals (option_of a ∷ es)
+before_is (actual.Given e) es = refl
+before_is actual.Omitted es = refl
+
+actuals_row : {m : _} (row : operand.Row_of-Actual m) → actual_row row ≡ as_actuals (map option_of (operand.items-the_row-Actual m row))
+actuals_row operand.end_of-Actual = refl
+actuals_row (operand.more_of-Actual a rest) = ap (actual_before a) (actuals_row rest) ∙ before_is a _
+
+-- a function that is written in M
+pub extrinsic_is : (t : target.Target) (v : Vec actual.Actual Global) → operand_of (operand.Extrinsic t v) ≡ Extrinsic (target_of t) (as_actuals (map option_of v.items))
+extrinsic_is t v =
+    ap (Extrinsic (target_of t)) (actuals_row (actual.TheBlock.hidden-the_row-Actual-1 v) ∙ ap (λ l. as_actuals (map option_of l)) (operand.items_hidden-the_row-Actual-1 v))
 
 -- a variable
 pub variable_is : (v : variable.Variable) → variable_of v ≡ Var (out-Variable v).scope (out-Variable v).word (exprs_of (out-Variable v).subscripts.items)

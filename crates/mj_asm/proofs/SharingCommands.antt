@@ -2,7 +2,7 @@
 use Rattle.std.proofs.Common.{◌≡◌, ℕ, ◌+◌, ◌<◌, List, [], ◌∷◌, ◌++◌, length, drop, map, Option, Some, refl, ap, ◌∙◌, arith, length-append}
 use Rattle.std.specs.Prelude.{ℤ, slice_get}
 use Rattle.mj_subs.specs.Name.{Name}
-use Rattle.mj_ast.specs.Syntax.{Expr, Variable, Started, LockNames, Lone, Together, Locked}
+use Rattle.mj_ast.specs.Syntax.{as_actuals, Expr, Variable, Started, LockNames, Lone, Together, Locked}
 use Rattle.mj_semantics.specs.Outcome.{Timed, turn, given}
 use Rattle.mj_semantics.specs.Lines.{Here, entry_of}
 use Rattle.mj_semantics.specs.Sharing.{start_job, take_names, give_names, lock}
@@ -22,7 +22,7 @@ use Rattle.mj_asm.specs.Code.{reference, expr_code, subscripts_code, actuals_cod
 use Rattle.mj_asm.specs.Correct.{Agree}
 use Rattle.mj_pcode.proofs.Agree.{hang_at, start_job_at, unlock_all_at, take_names_at, give_names_at}
 use Rattle.mj_asm.proofs.Lies.{onto, rest_below, operands_are, LiesWait, waited, below_wait, below_more, LieNames, below_names, names_are}
-use Rattle.mj_asm.proofs.Expressions.{HasAt, has_front, has_back, end_of, seam, from, one, moved, over, expr_follows, checked, actuals_follow, timeout_follows}
+use Rattle.mj_asm.proofs.Expressions.{HasAt, DoesCalls, has_front, has_back, end_of, seam, from, one, moved, over, expr_follows, checked, actuals_follow, timeout_follows}
 
 module _ (units : List unit.Unit) (u : unit.Unit) (ctx : Context) (there : slice_get units ctx.unit ≡ Some u) (b : ℕ) where
   abbrev code : List Instr
@@ -32,7 +32,7 @@ module _ (units : List unit.Unit) (u : unit.Unit) (ctx : Context) (there : slice
   abbrev runs : ℕ → Stack → Timed
   runs pc stack = from units u ctx there pc stack
 
-  module _ (points : Points) (here : Here) where
+  module _ (points : Points) (here : Here) (invoked : DoesCalls units u ctx there b points here) where
     pub hangs_follow : (es : List Expr) (pc : ℕ) (stack : Stack) (rest : Timed)
         → HasAt code pc (hangs_code pc es) → Agree b (runs (pc + length (hangs_code pc es)) stack) rest → Agree b (runs pc stack) (hang_all points here es rest)
     hangs_follow [] pc stack rest has k = moved units u ctx there b pc (pc + 0) stack rest (omega arith) k
@@ -40,28 +40,29 @@ module _ (units : List unit.Unit) (u : unit.Unit) (ctx : Context) (there : slice
         let ce = expr_code pc e in
         let ch = hang_code pc e in
         let front = has_front code pc ch _ has in
-        expr_follows units u ctx there b points here e pc stack _ (has_front code pc ce _ front) (λ v.
+        expr_follows units u ctx there b points here invoked e pc stack _ (has_front code pc ce _ front) (λ v.
         one units u ctx there b (pc + length ce) (v ∷ stack) instr.Hang _ (has_back code pc ce _ front).0 (λ n lt.
         hang_at n v (exec units n ctx (pc + length ce + 1) stack) (hang_all points here es rest)
         ((moved units u ctx there b _ _ stack (hang_all points here es rest) (end_of pc ce instr.Hang)
         (hangs_follow es (pc + length ch) stack rest (has_back code pc ch _ has) (moved units u ctx there b _ _ stack rest (seam pc ch (hangs_code (pc + length ch) es)) k))).by n (omega arith))))
 
     start_follows : (s : Started) (pc : ℕ) (stack : Stack) (rest : Timed) → HasAt code pc (start_code here pc s) → Agree b (runs (pc + length (start_code here pc s)) stack) rest
-        → Agree b (runs pc stack) (ev_actuals points here s.actuals (λ vs. ev_timeout points here s.timeout (λ t. turn (start_job (entry_of here s.target) vs t rest))))
+        → Agree b (runs pc stack) (ev_actuals points here (as_actuals s.actuals) (λ vs. ev_timeout points here s.timeout (λ t. turn (start_job (entry_of here s.target) vs t rest))))
     start_follows s pc stack rest has k =
-        let ca = actuals_code pc s.actuals in
+        let actuals = as_actuals s.actuals in
+        let ca = actuals_code pc actuals in
         let pw = pc + length ca in
         let cw = timeout_code pw s.timeout in
         let w = wait_of s.timeout in
-        let shape = shape_of s.actuals in
+        let shape = shape_of actuals in
         let entry = entry_of here s.target in
         let i = instr.StartJob entry shape w in
         let back = has_back code pc ca (cw ++ i ∷ []) has in
         let at = pw + length cw in
         let taken = given_count shape + wait_size w in
         let len : at + 1 ≡ pc + length (ca ++ (cw ++ i ∷ [])) = omega (arith, length-append ca (cw ++ i ∷ []), length-append cw (i ∷ [])) in
-        actuals_follow units u ctx there b points here s.actuals pc stack _ (has_front code pc ca _ has) (λ vs many.
-        timeout_follows units u ctx there b points here s.timeout pw (onto vs stack) _ (has_front code pw cw _ back) (λ t st l.
+        actuals_follow units u ctx there b points here invoked actuals pc stack _ (has_front code pc ca _ has) (λ vs many.
+        timeout_follows units u ctx there b points here invoked s.timeout pw (onto vs stack) _ (has_front code pw cw _ back) (λ t st l.
         one units u ctx there b at st i (start_job entry (spread shape vs) t rest) (has_back code pw cw _ back).0 (λ n lt.
         let behind : Timed = exec units n ctx (at + 1) (drop taken st) in
         waited s.timeout t st (onto vs stack) l (λ z. start_job entry (spread shape (operands (given_count shape) (drop (wait_size w) st))) z behind) n
@@ -88,7 +89,7 @@ module _ (units : List unit.Unit) (u : unit.Unit) (ctx : Context) (there : slice
         let i = instr.CheckName (reference v) in
         let cn = name_code pc v in
         let front = has_front code pc cn _ has in
-        checked units u ctx there b points here v pc stack _ (has_front code pc cs _ front) (has_back code pc cs _ front).0 (λ x ss many e.
+        checked units u ctx there b points here invoked v pc stack _ (has_front code pc cs _ front) (has_back code pc cs _ front).0 (λ x ss many e.
         moved units u ctx there b _ _ (onto ss stack) (ev_names points here vs (λ xs. rest (x ∷ xs))) (end_of pc cs i)
         (variables_follow vs (pc + length cn) (onto ss stack) (λ xs. rest (x ∷ xs)) (has_back code pc cn _ has) (λ xs st l.
         moved units u ctx there b _ _ st (rest (x ∷ xs)) (seam pc cn (variables_code (pc + length cn) vs)) (k (x ∷ xs) st (ss, many, e, l)))))
@@ -155,7 +156,7 @@ module _ (units : List unit.Unit) (u : unit.Unit) (ctx : Context) (there : slice
         let later : Timed = lock_list points here list rest in
         let len : pw + length cw + length ct ≡ pc + length cl = omega (arith, length-append cv (cw ++ ct), length-append cw ct) in
         lock_names_follow l.names pc stack _ (has_front code pc cv _ front) (λ xs mid named.
-        timeout_follows units u ctx there b points here l.timeout pw mid _ (has_front code pw cw _ back) (λ t st wait.
+        timeout_follows units u ctx there b points here invoked l.timeout pw mid _ (has_front code pw cw _ back) (λ t st wait.
         taking_follows l.timeout t vs xs st mid stack wait named later l.mode (pw + length cw) (has_back code pw cw _ back)
         (moved units u ctx there b _ _ stack later len
         (locks_follow list (pc + length cl) stack rest (has_back code pc cl _ has) (moved units u ctx there b _ _ stack rest (seam pc cl (locks_code (pc + length cl) list)) k)))))

@@ -64,7 +64,7 @@ module _ (image : List Routine) (units : List unit.Unit) (u : unit.Unit) (ctx : 
         let inner : Agree b (at (p + 2)) rest = moved units u ctx there b _ _ [] rest len k in
         let behind : Agree b (at (p + 1 + 1)) rest = moved units u ctx there b _ _ [] rest len' k in
         let marked : Timed = turn (points_of image d (Started rest)) in
-        names_follow units u ctx there b (points_of image d) here (listed_by a) pc [] _ (has_front code pc cn _ has)
+        names_follow units u ctx there b (listed_by a) pc [] _ (has_front code pc cn _ has)
         (one units u ctx there b p [] i (begin_transaction (restored_by a) (serial_by a) rest marked) back.0 (λ n lt.
         ap (λ o. begin_transaction o (serial_by a) (exec units n ctx (p + 2) []) (exec units n ctx (p + 1) []) n) (same_restored a)
         ∙ begin_transaction_at n (restored_by a) (serial_by a) (exec units n ctx (p + 2) []) rest (exec units n ctx (p + 1) []) marked

@@ -21,7 +21,7 @@ use Rattle.mj_asm.specs.Code.{count, reference, expr_code, subscripts_code, expr
 use Rattle.mj_asm.specs.Correct.{Agree}
 use Rattle.mj_pcode.proofs.Agree.{change_at, given_at, store_at, renew_at, remove_at, take_nodes_at, put_nodes_at}
 use Rattle.mj_asm.proofs.Lies.{onto, rest_below, operands_are, drop_more, Lies, LieAll, below_one, below_all}
-use Rattle.mj_asm.proofs.Expressions.{HasAt, has_front, has_back, end_of, seam, from, one, moved, over, expr_follows, name_follows, all_follow, checked}
+use Rattle.mj_asm.proofs.Expressions.{HasAt, DoesCalls, has_front, has_back, end_of, seam, from, one, moved, over, expr_follows, name_follows, all_follow, checked}
 
 module _ (units : List unit.Unit) (u : unit.Unit) (ctx : Context) (there : slice_get units ctx.unit ≡ Some u) (b : ℕ) where
   abbrev code : List Instr
@@ -31,14 +31,21 @@ module _ (units : List unit.Unit) (u : unit.Unit) (ctx : Context) (there : slice
   abbrev runs : ℕ → Stack → Timed
   runs pc stack = from units u ctx there pc stack
 
-  module _ (points : Points) (here : Here) where
+  pub names_follow : (words : List (List ℕ)) (pc : ℕ) (stack : Stack) (rest : Timed)
+      → HasAt code pc (names_code words) → Agree b (runs (pc + length (names_code words)) stack) rest → Agree b (runs pc stack) (named words rest)
+  names_follow [] pc stack rest has k = moved units u ctx there b pc (pc + 0) stack rest (omega arith) k
+  names_follow (word ∷ words) pc stack rest has k =
+      let len : pc + 1 + length (names_code words) ≡ pc + length (names_code (word ∷ words)) = omega arith in
+      one units u ctx there b pc stack (instr.Discard 0) _ has.0 (λ n lt. (names_follow words (pc + 1) stack rest has.1 (moved units u ctx there b _ _ stack rest len k)).by n (omega arith))
+
+  module _ (points : Points) (here : Here) (invoked : DoesCalls units u ctx there b points here) where
     destination_follows : (d : Destination) (pc : ℕ) (stack : Stack) (rest : Aim → Timed) → HasAt code pc (destination_code pc d)
         → ((t : Aim) (st : Stack) → Lies d t st stack → Agree b (runs (pc + length (destination_code pc d)) st) (rest t))
         → Agree b (runs pc stack) (ev_destination points here d rest)
     destination_follows (Plain v) pc stack rest has k =
         let cs = subscripts_code pc v in
         let i = instr.CheckName (reference v) in
-        checked units u ctx there b points here v pc stack _ (has_front code pc cs _ has) (has_back code pc cs _ has).0 (λ x ss many e.
+        checked units u ctx there b points here invoked v pc stack _ (has_front code pc cs _ has) (has_back code pc cs _ has).0 (λ x ss many e.
         moved units u ctx there b _ _ (onto ss stack) (rest (Whole x)) (end_of pc cs i) (k (Whole x) (onto ss stack) (ss, many, e, refl)))
     destination_follows (Pieces v es) pc stack rest has k =
         let cs = subscripts_code pc v in
@@ -46,8 +53,8 @@ module _ (units : List unit.Unit) (u : unit.Unit) (ctx : Context) (there : slice
         let ce = exprs_code (pc + length cs + 1) es in
         let len : pc + length cs + 1 + length ce ≡ pc + length (cs ++ i ∷ ce) = omega (arith, length-append cs (i ∷ ce)) in
         let back = has_back code pc cs (i ∷ ce) has in
-        checked units u ctx there b points here v pc stack _ (has_front code pc cs _ has) back.0 (λ x ss many e.
-        all_follow units u ctx there b points here es (pc + length cs + 1) (onto ss stack) _ back.1 (λ ts many'.
+        checked units u ctx there b points here invoked v pc stack _ (has_front code pc cs _ has) back.0 (λ x ss many e.
+        all_follow units u ctx there b points here invoked es (pc + length cs + 1) (onto ss stack) _ back.1 (λ ts many'.
         moved units u ctx there b _ _ (onto ts (onto ss stack)) (rest (Part x ts)) len (k (Part x ts) (onto ts (onto ss stack)) (ss, many, e, many', refl))))
 
     destinations_follow : (list : List Destination) (pc : ℕ) (stack : Stack) (rest : List Aim → Timed) → HasAt code pc (destinations_code pc list)
@@ -121,7 +128,7 @@ module _ (units : List unit.Unit) (u : unit.Unit) (ctx : Context) (there : slice
         let back = has_back code pc cd (ce ++ cs) has in
         let len : pc + length cd + length ce + length cs ≡ pc + length (cd ++ (ce ++ cs)) = omega (arith, length-append cd (ce ++ cs), length-append ce cs) in
         destination_follows d pc stack _ (has_front code pc cd _ has) (λ t st l.
-        expr_follows units u ctx there b points here e (pc + length cd) st (λ v. turn (put t v rest)) (has_front code (pc + length cd) ce _ back) (λ v.
+        expr_follows units u ctx there b points here invoked e (pc + length cd) st (λ v. turn (put t v rest)) (has_front code (pc + length cd) ce _ back) (λ v.
         store_follows d t depth (pc + length cd + length ce) (v ∷ st) stack rest l (has_back code (pc + length cd) ce _ back)
         (over units u ctx there b _ (drop (size d + 1) (v ∷ st)) stack rest (drop_more (size d) v st ∙ below_one d t st stack l) (moved units u ctx there b _ _ stack rest len k))))
     targets_follow (Several list) e pc stack rest has k =
@@ -135,7 +142,7 @@ module _ (units : List unit.Unit) (u : unit.Unit) (ctx : Context) (there : slice
         let len : at + length cs + 1 ≡ pc + length (cd ++ (ce ++ (cs ++ i ∷ []))) =
         omega (arith, length-append cd (ce ++ (cs ++ i ∷ [])), length-append ce (cs ++ i ∷ []), length-append cs (i ∷ [])) in
         destinations_follow list pc stack _ (has_front code pc cd _ has) (λ ts st l.
-        expr_follows units u ctx there b points here e (pc + length cd) st (λ v. put_all ts v (turn rest)) (has_front code (pc + length cd) ce _ back) (λ v.
+        expr_follows units u ctx there b points here invoked e (pc + length cd) st (λ v. put_all ts v (turn rest)) (has_front code (pc + length cd) ce _ back) (λ v.
         stores_follow list ts at v st stack (turn rest) l (has_front code at cs _ back')
         (one units u ctx there b (at + length cs) (v ∷ st) i rest (has_back code at cs _ back').0 (λ n lt.
         (over units u ctx there b (at + length cs + 1) (drop (sizes list + 1) (v ∷ st)) stack rest (drop_more (sizes list) v st ∙ below_all list ts st stack l)
@@ -153,13 +160,6 @@ module _ (units : List unit.Unit) (u : unit.Unit) (ctx : Context) (there : slice
         assign_follows a pc stack _ (has_front code pc ca _ has)
         (assigns_follow list (pc + length ca) stack rest (has_back code pc ca _ has) (moved units u ctx there b _ _ stack rest (seam pc ca (assignments_code (pc + length ca) list)) k))
 
-    pub names_follow : (words : List (List ℕ)) (pc : ℕ) (stack : Stack) (rest : Timed)
-        → HasAt code pc (names_code words) → Agree b (runs (pc + length (names_code words)) stack) rest → Agree b (runs pc stack) (named words rest)
-    names_follow [] pc stack rest has k = moved units u ctx there b pc (pc + 0) stack rest (omega arith) k
-    names_follow (word ∷ words) pc stack rest has k =
-        let len : pc + 1 + length (names_code words) ≡ pc + length (names_code (word ∷ words)) = omega arith in
-        one units u ctx there b pc stack (instr.Discard 0) _ has.0 (λ n lt. (names_follow words (pc + 1) stack rest has.1 (moved units u ctx there b _ _ stack rest len k)).by n (omega arith))
-
     kill_follows : (x : Killed) (pc : ℕ) (stack : Stack) (rest : Timed) → HasAt code pc (kill_code pc x)
         → Agree b (runs (pc + length (kill_code pc x)) stack) rest → Agree b (runs pc stack) (kill points here x rest)
     kill_follows (Gone v) pc stack rest has k =
@@ -170,7 +170,7 @@ module _ (units : List unit.Unit) (u : unit.Unit) (ctx : Context) (there : slice
         let behind = pc + length cs + 1 in
         let back = has_back code pc cs (i ∷ j ∷ []) has in
         let len : behind + 1 ≡ pc + length (cs ++ i ∷ j ∷ []) = omega (arith, length-append cs (i ∷ j ∷ [])) in
-        checked units u ctx there b points here v pc stack _ (has_front code pc cs _ has) back.0 (λ x ss many e.
+        checked units u ctx there b points here invoked v pc stack _ (has_front code pc cs _ has) back.0 (λ x ss many e.
         one units u ctx there b behind (onto ss stack) j _ back.1.0 (λ n lt.
         ap (λ l. given (name_of r.scope r.word l) (λ y. remove y (exec units n ctx (behind + 1) (drop r.count (onto ss stack)))) n) (operands_are ss stack _ many)
         ∙ ap (λ o. given o (λ y. remove y (exec units n ctx (behind + 1) (drop r.count (onto ss stack)))) n) e
@@ -211,8 +211,8 @@ module _ (units : List unit.Unit) (u : unit.Unit) (ctx : Context) (there : slice
         let back = has_back code pc ca (i ∷ (cf ++ j ∷ p ∷ [])) has in
         let back' = has_back code behind cf (j ∷ p ∷ []) back.1 in
         let len : at + 1 + 1 ≡ pc + length (ca ++ i ∷ (cf ++ j ∷ p ∷ [])) = omega (arith, length-append ca (i ∷ (cf ++ j ∷ p ∷ [])), length-append cf (j ∷ p ∷ [])) in
-        checked units u ctx there b points here m.into pc stack _ (has_front code pc ca _ has) back.0 (λ x ss many e.
-        name_follows units u ctx there b points here m.from j behind (onto ss stack) _ (has_front code behind cf _ back.1) back'.0 (λ qs n lt many'.
+        checked units u ctx there b points here invoked m.into pc stack _ (has_front code pc ca _ has) back.0 (λ x ss many e.
+        name_follows units u ctx there b points here invoked m.from j behind (onto ss stack) _ (has_front code behind cf _ back.1) back'.0 (λ qs n lt many'.
         ap (λ l. given (name_of f.scope f.word l) (λ y. given (name_of a.scope a.word (operands a.count (drop f.count (onto qs (onto ss stack)))))
         (λ z. take_nodes z y (exec units n ctx (at + 1) (drop f.count (onto qs (onto ss stack)))))) n) (operands_are qs (onto ss stack) _ many')
         ∙ ap (λ st. given (name_of f.scope f.word qs) (λ y. given (name_of a.scope a.word (operands a.count st)) (λ z. take_nodes z y (exec units n ctx (at + 1) st))) n)

@@ -1,6 +1,7 @@
 -- The instructions of each piece of a routine.
 use Rattle.std.specs.Prelude.{ℕ, ◌+◌, List, [], ◌∷◌, ◌++◌, Option, Some, None, Bool, true, false, length, map}
-use Rattle.mj_ast.specs.Syntax.{Expr, Chain, Tails, Done, Then, Operand, Literal, Value, Intrinsic, Unary, Group, Call, Select, Variable, Var, Exprs, No, More, Choices, Last, Before, Destination, Plain, Pieces, Targets, One, Several, Assignment, Killed, Gone, Spared, Merged, Output, Shown, Format, Coded, Called, Jumped, Started, LockNames, Lone, Together, Locked, Opened, Received, Input, Prompted, Arranged, Into, Range, Single, Endless, UpTo, Renewed, Fresh, Kept, Restored, Alone, Listed, Everything, Restartable, Command, Set, Write, Halt, Hang, Job, Lock, OpenDevice, UseDevice, CloseDevice, Read, Kill, Merge, If, Else, For, Forever, Do, Goto, Quit, New, TStart, TCommit, TRestart, TRollback, Break, LineCommand, Line, About}
+use Rattle.mj_ast.specs.Syntax.{Expr, Chain, Tails, Done, Then, Operand, Literal, Value, Intrinsic, Unary, Group, Call, Select, Variable, Var, Exprs, No, More, Choices, Last, Before, Destination, Plain, Pieces, Targets, One, Several, Assignment, Killed, Gone, Spared, Merged, Output, Shown, Format, Coded, Called, Jumped, Started, LockNames, Lone, Together, Locked, Opened, Received, Input, Prompted, Arranged, Into, Range, Single, Endless, UpTo, Renewed, Fresh, Kept, Restored, Alone, Listed, Everything, Restartable, Command, Set, Write, Halt, Hang, Job, Lock, OpenDevice, UseDevice, CloseDevice, Read, Kill, Merge, If, Else, For, Forever, Do, Goto, Quit, New, TStart, TCommit, TRestart, TRollback, Break, LineCommand, Line, About, Extrinsic, Target, Actuals, NoActual, Given, Omitted, as_actuals}
+use Rattle.mj_ast.specs.declared.routine.Target as kept
 use Rattle.mj_ast.specs.declared.routine.FormatMark.{FormatMark}
 use Rattle.mj_ast.specs.declared.routine.ReadMode.{ReadMode}
 use Rattle.mj_ast.specs.declared.routine.LockMode.{LockMode}
@@ -26,6 +27,21 @@ count (More e es) = count es + 1
 abbrev pub reference : Variable → Reference
 reference (Var scope word es) = record { scope = scope; word = word; count = count es }
 
+-- which actuals are given
+abbrev pub shape_of : Actuals → List Bool
+shape_of NoActual = []
+shape_of (Given e es) = true ∷ shape_of es
+shape_of (Omitted es) = false ∷ shape_of es
+
+-- parentheses with nothing in them are one actual that is left out, and pass none
+abbrev pub plain_shape : List Bool → List Bool
+plain_shape (false ∷ []) = []
+plain_shape shape = shape
+
+-- where a function begins, as an instruction keeps it
+abbrev pub kept_target : Target → kept.Target
+kept_target t = record { label = t.label; routine = t.routine }
+
 -- what begins at pc: each piece knows where it stands, as jumps lead to numbers of instructions
 abbrev mutual
   pub expr_code : ℕ → Expr → List Instr
@@ -46,6 +62,7 @@ abbrev mutual
       subscripts_code pc v ++ instr.CheckNamed f (reference v)
       ∷ (exprs_code (pc + length (subscripts_code pc v) + 1) es ++ instr.CallNameFunction f (reference v) ((reference v).count + count es) ∷ [])
   operand_code pc (Select choices) = choices_code pc choices
+  operand_code pc (Extrinsic t es) = actuals_code pc es ++ instr.Invoke (kept_target t) (plain_shape (shape_of es)) ∷ []
 
   pub subscripts_code : ℕ → Variable → List Instr
   subscripts_code pc (Var scope word es) = exprs_code pc es
@@ -53,6 +70,12 @@ abbrev mutual
   pub exprs_code : ℕ → Exprs → List Instr
   exprs_code pc No = []
   exprs_code pc (More e es) = expr_code pc e ++ exprs_code (pc + length (expr_code pc e)) es
+
+  -- actuals, of which those that are given have code
+  pub actuals_code : ℕ → Actuals → List Instr
+  actuals_code pc NoActual = []
+  actuals_code pc (Given e es) = expr_code pc e ++ actuals_code (pc + length (expr_code pc e)) es
+  actuals_code pc (Omitted es) = actuals_code pc es
 
   -- a condition, its value behind a test, a jump past the others, and these
   pub choices_code : ℕ → Choices → List Instr
@@ -176,18 +199,6 @@ abbrev pub new_all_code : List Renewed → List Instr
 new_all_code [] = instr.NewExcept [] ∷ []
 new_all_code (r ∷ list) = news_code (r ∷ list)
 
--- actuals, of which those that are given have code
-abbrev pub actuals_code : ℕ → List (Option Expr) → List Instr
-actuals_code pc [] = []
-actuals_code pc (None ∷ es) = actuals_code pc es
-actuals_code pc (Some e ∷ es) = expr_code pc e ++ actuals_code (pc + length (expr_code pc e)) es
-
--- which actuals are given
-abbrev pub shape_of : List (Option Expr) → List Bool
-shape_of [] = []
-shape_of (None ∷ es) = false ∷ shape_of es
-shape_of (Some e ∷ es) = true ∷ shape_of es
-
 -- how long an argument may wait: a number, which is looked at
 abbrev pub timeout_code : ℕ → Option Expr → List Instr
 timeout_code pc None = []
@@ -208,9 +219,10 @@ hangs_code pc (e ∷ es) = hang_code pc e ++ hangs_code (pc + length (hang_code 
 -- an argument of JOB, in a line that stands here: its actuals, and then its timeout
 abbrev pub start_code : Here → ℕ → Started → List Instr
 start_code here pc s =
-    let wait = pc + length (actuals_code pc s.actuals) in
-    actuals_code pc s.actuals
-    ++ (timeout_code wait s.timeout ++ instr.StartJob (entry_of here s.target) (shape_of s.actuals) (wait_of s.timeout) ∷ [])
+    let actuals = as_actuals s.actuals in
+    let wait = pc + length (actuals_code pc actuals) in
+    actuals_code pc actuals
+    ++ (timeout_code wait s.timeout ++ instr.StartJob (entry_of here s.target) (shape_of actuals) (wait_of s.timeout) ∷ [])
 
 abbrev pub jobs_code : Here → ℕ → List Started → List Instr
 jobs_code here pc [] = []
@@ -305,7 +317,8 @@ code_if pc (Some e) code =
 
 -- an argument of DO, in a line that stands here
 abbrev pub call_code : Here → Called → ℕ → List Instr
-call_code here c pc = actuals_code pc c.actuals ++ instr.Do (entry_of here c.target) (shape_of c.actuals) ∷ []
+call_code here c pc =
+    actuals_code pc (as_actuals c.actuals) ++ instr.Do (entry_of here c.target) (shape_of (as_actuals c.actuals)) ∷ []
 
 abbrev pub calls_code : Here → ℕ → List Called → List Instr
 calls_code here pc [] = []
@@ -327,10 +340,13 @@ jumps_code here pc (j ∷ list) =
     let one = code_if pc j.condition (jump_code here j) in
     one ++ jumps_code here (pc + length one) list
 
--- QUIT of the frame, or of the FOR that is closed at this instruction
-abbrev pub quit_code : Option ℕ → List Instr
-quit_code None = instr.Quit ∷ []
-quit_code (Some close) = instr.Jump close ∷ []
+-- QUIT of the frame, or of the FOR that is closed at an instruction. With a value it looks whether the frame is a function's before the value; in a
+-- FOR it may have none
+abbrev pub quit_code : ℕ → Option ℕ → Option Expr → List Instr
+quit_code pc None None = instr.Quit ∷ []
+quit_code pc (Some close) None = instr.Jump close ∷ []
+quit_code pc None (Some e) = instr.CheckFunction ∷ (expr_code (pc + 1) e ++ instr.GiveValue ∷ [])
+quit_code pc (Some close) (Some e) = instr.FailQuit ∷ []
 
 -- the conditions of an IF, behind which stands the rest of the line, each with a test that leads to the end of the whole
 abbrev pub ifs_code : ℕ → List Expr → (ℕ → List Instr) → List Instr
@@ -430,7 +446,7 @@ command_code here pc out (For v rs) = []
 command_code here pc out Forever = []
 command_code here pc out (Do list) = do_code here pc list
 command_code here pc out (Goto list) = jumps_code here pc list
-command_code here pc out Quit = quit_code out
+command_code here pc out (Quit value) = quit_code pc out value
 command_code here pc out (New list) = new_all_code list
 command_code here pc out (TStart a) = transaction_code a
 command_code here pc out TCommit = commit_code
@@ -464,7 +480,7 @@ obey_code here pc out (For v rs) c rest = for_code pc v rs rest
 obey_code here pc out Forever c rest = instr.ForForever ∷ body_code (pc + 1) rest
 obey_code here pc out (Do list) c rest = and_then here pc out c (Do list) rest
 obey_code here pc out (Goto list) c rest = and_then here pc out c (Goto list) rest
-obey_code here pc out Quit c rest = and_then here pc out c Quit rest
+obey_code here pc out (Quit value) c rest = and_then here pc out c (Quit value) rest
 obey_code here pc out (New list) c rest = and_then here pc out c (New list) rest
 obey_code here pc out (TStart a) c rest = and_then here pc out c (TStart a) rest
 obey_code here pc out TCommit c rest = and_then here pc out c TCommit rest

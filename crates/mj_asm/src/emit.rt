@@ -6,14 +6,15 @@ ghost use Rattle.mj_ast.specs.Trees.{expr_of, variable_of, assignment_of, killed
 ghost use Rattle.mj_ast.specs.Trees.{restartable_of, command_of, step_of, line_of, routine_of};
 ghost use Rattle.mj_asm.specs.Code.{assignment_code, assignments_code, names_code, kill_code, kills_code, kill_all_code, merge_code, merges_code, code_if};
 ghost use Rattle.mj_asm.specs.Code.{command_code, steps_code, if_code, ifs_code, else_code, for_code, body_code, range_code, ranges_code, do_code, call_code};
-ghost use Rattle.mj_asm.specs.Code.{jumps_code, jump_code, new_all_code, set_piece_code, listed_of, restores_of, begin_code, transaction_code, line_code};
+ghost use Rattle.mj_asm.specs.Code.{jumps_code, jump_code, quit_code, new_all_code, set_piece_code, listed_of, restores_of, begin_code, transaction_code};
+ghost use Rattle.mj_asm.specs.Code.{line_code};
 ghost use Rattle.mj_semantics.specs.Transactions as transactions;
 ghost use Rattle.mj_asm.specs.Sites.{here_of};
 ghost use Rattle.mj_asm.specs.Correct.{with_labels, IsUnitOf};
 
 use crate::devices::{emit_closes, emit_inputs, emit_opens, emit_outputs, emit_uses};
-use crate::entries::{emit_actuals, entry_of};
-use crate::expr::{aim, change, emit_expr, emit_subscripts, put, reference};
+use crate::entries::entry_of;
+use crate::expr::{aim, change, emit_actuals, emit_expr, emit_subscripts, put, reference};
 use crate::sharing::{emit_hangs, emit_jobs, emit_lock_all};
 use crate::site::Site;
 use crate::targets::{emit_name, emit_one, emit_several};
@@ -308,10 +309,7 @@ fn emit_command(
         Command::Merge(list) => emit_merges(code, list),
         Command::Do(list) => emit_do(site, code, list),
         Command::Goto(list) => emit_jumps(site, code, list),
-        Command::Quit => match close {
-            None => put(code, Instr::Quit),
-            Some(close) => put(code, Instr::Jump(close)),
-        },
+        Command::Quit(value) => emit_quit(code, close, value),
         Command::New(list) => emit_new_all(site.alloc, code, list),
         Command::TStart(argument) => emit_transaction(site.alloc, code, argument),
         Command::TCommit => emit_again(code, Instr::Commit),
@@ -319,6 +317,30 @@ fn emit_command(
         Command::TRollback => put(code, Instr::RollBack),
         Command::Break => put(code, Instr::Discard(0)),
         Command::If(_) | Command::Else | Command::For(_, _) | Command::Forever => Ok(()),
+    }
+}
+
+// The end of the frame, or of the FOR that is closed at an instruction. With a value it ends a function's frame, and may be in no FOR.
+fn emit_quit(
+    code: &mut Vec<Instr>,
+    close: Option<usize>,
+    value: &Option<Expr>,
+) -> Result<(), AllocError>
+    ensures { OnOk result (code.new.items ≡ code.old.items ++ quit_code (length code.old.items) close (option_map expr_of value.now)) }
+{
+    match value {
+        None => match close {
+            None => put(code, Instr::Quit),
+            Some(close) => put(code, Instr::Jump(close)),
+        },
+        Some(value) => match close {
+            None => {
+                put(code, Instr::CheckFunction)?;
+                emit_expr(code, value)?;
+                put(code, Instr::GiveValue)
+            }
+            Some(_) => put(code, Instr::FailQuit),
+        },
     }
 }
 
@@ -356,7 +378,7 @@ fn emit_called(site: Site, code: &mut Vec<Instr>, called: &Called) -> Result<(),
 fn emit_call(site: Site, code: &mut Vec<Instr>, called: &Called) -> Result<(), AllocError>
     ensures { OnOk result (code.new.items ≡ code.old.items ++ call_code (here_of site.entry) (called_of called.now) (length code.old.items)) }
 {
-    let shape = emit_actuals(site.alloc, code, &called.actuals)?;
+    let shape = emit_actuals(code, &called.actuals)?;
     let entry = entry_of(site, &called.target)?;
     put(code, Instr::Do(entry, shape))
 }

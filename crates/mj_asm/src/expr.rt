@@ -1,12 +1,13 @@
 // The instructions of expressions.
 
-ghost use Rattle.std.specs.Prelude.{◌≡◌, ◌<◌, [], ◌∷◌, ◌++◌, length, slice_set, IfOk, OnOk};
-ghost use Rattle.mj_ast.specs.Trees.{operand_of, expr_of, variable_of, choice_of, tails_of, exprs_of};
-ghost use Rattle.mj_asm.specs.Code.{operand_code, expr_code, tails_code, exprs_code, subscripts_code, choices_code, others_code};
+ghost use Rattle.std.specs.Prelude.{◌≡◌, ◌<◌, [], ◌∷◌, ◌++◌, length, map, slice_set, IfOk, IfSome, IfNone, OnOk};
+ghost use Rattle.mj_ast.specs.Trees.{operand_of, expr_of, variable_of, choice_of, tails_of, exprs_of, option_of};
+ghost use Rattle.mj_ast.specs.Syntax.{as_actuals};
+ghost use Rattle.mj_asm.specs.Code.{operand_code, expr_code, tails_code, exprs_code, subscripts_code, choices_code, others_code, actuals_code, shape_of};
 ghost use Rattle.mj_asm.specs.Code as code_spec;
 
-use mj_ast::{Choice, Expr, Operand, Tail, Variable};
-use mj_pcode::{Instr, Reference};
+use mj_ast::{Actual, Choice, Expr, Operand, Tail, Target, Variable};
+use mj_pcode::{Instr, Reference, Shape};
 use std::alloc::AllocError;
 use std::mem::replace;
 
@@ -100,6 +101,12 @@ fn emit_operand(code: &mut Vec<Instr>, operand: &Operand) -> Result<(), AllocErr
             put(code, Instr::CallNameFunction(*function, name, count))
         }
         Operand::Select(choice) => emit_choice(code, choice),
+        Operand::Extrinsic(target, actuals) => {
+            let written = emit_actuals(code, actuals)?;
+            let passed = plain(written);
+            let begins = copied(target)?;
+            put(code, Instr::Invoke(begins, passed))
+        }
     }
 }
 
@@ -148,6 +155,67 @@ pub fn emit_all(code: &mut Vec<Instr>, expressions: &[Expr]) -> Result<(), Alloc
         emit_expr(code, expression)?;
     }
     Ok(())
+}
+
+/// Actuals, of which the values of those that are given come onto the stack in order.
+#[cycle(emit)]
+pub fn emit_actuals(code: &mut Vec<Instr>, actuals: &[Actual]) -> Result<Shape, AllocError>
+    ensures code { OnOk result (code.new.items ≡ code.old.items ++ actuals_code (length code.old.items) (as_actuals (map option_of actuals.now))) }
+    ensures shape { IfOk result (λ shape. shape ≡ shape_of (as_actuals (map option_of actuals.now))) }
+{
+    let mut shape = Shape::new(*code.allocator());
+    for actual in actuals {
+        match actual {
+            Actual::Given(value) => {
+                shape.push(true)?;
+                emit_expr(code, value)?;
+            }
+            Actual::Omitted => shape.push(false)?,
+        }
+    }
+    Ok(shape)
+}
+
+// Parentheses with nothing in them are one actual that is left out, and pass none.
+#[tactic(auto, using(crate::proofs::Actuals::plain_many))]
+fn plain(shape: Shape) -> Shape
+    ensures { result ≡ code_spec.plain_shape shape }
+{
+    let Some(given) = only(shape.as_slice()) else {
+        return shape;
+    };
+    if given {
+        return shape;
+    }
+    let mut none = shape;
+    none.clear();
+    none
+}
+
+// Whether the one actual is given, where there is one alone.
+fn only(given: &[bool]) -> Option<bool>
+    ensures one { IfSome result (λ b. given.now ≡ b ∷ []) }
+    ensures other { IfNone result (length given.now ≡ 1 → ⊥) }
+{
+    match given {
+        [only] => Some(*only),
+        _ => None,
+    }
+}
+
+// Where a function begins, once more.
+fn copied(target: &Target) -> Result<Target, AllocError>
+    ensures { IfOk result (λ t. t ≡ target.now) }
+{
+    let label = match &target.label {
+        None => None,
+        Some(label) => Some(label.try_clone()?),
+    };
+    let routine = match &target.routine {
+        None => None,
+        Some(routine) => Some(routine.try_clone()?),
+    };
+    Ok(Target { label, routine })
 }
 
 /// A variable whose subscripts lie on the stack.

@@ -7,8 +7,8 @@ ghost use Rattle.mj_asm.specs.Code.{timeout_code, wait_of, hang_code, hangs_code
 ghost use Rattle.mj_asm.specs.Code.{lock_code, locks_code, lock_all_code};
 ghost use Rattle.mj_asm.specs.Sites.{here_of};
 
-use crate::entries::{emit_actuals, entry_of};
-use crate::expr::{emit_expr, put, reference};
+use crate::entries::entry_of;
+use crate::expr::{emit_actuals, emit_expr, put, reference};
 use crate::site::Site;
 use crate::targets::emit_name;
 use mj_ast::{Expr, LockMode, LockNames, Locked, Started, Variable};
@@ -61,7 +61,7 @@ pub fn emit_jobs(site: Site, code: &mut Vec<Instr>, list: &[Started]) -> Result<
 fn emit_start(site: Site, code: &mut Vec<Instr>, started: &Started) -> Result<(), AllocError>
     ensures { OnOk result (code.new.items ≡ code.old.items ++ start_code (here_of site.entry) (length code.old.items) (started_of started.now)) }
 {
-    let shape = emit_actuals(site.alloc, code, &started.actuals)?;
+    let shape = emit_actuals(code, &started.actuals)?;
     let wait = emit_timeout(code, &started.timeout)?;
     let entry = entry_of(site, &started.target)?;
     put(code, Instr::StartJob(entry, shape, wait))

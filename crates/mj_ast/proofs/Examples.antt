@@ -4,7 +4,7 @@ use Rattle.std.specs.Fmt.{digits}
 use Rattle.std.specs.List.{IsDistinct}
 use Rattle.mj_oper.specs.declared.op.TruthOp.TheVariants.{Equal, SortsAfter, Or}
 use Rattle.mj_ast.specs.declared.sign.Sign.TheVariants.{Plus, Star, Caret, Colon, Equals, CloseBracket, CloseBrackets, Exclamation, Apostrophe, Negated, Question, NegatedQuestion, Open, Close, Comma}
-use Rattle.mj_ast.specs.Tokens.{Word, Called, Special, Digits, Quoted, Signed, Blank, Comment, Unclosed, Stray, lexemes, tokens, column}
+use Rattle.mj_ast.specs.Tokens.{Word, Called, Special, Invoked, Numbered, Dollars, Digits, Quoted, Signed, Blank, Comment, Unclosed, Stray, lexemes, tokens, column}
 use Rattle.mj_ast.specs.declared.keyword.Keyword.TheVariants as keyword
 use Rattle.mj_ast.specs.declared.keyword.Verb.TheVariants.{Of, HaltOrHang}
 use Rattle.mj_ast.specs.declared.routine.LockMode.TheVariants.{Whole, Plus as Added, Minus as Taken}
@@ -52,9 +52,14 @@ dollars : tokens (codes "$L(X)$l (") ≡ Called (codes "L") ∷ Signed Open ∷ 
 unfolding lexemes
 dollars = refl
 
-lone_dollars : tokens (codes "$5$$") ≡ Stray 36 ∷ Digits (codes "5") ∷ Stray 36 ∷ Stray 36 ∷ []
+lone_dollars : tokens (codes "$5$") ≡ Stray 36 ∷ Digits (codes "5") ∷ Stray 36 ∷ []
 unfolding lexemes
 lone_dollars = refl
+
+-- `$$` and a label are one token
+two_dollars : tokens (codes "$$A1(X)$$^R$$01$$$L") ≡ Invoked (codes "A1") ∷ Signed Open ∷ Word (codes "X") ∷ Signed Close ∷ Dollars ∷ Signed Caret ∷ Word (codes "R") ∷ Numbered (codes "01") ∷ Dollars ∷ Special (codes "L") ∷ []
+unfolding lexemes
+two_dollars = refl
 
 strays : tokens (codes "**$!(") ≡ Signed Star ∷ Signed Star ∷ Stray 36 ∷ Signed Exclamation ∷ Signed Open ∷ []
 unfolding lexemes

@@ -6,7 +6,7 @@ use Rattle.mj_ast.specs.declared.routine.FormatMark.TheVariants.{NewLine}
 use Rattle.mj_ast.specs.declared.keyword.Keyword.TheVariants as keyword
 use Rattle.mj_ast.specs.declared.keyword.Verb.TheVariants.{Of}
 use Rattle.mj_ast.specs.Syntax.{Chain, Done, Literal, Shown, Format, Write, Prompted, Arranged, Read}
-use Rattle.mj_ast.specs.Tokens.{Token, Word, Called, Special, Digits, Quoted, Signed, Stray, lexemes, tokens}
+use Rattle.mj_ast.specs.Tokens.{Token, Word, Called, Special, Invoked, Digits, Quoted, Signed, Stray, lexemes, tokens}
 use Rattle.mj_ast.specs.LeftOut.{StandsFor, MayStand}
 
 wrong : false ≡ true → ⊥
@@ -98,11 +98,19 @@ variable = refl
 no_variable : StandsFor construct.Variable (tokens (codes " W ")) (Special (codes "x")) [] → ⊥
 no_variable h = wrong h
 
-extrinsic : StandsFor construct.Extrinsic (tokens (codes " W ")) (Stray 36) (Special (codes "A") ∷ [])
-extrinsic = refl
+-- digits are digits as the label of a function too, and `$$` has a `$`
+label_exponent : StandsFor construct.Exponent (tokens (codes " W $$1")) (Word (codes "E5")) []
+unfolding lexemes
+label_exponent = refl
 
-no_extrinsic : StandsFor construct.Extrinsic (tokens (codes " W ")) (Stray 36) (Digits (codes "5") ∷ []) → ⊥
-no_extrinsic h = wrong h
+structured_function : StandsFor construct.Structured (tokens (codes " W ^")) (Invoked (codes "A")) []
+unfolding lexemes
+structured_function = refl
+
+-- a name is wanted behind `$$`
+indirect_function : StandsFor construct.Indirection (tokens (codes " W $$")) (Stray 64) (Word (codes "X") ∷ [])
+unfolding lexemes
+indirect_function = (refl, inl refl)
 
 -- ---- rows that look at what may stand there too: the token alone isn't it
 

@@ -12,7 +12,8 @@
 --   KILL        nothing, or a variable or names in parentheses with commas between them, and more behind commas
 --   MERGE       variable "=" variable, and more behind commas
 --   IF          nothing, or an expression, and more behind commas
---   ELSE, QUIT  no arguments
+--   ELSE        no arguments
+--   QUIT        nothing, or an expression
 --   FOR         nothing, or a local "=" range, and more ranges behind commas
 --   DO          nothing, or an entry with actuals, if there are some, and [":" expression], and more behind commas
 --   JOB         an entry with actuals, if there are some, and [":" ":" expression], and more behind commas
@@ -125,7 +126,7 @@ keyword_for (For v ranges) = keyword.For
 keyword_for Forever = keyword.For
 keyword_for (Do arguments) = keyword.Do
 keyword_for (Goto arguments) = keyword.Goto
-keyword_for Quit = keyword.Quit
+keyword_for (Quit value) = keyword.Quit
 keyword_for (New arguments) = keyword.New
 keyword_for (OpenDevice arguments) = keyword.Open
 keyword_for (UseDevice arguments) = keyword.Use
@@ -313,6 +314,11 @@ abbrev pub restartable_parts : Option Restartable → List Part
 restartable_parts None = []
 restartable_parts (Some r) = restored_parts r.restored ++ serial_parts r.serial
 
+-- the value that a QUIT gives, if it gives one
+abbrev pub result_parts : Option Expr → List Part
+result_parts None = []
+result_parts (Some e) = Text 0 e ∷ []
+
 abbrev pub command_parts : Command → List Part
 command_parts (Set list) = with_commas assignment_parts list
 command_parts (Write list) = with_commas output_parts list
@@ -328,7 +334,7 @@ command_parts (For v list) = Control v ∷ Put Equals ∷ with_commas range_part
 command_parts Forever = []
 command_parts (Do list) = with_commas called_parts list
 command_parts (Goto list) = with_commas jumped_parts list
-command_parts Quit = []
+command_parts (Quit value) = result_parts value
 command_parts (New list) = with_commas renewed_parts list
 command_parts (OpenDevice list) = with_commas opened_parts list
 command_parts (UseDevice list) = with_commas value_parts list
@@ -437,7 +443,7 @@ is_formed (For v list) = is_local v && has_items list
 is_formed Forever = true
 is_formed (Do list) = every is_called list
 is_formed (Goto list) = has_items list && every is_jumped list
-is_formed Quit = true
+is_formed (Quit value) = true
 is_formed (New list) = every is_renewed list
 is_formed (OpenDevice list) = has_items list
 is_formed (UseDevice list) = has_items list

@@ -5,6 +5,10 @@
 --              | "$" word "(" expression {"," expression} ")"
 --              | "$" word "(" variable ["," expression] ")"
 --              | "$SELECT" "(" expression ":" expression {"," expression ":" expression} ")"
+--              | "$$" entry [actuals]
+--   entry      = label | label "^" name | "^" name
+--   label      = name | digits
+--   actuals    = "(" [[expression] {"," [expression]}] ")"
 --   variable   = ["^"] name ["(" expression {"," expression} ")"]
 --
 -- The variable of `$ORDER` has subscripts.
@@ -32,8 +36,8 @@ use Rattle.mj_ast.specs.declared.function.Special as special
 use Rattle.mj_ast.specs.declared.function.Special.TheVariants as specials
 use Rattle.mj_ast.specs.declared.function.Callee.{Callee}
 use Rattle.mj_ast.specs.declared.function.Callee.TheVariants as callee
-use Rattle.mj_ast.specs.Syntax.{Expr, Chain, Tails, Done, Then, Operand, Literal, Value, Intrinsic, Unary, Group, Call, About, Select, Variable, Var, Exprs, No, More, Choices, Last, Before}
-use Rattle.mj_ast.specs.Tokens.{Token, Word, Called, Special, Digits, Quoted, Signed}
+use Rattle.mj_ast.specs.Syntax.{Expr, Chain, Tails, Done, Then, Operand, Literal, Value, Intrinsic, Unary, Group, Call, About, Select, Extrinsic, Variable, Var, Exprs, No, More, Choices, Last, Before, Target, Actuals, NoActual, Given, Omitted}
+use Rattle.mj_ast.specs.Tokens.{Token, Word, Called, Special, Invoked, Numbered, Dollars, Digits, Quoted, Signed}
 use Rattle.mj_ast.specs.declared.limits.TheConstants.{DEPTH_LIMIT}
 
 -- ---- functions
@@ -128,13 +132,14 @@ levels callee.Select = 1
 
 -- ---- what a token is to an expression
 
--- A symbol of the grammar: a constant with its value, a special variable, a name, a function with a `(` behind it, a word
--- that is too long for one, a sign, or what stands in no expression.
+-- A symbol of the grammar: a constant with its value, a special variable, a name, a function with a `(` behind it, `$$` and the label of
+-- an entry, if one stands there, a word that is too long for one, a sign, or what stands in no expression.
 pub data Symbol : Type 0 where
   Constant : (value : List ℕ) → Symbol
   Inherent : (v : special.Special) → Symbol
   Name : (word : List ℕ) → Symbol
   Applied : (callee : Callee) → Symbol
+  Entry : (label : Option (List ℕ)) → Symbol
   Overlong : Symbol
   Mark : (sign : Sign) → Symbol
   Other : Symbol
@@ -171,6 +176,9 @@ abbrev pub symbol : Token → Symbol
 symbol (Word w) = if nat_le (length w) name_limit then Name w else Overlong
 symbol (Called w) = if nat_le (length w) name_limit then function_symbol (callee_of w) else Overlong
 symbol (Special w) = if nat_le (length w) name_limit then special_symbol (special_of w) else Overlong
+symbol (Invoked w) = if nat_le (length w) name_limit then Entry (Some w) else Overlong
+symbol (Numbered ds) = if nat_le (length ds) TEXT_LIMIT then Entry (Some ds) else Other
+symbol Dollars = Entry None
 symbol (Digits ds) = constant_of (reading ds)
 symbol (Quoted value) = if nat_le (length value) TEXT_LIMIT then Constant value else Other
 symbol (Signed s) = Mark s
@@ -217,6 +225,11 @@ abbrev pub scoped : Scope → List Symbol → List Symbol
 scoped Local ks = ks
 scoped Global ks = Mark Caret ∷ ks
 
+-- the routine of an entry, if it names one
+abbrev pub routine_symbols : Option (List ℕ) → List Symbol
+routine_symbols None = []
+routine_symbols (Some word) = Mark Caret ∷ Name word ∷ []
+
 abbrev mutual
   -- an operand, and then operators with theirs
   pub expr_symbols : Expr → List Symbol
@@ -226,8 +239,8 @@ abbrev mutual
   tails_symbols Done = []
   tails_symbols (Then op operand rest) = Mark (binary_sign op) ∷ (operand_symbols operand ++ tails_symbols rest)
 
-  -- a constant, a variable, a special variable, an operator before an operand, an expression in parentheses, or a function with its arguments, of
-  -- which the first may be a variable
+  -- a constant, a variable, a special variable, an operator before an operand, an expression in parentheses, a function with its arguments, of
+  -- which the first may be a variable, or the entry of one that is written in M with its actuals
   pub operand_symbols : Operand → List Symbol
   operand_symbols (Literal value) = Constant value ∷ []
   operand_symbols (Value v) = variable_symbols v
@@ -237,6 +250,7 @@ abbrev mutual
   operand_symbols (Call f arguments) = Applied (callee.Texts f) ∷ list_symbols arguments
   operand_symbols (About f v others) = Applied (callee.Names f) ∷ Mark Open ∷ (variable_symbols v ++ more_symbols others)
   operand_symbols (Select choices) = Applied callee.Select ∷ Mark Open ∷ choices_symbols choices
+  operand_symbols (Extrinsic t actuals) = Entry t.label ∷ (routine_symbols t.routine ++ actuals_symbols actuals)
 
   -- a name, and its subscripts
   pub variable_symbols : Variable → List Symbol
@@ -256,6 +270,18 @@ abbrev mutual
   pub choices_symbols : Choices → List Symbol
   choices_symbols (Last c e) = expr_symbols c ++ Mark Colon ∷ (expr_symbols e ++ Mark Close ∷ [])
   choices_symbols (Before c e others) = expr_symbols c ++ Mark Colon ∷ (expr_symbols e ++ Mark Comma ∷ choices_symbols others)
+
+  -- no actuals are no parentheses either
+  pub actuals_symbols : Actuals → List Symbol
+  actuals_symbols NoActual = []
+  actuals_symbols (Given e rest) = Mark Open ∷ (expr_symbols e ++ further_symbols rest)
+  actuals_symbols (Omitted rest) = Mark Open ∷ further_symbols rest
+
+  -- what stands behind an actual
+  pub further_symbols : Actuals → List Symbol
+  further_symbols NoActual = Mark Close ∷ []
+  further_symbols (Given e rest) = Mark Comma ∷ (expr_symbols e ++ further_symbols rest)
+  further_symbols (Omitted rest) = Mark Comma ∷ further_symbols rest
 
 -- ---- limits
 
@@ -287,6 +313,7 @@ abbrev mutual
   operand_nesting (Call f arguments) = list_nesting arguments
   operand_nesting (About f v others) = max (variable_nesting v) (exprs_nesting others) + 1
   operand_nesting (Select choices) = choices_nesting choices + 1
+  operand_nesting (Extrinsic t actuals) = actuals_nesting actuals
 
   pub variable_nesting : Variable → ℕ
   variable_nesting (Var scope word subscripts) = list_nesting subscripts
@@ -302,6 +329,16 @@ abbrev mutual
   pub choices_nesting : Choices → ℕ
   choices_nesting (Last c e) = max (expr_nesting c) (expr_nesting e)
   choices_nesting (Before c e others) = max (max (expr_nesting c) (expr_nesting e)) (choices_nesting others)
+
+  pub actuals_nesting : Actuals → ℕ
+  actuals_nesting NoActual = 0
+  actuals_nesting (Given e rest) = max (expr_nesting e) (further_nesting rest) + 1
+  actuals_nesting (Omitted rest) = further_nesting rest + 1
+
+  pub further_nesting : Actuals → ℕ
+  further_nesting NoActual = 0
+  further_nesting (Given e rest) = max (expr_nesting e) (further_nesting rest)
+  further_nesting (Omitted rest) = further_nesting rest
 
 -- the length of the longest list of subscripts
 abbrev mutual
@@ -321,6 +358,7 @@ abbrev mutual
   operand_width (Call f arguments) = exprs_width arguments
   operand_width (About f v others) = max (variable_width v) (exprs_width others)
   operand_width (Select choices) = choices_width choices
+  operand_width (Extrinsic t actuals) = actuals_width actuals
 
   pub variable_width : Variable → ℕ
   variable_width (Var scope word subscripts) = max (count subscripts) (exprs_width subscripts)
@@ -333,8 +371,18 @@ abbrev mutual
   choices_width (Last c e) = max (expr_width c) (expr_width e)
   choices_width (Before c e others) = max (max (expr_width c) (expr_width e)) (choices_width others)
 
+  pub actuals_width : Actuals → ℕ
+  actuals_width NoActual = 0
+  actuals_width (Given e rest) = max (expr_width e) (actuals_width rest)
+  actuals_width (Omitted rest) = actuals_width rest
+
+-- an entry names a label, a routine or both: whether it lacks all
+abbrev pub entry_misfits : Option (List ℕ) → Option (List ℕ) → ℕ
+entry_misfits None None = 1
+entry_misfits label routine = 0
+
 -- How far the numbers of arguments, and of the subscripts of variables that are such, are from what the functions take: by how
--- many there are too few or too many, in all.
+-- many there are too few or too many, in all. An entry of nothing counts too.
 abbrev mutual
   pub expr_misfits : Expr → ℕ
   expr_misfits (Chain first rest) = operand_misfits first + tails_misfits rest
@@ -353,6 +401,7 @@ abbrev mutual
   operand_misfits (About f v others) =
       (least_subscripts f - subscript_count v) + (count others - most_others f) + variable_misfits v + exprs_misfits others
   operand_misfits (Select choices) = choices_misfits choices
+  operand_misfits (Extrinsic t actuals) = entry_misfits t.label t.routine + actuals_misfits actuals
 
   pub variable_misfits : Variable → ℕ
   variable_misfits (Var scope word subscripts) = exprs_misfits subscripts
@@ -364,6 +413,11 @@ abbrev mutual
   pub choices_misfits : Choices → ℕ
   choices_misfits (Last c e) = expr_misfits c + expr_misfits e
   choices_misfits (Before c e others) = expr_misfits c + expr_misfits e + choices_misfits others
+
+  pub actuals_misfits : Actuals → ℕ
+  actuals_misfits NoActual = 0
+  actuals_misfits (Given e rest) = expr_misfits e + actuals_misfits rest
+  actuals_misfits (Omitted rest) = actuals_misfits rest
 
 -- ---- the statements
 

@@ -26,7 +26,6 @@
 --   function          a `$` word with a `(` behind it that is no function's
 --   variable          any other `$` word that is no variable's
 --   command           a word that is no command's where a command may begin
---   extrinsic         `$$`; before all others, what may begin an expression, or an indirection, as an argument of QUIT
 --
 -- The first row that fits is the one that is given. A row without a place holds wherever the line can't go on.
 --
@@ -44,7 +43,7 @@ use Rattle.mj_ast.specs.declared.keyword.Keyword.{Keyword}
 use Rattle.mj_ast.specs.declared.keyword.Keyword.TheVariants as keyword
 use Rattle.mj_ast.specs.declared.keyword.Verb.{Verb}
 use Rattle.mj_ast.specs.Syntax.{Line, LineCommand}
-use Rattle.mj_ast.specs.Tokens.{Token, Word, Called, Special, Digits, Quoted, Signed, Blank, Stray, tokens}
+use Rattle.mj_ast.specs.Tokens.{Token, Word, Called, Special, Invoked, Numbered, Dollars, Digits, Quoted, Signed, Blank, Stray, tokens}
 use Rattle.mj_ast.specs.Expressions.{callee_of, is_named}
 use Rattle.mj_ast.specs.Commands.{capital, verb_of, keyword_for}
 use Rattle.mj_ast.specs.Lines.{SpellsLine, BeginsLine, IsStuckAt}
@@ -77,7 +76,6 @@ name_of construct.OrderNames = codes "order names"
 name_of construct.Function = codes "function"
 name_of construct.Variable = codes "variable"
 name_of construct.Command = codes "command"
-name_of construct.Extrinsic = codes "extrinsic"
 
 -- ---- tokens
 
@@ -95,15 +93,32 @@ is_bar t = is_stray 124 t
 abbrev pub is_dollar : Token → Bool
 is_dollar t = is_stray 36 t
 
+-- `$$`, with or without a label behind it
+abbrev pub has_dollars : Token → Bool
+has_dollars (Invoked w) = true
+has_dollars (Numbered d) = true
+has_dollars Dollars = true
+has_dollars t = false
+
 -- a `$`, with or without a word behind it
 abbrev pub has_dollar : Token → Bool
 has_dollar (Special w) = true
 has_dollar (Called w) = true
-has_dollar t = is_dollar t
+has_dollar t = has_dollars t || is_dollar t
+
+-- `$$` without a label
+abbrev pub is_dollars : Token → Bool
+is_dollars Dollars = true
+is_dollars t = false
 
 abbrev pub is_digits : Token → Bool
 is_digits (Digits d) = true
 is_digits t = false
+
+-- digits, which may be the label of a function
+abbrev pub ends_digits : Token → Bool
+ends_digits (Numbered d) = true
+ends_digits t = is_digits t
 
 abbrev pub is_word : Token → Bool
 is_word (Word w) = true
@@ -192,9 +207,13 @@ is_open_or_comma t = is_open t || is_comma t
 abbrev pub is_in_formals : List Token → Bool
 is_in_formals front = has_no_blank front && ends_in is_open_or_comma front
 
+-- a name is wanted as a formal, or behind `$$`, where a word would have made one token with it
+abbrev pub wants_name : List Token → Bool
+wants_name front = is_in_formals front || ends_in is_dollars front
+
 -- a name may begin: as a label, a variable, an argument, in an entry or in a list; `A` is the word of no command
 abbrev pub MayBeginName : List Token → Type 0
-MayBeginName front = (is_in_formals front ≡ true) ⊎ MayStand front (Word (codes "A"))
+MayBeginName front = (wants_name front ≡ true) ⊎ MayStand front (Word (codes "A"))
 
 -- an operand may begin: only there `$TEST` may stand
 abbrev pub MayBeginOperand : List Token → Type 0
@@ -338,10 +357,6 @@ abbrev pub is_no_function : Token → Bool
 is_no_function (Called w) = not (has_callee (callee_of w))
 is_no_function t = false
 
--- `$$`
-abbrev pub is_two_dollars : Token → List Token → Bool
-is_two_dollars t behind = is_dollar t && starts has_dollar behind
-
 -- `?` or `'?`
 abbrev pub is_match : Token → Bool
 is_match t = is_question t || is_negated_question t
@@ -414,35 +429,14 @@ IsBehindSerial front =
 abbrev pub MayBeginRestartable : List Token → Type 0
 MayBeginRestartable front = IsBehindCommand keyword.TStart front × MayStand front (Signed Star)
 
--- ---- an argument of QUIT
-
--- the token may begin an expression or an indirection
-abbrev pub begins_argument : Token → List Token → Bool
-begins_argument (Word w) behind = true
-begins_argument (Special w) behind = true
-begins_argument (Called w) behind = true
-begins_argument (Digits d) behind = true
-begins_argument (Quoted content) behind = true
-begins_argument (Signed Open) behind = true
-begins_argument (Signed Caret) behind = true
-begins_argument (Signed Plus) behind = true
-begins_argument (Signed Minus) behind = true
-begins_argument (Signed Apostrophe) behind = true
-begins_argument (Signed Dot) behind = starts is_digits behind
-begins_argument (Stray b) behind = b == 64 || (b == 36 && starts has_dollar behind)
-begins_argument t behind = false
-
-abbrev pub IsQuitArgument : List Token → Token → List Token → Type 0
-IsQuitArgument front t behind = (begins_argument t behind ≡ true) × IsBehindCommand keyword.Quit front
-
 -- ---- the table
 
 -- the token stands for the construct there, by its row of the table
 abbrev pub StandsFor : Construct → List Token → Token → List Token → Type 0
 StandsFor construct.Indirection front t behind = (is_at t ≡ true) × MayBeginName front
 StandsFor construct.Fraction front t behind =
-    (is_dot t ≡ true) × ((ends_in is_digits front ≡ true) ⊎ ((starts is_digits behind ≡ true) × MayBeginOperand front))
-StandsFor construct.Exponent front t behind = (is_exponent t && ends_in is_digits front) ≡ true
+    (is_dot t ≡ true) × ((ends_in ends_digits front ≡ true) ⊎ ((starts is_digits behind ≡ true) × MayBeginOperand front))
+StandsFor construct.Exponent front t behind = (is_exponent t && ends_in ends_digits front) ≡ true
 StandsFor construct.Power front t behind = (is_star t && ends_in is_star front) ≡ true
 StandsFor construct.Pattern front t behind = (is_match t ≡ true) × MayBeOperator front
 StandsFor construct.Naked front t behind = (is_open t && ends_in is_caret front) ≡ true
@@ -465,7 +459,6 @@ StandsFor construct.OrderNames front t behind = ((is_close t || is_comma t) && i
 StandsFor construct.Function front t behind = is_no_function t ≡ true
 StandsFor construct.Variable front t behind = is_no_variable t ≡ true
 StandsFor construct.Command front t behind = (is_unknown t ≡ true) × MayBeginCommand front
-StandsFor construct.Extrinsic front t behind = is_two_dollars t behind ≡ true
 
 -- the rows in their order
 abbrev pub rows : List Construct
@@ -474,18 +467,16 @@ rows =
     ∷ construct.Environment ∷ construct.Structured ∷ construct.ByReference ∷ construct.EntryOffset ∷ construct.ReadLength
     ∷ construct.DeviceParameters ∷ construct.ProcessParameters ∷ construct.MnemonicSpace ∷ construct.TransactionId ∷ construct.BareSerial
     ∷ construct.SetExtract ∷ construct.JustifyDecimals ∷ construct.QueryBackward ∷ construct.NameDepth ∷ construct.OrderNames
-    ∷ construct.Function ∷ construct.Variable ∷ construct.Command ∷ construct.Extrinsic ∷ []
+    ∷ construct.Function ∷ construct.Variable ∷ construct.Command ∷ []
 
 -- the first of the rows that fits there, if one does
 abbrev pub IsFirstOf : List Construct → List Token → Token → List Token → Option Construct → Type 0
 IsFirstOf [] front t behind c = c ≡ None
 IsFirstOf (r ∷ rs) front t behind c = (StandsFor r front t behind × (c ≡ Some r)) ⊎ ((StandsFor r front t behind → ⊥) × IsFirstOf rs front t behind c)
 
--- The construct that the token stands for, if it does: an argument of QUIT comes before the rows. There is one answer.
+-- the construct that the token stands for, if it does
 abbrev pub IsNamed : List Token → Token → List Token → Option Construct → Type 0
-IsNamed front t behind c =
-    (IsQuitArgument front t behind × (c ≡ Some construct.Extrinsic))
-    ⊎ ((IsQuitArgument front t behind → ⊥) × IsFirstOf rows front t behind c)
+IsNamed front t behind c = IsFirstOf rows front t behind c
 
 -- at the line's end nothing stands
 abbrev pub IsNamedIn : List Token → List Token → Option Construct → Type 0

@@ -12,9 +12,9 @@
 -- without come two blanks or more and another command, one blank or more and a comment, or the line's end.
 use Rattle.std.specs.Prelude.{◌≡◌, ◌⊎◌, ℕ, zero, suc, ◌+◌, ◌≤◌, ◌<◌, List, [], ◌∷◌, ◌++◌, length, take, map, replicate, Contains, Option, Some, None, bytes_eq}
 use Rattle.std.specs.List.{IsDistinct}
-use Rattle.mj_ast.specs.declared.sign.Sign.TheVariants.{Comma, Open, Close, Dot}
+use Rattle.mj_ast.specs.declared.sign.Sign.TheVariants.{Caret, Comma, Open, Close, Dot}
 use Rattle.mj_ast.specs.Syntax.{LineCommand, Line}
-use Rattle.mj_ast.specs.Tokens.{Token, Word, Called, Special, Digits, Signed, Blank, Comment, tokens, column}
+use Rattle.mj_ast.specs.Tokens.{Token, Word, Called, Special, Invoked, Digits, Signed, Blank, Comment, tokens, column}
 use Rattle.mj_ast.specs.Expressions.{name_limit, depth_limit, width_limit}
 use Rattle.mj_ast.specs.Commands.{SpellsStep, plain_step, command_parts, gap_of, comment_gap_of, greatest, step_nesting, step_width}
 use Rattle.mj_ast.specs.declared.limits.TheConstants.{LINE_LIMIT}
@@ -138,11 +138,12 @@ pub record IsDeep (ks : List Token) (k : ℕ) : Type 0 where
   pub at : BeginsLine (take (k + 1) ks)
   pub beyond : (width : ℕ) → BeginsLineWithin depth_limit width (take (k + 1) ks) → ⊥
 
--- one token that can be an operand, or none
+-- one token that can be an operand, or none, or what makes an operand of `$$`
 pub data Filler : List Token → Type 0 where
   no_filler : Filler []
   digits_filler : Filler (Digits (48 ∷ []) ∷ [])
   word_filler : Filler (Word (65 ∷ []) ∷ [])
+  entry_filler : Filler (Signed Caret ∷ Word (65 ∷ []) ∷ [])
 
 -- With a comma behind them the tokens begin a line, but none whose lists of subscripts are short enough: it is a list's 31st
 -- comma. It is that too where an operand is still missing before it.
@@ -157,6 +158,7 @@ abbrev pub IsOverlong : List Token → Token → Type 0
 IsOverlong before (Word w) = name_limit < length w
 IsOverlong before (Called w) = name_limit < length w
 IsOverlong before (Special w) = name_limit < length w
+IsOverlong before (Invoked w) = name_limit < length w
 IsOverlong before (Signed Comma) = IsLastComma before
 IsOverlong before _ = ⊥
 

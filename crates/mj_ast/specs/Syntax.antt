@@ -1,5 +1,5 @@
 -- Routines as trees, without where they lie in memory. A text is the list of its bytes.
-use Rattle.std.specs.Prelude.{ℕ, List, Option}
+use Rattle.std.specs.Prelude.{ℕ, List, [], ◌∷◌, Option, Some, None}
 use Rattle.mj_ast.specs.declared.expr.Scope.{Scope}
 use Rattle.mj_ast.specs.declared.function.Function.{Function}
 use Rattle.mj_ast.specs.declared.function.NameFunction.{NameFunction}
@@ -10,6 +10,11 @@ use Rattle.mj_ast.specs.declared.routine.FormatMark.{FormatMark}
 use Rattle.mj_ast.specs.declared.routine.LockMode.{LockMode}
 use Rattle.mj_ast.specs.declared.routine.ReadMode.{ReadMode}
 use Rattle.mj_ast.specs.declared.routine.Serial.{Serial}
+
+-- where control may go: a label, in this routine where none is named, or the first line of a routine
+pub record Target : Type 0 where
+  pub label : Option (List ℕ)
+  pub routine : Option (List ℕ)
 
 mutual
   -- an operand, and then operators with theirs, which are applied from left to right
@@ -23,7 +28,8 @@ mutual
 
   -- what stands between binary operators: a quoted text, or the canonic text of the number that digits read; the
   -- value of a variable, or of a special variable; an operator and its operand; an expression in parentheses; a function and its arguments;
-  -- a function of a variable, and what stands behind that; `$SELECT` and its choices
+  -- a function of a variable, and what stands behind that; `$SELECT` and its choices; a function that is written in M: where it begins, and its
+  -- actuals
   pub data Operand : Type 0 where
     Literal : (value : List ℕ) → Operand
     Value : (v : Variable) → Operand
@@ -33,6 +39,7 @@ mutual
     Call : (f : Function) (arguments : Exprs) → Operand
     About : (f : NameFunction) (v : Variable) (others : Exprs) → Operand
     Select : (choices : Choices) → Operand
+    Extrinsic : (target : Target) (actuals : Actuals) → Operand
 
   -- a local or a global, with its subscripts
   pub data Variable : Type 0 where
@@ -47,6 +54,18 @@ mutual
   pub data Choices : Type 0 where
     Last : (condition value : Expr) → Choices
     Before : (condition value : Expr) (others : Choices) → Choices
+
+  -- actuals, in order, of which some may be left out. Parentheses with nothing in them are written as one that is left out
+  pub data Actuals : Type 0 where
+    NoActual : Actuals
+    Given : (e : Expr) (rest : Actuals) → Actuals
+    Omitted : (rest : Actuals) → Actuals
+
+-- actuals that are kept in a list
+abbrev pub as_actuals : List (Option Expr) → Actuals
+as_actuals [] = NoActual
+as_actuals (None ∷ es) = Omitted (as_actuals es)
+as_actuals (Some e ∷ es) = Given e (as_actuals es)
 
 -- what a value is assigned to: the value of a variable, or pieces of it, with a separator and perhaps the place of the first
 -- piece and of the last
@@ -101,11 +120,6 @@ pub data Input : Type 0 where
 pub record Opened : Type 0 where
   pub device : Expr
   pub timeout : Option Expr
-
--- where control may go: a label, in this routine where none is named, or the first line of a routine
-pub record Target : Type 0 where
-  pub label : Option (List ℕ)
-  pub routine : Option (List ℕ)
 
 -- an argument of DO: where to, the actuals, of which some may be left out, and its postcondition
 pub record Called : Type 0 where
@@ -174,7 +188,7 @@ pub data Command : Type 0 where
   Forever : Command
   Do : (arguments : List Called) → Command
   Goto : (arguments : List Jumped) → Command
-  Quit : Command
+  Quit : (value : Option Expr) → Command
   New : (arguments : List Renewed) → Command
   OpenDevice : (arguments : List Opened) → Command
   UseDevice : (arguments : List Expr) → Command

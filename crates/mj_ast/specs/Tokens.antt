@@ -45,6 +45,12 @@ pub data Token : Type 0 where
   Called : (word : List ℕ) → Token
   -- `$` and a word, with anything else behind it
   Special : (word : List ℕ) → Token
+  -- `$$` and a word
+  Invoked : (word : List ℕ) → Token
+  -- `$$` and digits, as they were spelled
+  Numbered : (digits : List ℕ) → Token
+  -- `$$` with neither behind it
+  Dollars : Token
   -- digits, as they were spelled
   Digits : (bytes : List ℕ) → Token
   -- a quoted text, by its content
@@ -158,6 +164,9 @@ abbrev pub IsSpelledBy : Token → List ℕ → Type 0
 IsSpelledBy (Word w) bytes = (bytes ≡ w) × IsWord w
 IsSpelledBy (Called w) bytes = (bytes ≡ 36 ∷ w) × IsWord w
 IsSpelledBy (Special w) bytes = (bytes ≡ 36 ∷ w) × IsWord w
+IsSpelledBy (Invoked w) bytes = (bytes ≡ 36 ∷ 36 ∷ w) × IsWord w
+IsSpelledBy (Numbered d) bytes = (bytes ≡ 36 ∷ 36 ∷ d) × AreDigits d
+IsSpelledBy Dollars bytes = bytes ≡ 36 ∷ 36 ∷ []
 IsSpelledBy (Digits d) bytes = (bytes ≡ d) × AreDigits d
 IsSpelledBy (Quoted content) bytes = bytes ≡ 34 ∷ (doubled content ++ 34 ∷ [])
 IsSpelledBy (Signed s) bytes = bytes ≡ sign_bytes s
@@ -258,12 +267,24 @@ longest_sign s bs = (s, 0)
 abbrev pub dollar_word : List ℕ → List ℕ → Token
 dollar_word w rest = if opens rest then Called w else Special w
 
+-- the token of `$$`, by the bytes behind it, and how many of them it takes
+abbrev pub dollars_front : List ℕ → Token × ℕ
+dollars_front [] = (Dollars, 0)
+dollars_front (b ∷ bs) =
+    let w = take_while continues_word bs in
+    let d = take_while is_digit bs in
+    if begins_word b then (Invoked (b ∷ w), 1 + length w)
+    else if is_digit b then (Numbered (b ∷ d), 1 + length d)
+    else (Dollars, 0)
+
 -- the token of a `$`, by the bytes behind it, and how many of them it takes
 abbrev pub dollar_front : List ℕ → Token × ℕ
 dollar_front [] = (Stray 36, 0)
 dollar_front (b ∷ bs) =
     let w = take_while continues_word bs in
-    if begins_word b then (dollar_word (b ∷ w) (drop (length w) bs), 1 + length w) else (Stray 36, 0)
+    if begins_word b then (dollar_word (b ∷ w) (drop (length w) bs), 1 + length w)
+    else if b == 36 then ((dollars_front bs).0, 1 + (dollars_front bs).1)
+    else (Stray 36, 0)
 
 -- the token at the front of a line, and how many bytes behind its first it takes
 abbrev pub front_of : Class → ℕ → List ℕ → Token × ℕ

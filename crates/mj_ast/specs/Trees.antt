@@ -1,10 +1,11 @@
 -- The trees that the program keeps, without where they lie in memory.
-use Rattle.std.specs.Prelude.{List, [], ◌∷◌, map, option_map}
+use Rattle.std.specs.Prelude.{List, [], ◌∷◌, Option, Some, None, map, option_map}
 use Rattle.mj_ast.specs.declared.expr.Expr as expr
 use Rattle.mj_ast.specs.declared.expr.Tail as tail
 use Rattle.mj_ast.specs.declared.expr.Operand as operand
 use Rattle.mj_ast.specs.declared.expr.Variable as variable
 use Rattle.mj_ast.specs.declared.expr.Choice as choice
+use Rattle.mj_ast.specs.declared.expr.Actual as actual
 use Rattle.mj_ast.specs.declared.routine.Destination as kept_destination
 use Rattle.mj_ast.specs.declared.routine.Destination.TheVariants as destination
 use Rattle.mj_ast.specs.declared.routine.Targets as kept_targets
@@ -39,7 +40,10 @@ use Rattle.mj_ast.specs.declared.routine.Command.TheVariants as command
 use Rattle.mj_ast.specs.declared.routine.LineCommand as step
 use Rattle.mj_ast.specs.declared.routine.Line as line
 use Rattle.mj_ast.specs.declared.routine.Routine as routine
-use Rattle.mj_ast.specs.Syntax.{Expr, Chain, Tails, Done, Then, Operand, Literal, Value, Unary, Group, Call, Select, Variable, Var, Exprs, No, More, Choices, Last, Before, Destination, Plain, Pieces, Targets, One, Several, Assignment, Killed, Gone, Spared, Merged, Layout, Output, Shown, Format, Coded, Received, Input, Prompted, Arranged, Into, Opened, Target, Called, Jumped, Started, LockNames, Lone, Together, Locked, Range, Single, Endless, UpTo, Renewed, Fresh, Kept, Restored, Alone, Listed, Everything, Restartable, Command, Set, Write, Halt, Hang, Job, Lock, Kill, Merge, If, Else, For, Forever, Do, Goto, Quit, New, OpenDevice, UseDevice, CloseDevice, Read, TStart, TCommit, TRestart, TRollback, Break, LineCommand, Line, Routine, About, Intrinsic}
+use Rattle.mj_ast.specs.Syntax.{Expr, Chain, Tails, Done, Then, Operand, Literal, Value, Unary, Group, Call, Select, Variable, Var, Exprs, No, More, Choices, Last, Before, Destination, Plain, Pieces, Targets, One, Several, Assignment, Killed, Gone, Spared, Merged, Layout, Output, Shown, Format, Coded, Received, Input, Prompted, Arranged, Into, Opened, Target, Called, Jumped, Started, LockNames, Lone, Together, Locked, Range, Single, Endless, UpTo, Renewed, Fresh, Kept, Restored, Alone, Listed, Everything, Restartable, Command, Set, Write, Halt, Hang, Job, Lock, Kill, Merge, If, Else, For, Forever, Do, Goto, Quit, New, OpenDevice, UseDevice, CloseDevice, Read, TStart, TCommit, TRestart, TRollback, Break, LineCommand, Line, Routine, About, Intrinsic, Extrinsic, Actuals, NoActual, Given, Omitted}
+
+abbrev pub target_of : target.Target → Target
+target_of t = record { label = t.label; routine = t.routine }
 
 abbrev mutual
   pub operand_of : operand.Operand → Operand
@@ -51,6 +55,7 @@ abbrev mutual
   operand_of (operand.Call' f shape row) = Call f (expr_row row)
   operand_of (operand.About' f v shape row) = About f (variable_of v) (expr_row row)
   operand_of (operand.Select' p choice) = Select (choice_of choice)
+  operand_of (operand.Extrinsic' t shape row) = Extrinsic (target_of t) (actual_row row)
 
   pub choice_of : choice.Choice → Choices
   choice_of (choice.Choice' condition value choice.None') = Last (expr_of condition) (expr_of value)
@@ -70,6 +75,14 @@ abbrev mutual
   expr_row variable.end_of-Expr = No
   expr_row (variable.more_of-Expr e rest) = More (expr_of e) (expr_row rest)
 
+  pub actual_row : {m : _} → operand.Row_of-Actual m → Actuals
+  actual_row operand.end_of-Actual = NoActual
+  actual_row (operand.more_of-Actual a rest) = actual_before a (actual_row rest)
+
+  pub actual_before : actual.Actual → Actuals → Actuals
+  actual_before (actual.Given e) rest = Given (expr_of e) rest
+  actual_before actual.Omitted rest = Omitted rest
+
 -- operators and operands that are kept in a list
 abbrev pub tails_of : List tail.Tail → Tails
 tails_of [] = Done
@@ -79,6 +92,16 @@ tails_of (t ∷ ts) = Then t.op (operand_of t.operand) (tails_of ts)
 abbrev pub exprs_of : List expr.Expr → Exprs
 exprs_of [] = No
 exprs_of (e ∷ es) = More (expr_of e) (exprs_of es)
+
+-- an actual, if it isn't left out
+abbrev pub option_of : actual.Actual → Option Expr
+option_of (actual.Given e) = Some (expr_of e)
+option_of actual.Omitted = None
+
+-- actuals that are kept in a list
+abbrev pub actuals_of : List actual.Actual → Actuals
+actuals_of [] = NoActual
+actuals_of (a ∷ list) = actual_before a (actuals_of list)
 
 abbrev pub destination_of : kept_destination.Destination → Destination
 destination_of (destination.Whole v) = Plain (variable_of v)
@@ -117,17 +140,14 @@ input_of (input.Into r) = Into (received_of r)
 abbrev pub opened_of : opened.Opened → Opened
 opened_of o = record { device = expr_of o.device; timeout = option_map expr_of o.timeout }
 
-abbrev pub target_of : target.Target → Target
-target_of t = record { label = t.label; routine = t.routine }
-
 abbrev pub called_of : called.Called → Called
-called_of c = record { target = target_of c.target; actuals = map (option_map expr_of) c.actuals.items; condition = option_map expr_of c.condition }
+called_of c = record { target = target_of c.target; actuals = map option_of c.actuals.items; condition = option_map expr_of c.condition }
 
 abbrev pub jumped_of : jumped.Jumped → Jumped
 jumped_of j = record { target = target_of j.target; condition = option_map expr_of j.condition }
 
 abbrev pub started_of : started.Started → Started
-started_of s = record { target = target_of s.target; actuals = map (option_map expr_of) s.actuals.items; timeout = option_map expr_of s.timeout }
+started_of s = record { target = target_of s.target; actuals = map option_of s.actuals.items; timeout = option_map expr_of s.timeout }
 
 abbrev pub lock_names_of : kept_names.LockNames → LockNames
 lock_names_of (names.One v) = Lone (variable_of v)
@@ -168,7 +188,7 @@ command_of (command.For x v) = For (variable_of x) (map range_of v.items)
 command_of command.Forever = Forever
 command_of (command.Do v) = Do (map called_of v.items)
 command_of (command.Goto v) = Goto (map jumped_of v.items)
-command_of command.Quit = Quit
+command_of (command.Quit value) = Quit (option_map expr_of value)
 command_of (command.New v) = New (map renewed_of v.items)
 command_of (command.Open v) = OpenDevice (map opened_of v.items)
 command_of (command.Use v) = UseDevice (map expr_of v.items)

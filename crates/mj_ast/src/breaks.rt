@@ -27,7 +27,7 @@ impl Command {
             | Command::Forever
             | Command::Do(_)
             | Command::Goto(_)
-            | Command::Quit
+            | Command::Quit(_)
             | Command::New(_)
             | Command::Open(_)
             | Command::Use(_)

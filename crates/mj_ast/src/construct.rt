@@ -55,8 +55,6 @@ pub enum Construct {
     Variable,
     /// a word that is no command's, where a command may begin
     Command,
-    /// `$$`, or an argument of QUIT
-    Extrinsic,
 }
 
 impl Construct {
@@ -91,7 +89,6 @@ impl Construct {
             Construct::Function => "function",
             Construct::Variable => "variable",
             Construct::Command => "command",
-            Construct::Extrinsic => "extrinsic",
         }
     }
 }

@@ -1,6 +1,7 @@
 // Expressions.
 
 use crate::function::{Function, NameFunction, Special};
+use crate::routine::Target;
 use mj_oper::{Op, UnaryOp};
 use mj_text::Text;
 
@@ -47,6 +48,16 @@ pub enum Operand {
     About(NameFunction, Variable, Vec<Expr>),
     /// `$SELECT` and its choices
     Select(Box<Choice>),
+    /// a function that is written in M: where it begins, and its actuals; parentheses with nothing in them are one that is left out
+    Extrinsic(Target, Vec<Actual>),
+}
+
+/// An actual, which may be left out.
+#[derive(Drop)]
+#[cycle(expr)]
+pub enum Actual {
+    Given(Expr),
+    Omitted,
 }
 
 /// A choice of `$SELECT`: a condition with the value that it leads to, and the choices behind it, if there are any.

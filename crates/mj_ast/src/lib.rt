@@ -14,7 +14,7 @@ mod routine;
 mod sign;
 
 pub use construct::Construct;
-pub use expr::{Choice, Expr, Operand, Scope, Tail, Variable};
+pub use expr::{Actual, Choice, Expr, Operand, Scope, Tail, Variable};
 pub use function::{Callee, Function, NameFunction, Special};
 pub use keyword::{Keyword, Verb};
 pub use limits::{DEPTH_LIMIT, LINE_LIMIT, ROUTINE_LIMIT};

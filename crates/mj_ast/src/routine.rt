@@ -1,6 +1,6 @@
 // Commands, lines and routines.
 
-use crate::expr::{Expr, Variable};
+use crate::expr::{Actual, Expr, Variable};
 use mj_text::Text;
 
 /// What a value is assigned to.
@@ -117,7 +117,7 @@ pub struct Target {
 #[derive(Drop)]
 pub struct Called {
     pub target: Target,
-    pub actuals: Vec<Option<Expr>>,
+    pub actuals: Vec<Actual>,
     pub condition: Option<Expr>,
 }
 
@@ -132,7 +132,7 @@ pub struct Jumped {
 #[derive(Drop)]
 pub struct Started {
     pub target: Target,
-    pub actuals: Vec<Option<Expr>>,
+    pub actuals: Vec<Actual>,
     pub timeout: Option<Expr>,
 }
 
@@ -235,7 +235,8 @@ pub enum Command {
     /// without arguments it is the block behind its line
     Do(Vec<Called>),
     Goto(Vec<Jumped>),
-    Quit,
+    /// with a value it ends a function
+    Quit(Option<Expr>),
     /// without arguments it is all locals
     New(Vec<Renewed>),
     Open(Vec<Opened>),

@@ -7,7 +7,7 @@ use Rattle.mj_ast.specs.declared.sign.Sign.{Sign}
 use Rattle.mj_ast.specs.declared.sign.Sign.TheVariants.{Comma}
 use Rattle.mj_ast.specs.declared.keyword.Verb.{Verb}
 use Rattle.mj_ast.specs.Syntax.{Expr, Variable}
-use Rattle.mj_ast.specs.Tokens.{Token, Word, Called, Special, Digits, Quoted, Signed, Blank, Comment, Unclosed, Stray}
+use Rattle.mj_ast.specs.Tokens.{Token, Word, Called, Special, Invoked, Numbered, Dollars, Digits, Quoted, Signed, Blank, Comment, Unclosed, Stray}
 use Rattle.mj_ast.specs.Expressions.{symbol, Phrases, callee_of}
 use Rattle.mj_ast.specs.Commands.{Part, Put, Named, PieceCall, Text, Place, verb_of, with_commas, behind_commas}
 use Rattle.mj_expr.specs.Machine.{Limits}
@@ -185,6 +185,9 @@ unrested r true (Signed s) ks g (inr h) = refl
 unrested r true (Quoted q) ks g (inr h) = refl
 unrested r true (Called w) ks g (inr h) = refl
 unrested r true (Special w) ks g (inr h) = refl
+unrested r true (Invoked w) ks g (inr h) = refl
+unrested r true (Numbered d) ks g (inr h) = refl
+unrested r true Dollars ks g (inr h) = refl
 unrested r true (Unclosed x) ks g (inr h) = refl
 unrested r true (Stray x) ks g (inr h) = refl
 
@@ -431,6 +434,9 @@ parted_same (Signed s ∷ ks) h = absurd h
 parted_same (Quoted q ∷ ks) h = absurd h
 parted_same (Called w ∷ ks) h = absurd h
 parted_same (Special w ∷ ks) h = absurd h
+parted_same (Invoked w ∷ ks) h = absurd h
+parted_same (Numbered d ∷ ks) h = absurd h
+parted_same (Dollars ∷ ks) h = absurd h
 parted_same (Unclosed t ∷ ks) h = absurd h
 parted_same (Stray b ∷ ks) h = absurd h
 

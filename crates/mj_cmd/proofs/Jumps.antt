@@ -11,7 +11,7 @@ use Rattle.mj_ast.specs.Commands.{Part, Put, Label, Prompt, with_commas, target_
 use Rattle.mj_expr.specs.Machine.{Limits}
 use Rattle.mj_lex.specs.declared.token.Lexeme.{Lexeme}
 use Rattle.mj_lex.specs.Seen.{tokens_seen}
-use Rattle.mj_line.specs.Forms.{Mode, Calls, Jumps, Starts, Node, ValueWanted, NewWanted, EntryWanted, LabelEnd, RoutineWanted, RoutineEnd, ActualWanted, ActualEnd, ActualsEnd, WaitColon, GuardWanted, GuardEnd, colon_at, part_of, part_at, sort_of, takes}
+use Rattle.mj_line.specs.Forms.{Mode, Calls, Jumps, Starts, Node, ValueWanted, NewWanted, EntryWanted, LabelEnd, RoutineWanted, RoutineEnd, ActualWanted, ActualEnd, ActualsEnd, WaitColon, GuardWanted, GuardEnd, colon_at, part_of, part_at, sort_of, takes, ResultWanted, ResultEnd}
 use Rattle.mj_line.specs.Sentences.{Sentence}
 use Rattle.mj_line.specs.Machine.{args_rest, first, on_rested}
 use Rattle.mj_line.proofs.Entries.{part_taken, called_apart}
@@ -23,6 +23,13 @@ use Rattle.mj_cmd.proofs.Follow.{Untaken, Went, went_as, went_token, SignUntaken
 -- IF, HANG, NEW and GOTO
 pub value_untaken : (first : Bool) (ks : List Token) → Untaken (ValueWanted first) ks
 value_untaken first ks = untaken_by (ValueWanted first) ks refl (λ w. refl) refl (no_sign (ValueWanted first) ks (λ s. refl))
+
+-- QUIT
+pub result_untaken : (ks : List Token) → Untaken ResultWanted ks
+result_untaken ks = untaken_by ResultWanted ks refl (λ w. refl) refl (no_sign ResultWanted ks (λ s. refl))
+
+pub result_end_untaken : (ks : List Token) → Untaken ResultEnd ks
+result_end_untaken ks = untaken_by ResultEnd ks refl (λ w. refl) refl (no_sign ResultEnd ks (λ s. refl))
 
 pub renewed_untaken : (first : Bool) (ks : List Token) → HasNoOpen ks → HasNoName ks → Untaken (NewWanted first) ks
 renewed_untaken first [] h i = tt

@@ -6,8 +6,8 @@ use Rattle.mj_num.specs.Number.{reading}
 use Rattle.mj_ast.specs.declared.sign.Sign.TheVariants.{Caret}
 use Rattle.mj_ast.specs.declared.function.Callee.{Callee}
 use Rattle.mj_ast.specs.declared.function.Special as special
-use Rattle.mj_ast.specs.Tokens.{Token, Word, Called, Special, Digits, Quoted, Signed}
-use Rattle.mj_ast.specs.Expressions.{symbol, Symbol, Constant, Name, Overlong, Other, constant_of, function_symbol, special_symbol, special_of, callee_of}
+use Rattle.mj_ast.specs.Tokens.{Token, Word, Called, Special, Invoked, Numbered, Digits, Quoted, Signed}
+use Rattle.mj_ast.specs.Expressions.{symbol, Symbol, Constant, Name, Entry, Overlong, Other, constant_of, function_symbol, special_symbol, special_of, callee_of}
 use Rattle.mj_line.specs.Forms.{Node, Want, AnExpr, AVar, ALocal}
 use Rattle.mj_line.specs.Machine.{may_want}
 use Rattle.mj_cmd.specs.Heads.{HasNoCaret}
@@ -37,12 +37,18 @@ quoted_may : (next : Node) (b : Bool) (q : List ℕ) → may_want (ALocal next) 
 quoted_may next true q = refl
 quoted_may next false q = refl
 
+entry_may : (next : Node) (b : Bool) (d : List ℕ) → may_want (ALocal next) (cond b (Entry (Some d)) Other) ≡ true
+entry_may next true d = refl
+entry_may next false d = refl
+
 local_may : (next : Node) (t : Token) (ks : List Token) → HasNoCaret (t ∷ ks) → may_want (ALocal next) (symbol t) ≡ true
 local_may next (Signed Caret) ks h = absurd h
 local_may next (Signed s) ks h = refl
 local_may next (Word w) ks h = short_may next (nat_le (length w) 31) (Name w) refl
 local_may next (Called w) ks h = short_may next (nat_le (length w) 31) (function_symbol (callee_of w)) (function_may next (callee_of w))
 local_may next (Special w) ks h = short_may next (nat_le (length w) 31) (special_symbol (special_of w)) (special_may next (special_of w))
+local_may next (Invoked w) ks h = short_may next (nat_le (length w) 31) (Entry (Some w)) refl
+local_may next (Numbered d) ks h = entry_may next (nat_le (length d) 32767) d
 local_may next (Digits d) ks h = number_may next (reading d)
 local_may next (Quoted q) ks h = quoted_may next (nat_le (length q) 32767) q
 local_may next t ks h = refl

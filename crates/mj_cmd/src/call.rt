@@ -2,7 +2,7 @@
 
 ghost use Rattle.std.specs.Prelude.{◌≡◌, ◌∷◌, ◌++◌, ◌≤◌, IfOk, Some, false, length, map, option_map, refl, true};
 ghost use Rattle.mj_ast.specs.Commands.{Put, actual_parts, plain_actuals as the_plain, wait_parts};
-ghost use Rattle.mj_ast.specs.Trees.{called_of, expr_of, started_of};
+ghost use Rattle.mj_ast.specs.Trees.{called_of, expr_of, option_of, started_of};
 ghost use Rattle.mj_ast.specs.declared.sign.Sign.TheVariants.{Close};
 ghost use Rattle.mj_line.specs.Forms.{ActualEnd, ActualWanted, Calls, EntryWanted, GuardEnd, Mode, Starts};
 ghost use Rattle.mj_cmd.specs.Heads.{HasOther, HasArgument};
@@ -14,7 +14,7 @@ use crate::control::{entry, guard};
 use crate::list::{Argument, Enclosed, Item, listed};
 use crate::parts::{behind_close, behind_colon, behind_comma, behind_open, stuck};
 use crate::phrase::Phrases;
-use mj_ast::{Called, Expr, Started};
+use mj_ast::{Actual, Called, Expr, Started};
 use mj_expr::ParseError;
 use mj_lex::Lexeme;
 use std::alloc::Global;
@@ -23,23 +23,23 @@ use std::alloc::Global;
 fn actual<'a, 't>(
     phrases: Phrases,
     tokens: &'t [Lexeme<'a>],
-) -> Result<(Option<Expr>, &'t [Lexeme<'a>]), ParseError>
+) -> Result<(Actual, &'t [Lexeme<'a>]), ParseError>
     ensures shorter { IfOk result (λ x. length x.1.now ≤ length tokens.now) }
-    ensures reads { PassesEach phrases.limited (λ x. actual_parts (option_map expr_of x.0)) (λ x. x.1.now) result tokens.now ActualWanted ActualEnd }
+    ensures reads { PassesEach phrases.limited (λ x. actual_parts (option_of x.0)) (λ x. x.1.now) result tokens.now ActualWanted ActualEnd }
 {
     match behind_comma(tokens) {
-        Some(_) => Ok((None, tokens)),
+        Some(_) => Ok((Actual::Omitted, tokens)),
         None => match behind_close(tokens) {
-            Some(_) => Ok((None, tokens)),
+            Some(_) => Ok((Actual::Omitted, tokens)),
             None => {
                 let (actual, rest) = phrases.expression(1, tokens)?;
-                Ok((Some(actual), rest))
+                Ok((Actual::Given(actual), rest))
             }
         },
     }
 }
 
-impl Item for Option<Expr> {
+impl Item for Actual {
     ghost lists = { Mode };
 
     ghost first_at = { ActualWanted };
@@ -50,19 +50,19 @@ impl Item for Option<Expr> {
 
     ghost begins = { λ _ _. Unit {0} };
 
-    ghost spells = { λ ps x. ps ≡ actual_parts (option_map expr_of x) };
+    ghost spells = { λ ps x. ps ≡ actual_parts (option_of x) };
 
     fn read<'a, 't>(
         phrases: Phrases,
         tokens: &'t [Lexeme<'a>],
-    ) -> Result<(Option<Expr>, &'t [Lexeme<'a>]), ParseError> {
+    ) -> Result<(Actual, &'t [Lexeme<'a>]), ParseError> {
         actual(phrases, tokens)
     }
 
     ghost comma = { λ _. refl };
 }
 
-impl Enclosed for Option<Expr> {
+impl Enclosed for Actual {
     ghost use Rattle.mj_cmd.specs.Lists.{actuals_unclosed};
 
     ghost closed_at = { actuals_closed };
@@ -73,11 +73,11 @@ impl Enclosed for Option<Expr> {
 }
 
 /// Gives the actuals that are meant: parentheses with nothing in them, which are written as one that is left out, have none.
-fn plain_actuals(alloc: Global, actuals: Vec<Option<Expr>>) -> Vec<Option<Expr>>
-    ensures { map (option_map expr_of) result.items ≡ the_plain (map (option_map expr_of) actuals.items) }
+fn plain_actuals(alloc: Global, actuals: Vec<Actual>) -> Vec<Actual>
+    ensures { map option_of result.items ≡ the_plain (map option_of actuals.items) }
 {
     let none = match actuals.as_slice() {
-        [None] => true,
+        [Actual::Omitted] => true,
         _ => false,
     };
     if none {
@@ -90,9 +90,9 @@ fn plain_actuals(alloc: Global, actuals: Vec<Option<Expr>>) -> Vec<Option<Expr>>
 fn passed<'a, 't>(
     phrases: Phrases,
     tokens: &'t [Lexeme<'a>],
-) -> Result<(Vec<Option<Expr>>, &'t [Lexeme<'a>]), ParseError>
+) -> Result<(Vec<Actual>, &'t [Lexeme<'a>]), ParseError>
     ensures shorter { IfOk result (λ x. length x.1.now ≤ length tokens.now) }
-    ensures reads { PassesActuals phrases.limited (λ x. map (option_map expr_of) x.0.items) (λ x. x.1.now) result tokens.now }
+    ensures reads { PassesActuals phrases.limited (λ x. map option_of x.0.items) (λ x. x.1.now) result tokens.now }
 {
     match behind_open(tokens) {
         None => Ok((Vec::new(phrases.alloc), tokens)),

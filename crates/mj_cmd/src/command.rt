@@ -12,6 +12,7 @@ ghost use Rattle.mj_cmd.specs.Heads.{HasOther, HasParted};
 ghost use Rattle.mj_cmd.specs.Reads.{IsMeant, IsWrittenStep, IsWrittenAfter};
 ghost use Rattle.mj_cmd.specs.Readers.{ReadsArguments, ReadsCondition, ReadsStep};
 
+use crate::control::given;
 use crate::list::arguments;
 use crate::parts::{behind_blank, behind_colon, parted, stuck};
 use crate::phrase::Phrases;
@@ -105,7 +106,7 @@ fn bare(alloc: Global, keyword: Keyword) -> Command
         Keyword::For => Command::Forever,
         Keyword::Do => Command::Do(Vec::new(alloc)),
         Keyword::Goto => Command::Goto(Vec::new(alloc)),
-        Keyword::Quit => Command::Quit,
+        Keyword::Quit => Command::Quit(None),
         Keyword::New => Command::New(Vec::new(alloc)),
         Keyword::Open => Command::Open(Vec::new(alloc)),
         Keyword::Use => Command::Use(Vec::new(alloc)),
@@ -203,9 +204,12 @@ fn with_own<'a, 't>(
             let (argument, rest) = restartable(phrases, behind)?;
             Ok((Command::TStart(Some(argument)), rest))
         }
+        Keyword::Quit => {
+            let (value, rest) = given(phrases, behind)?;
+            Ok((Command::Quit(Some(value)), rest))
+        }
         Keyword::Halt => Err(stuck(behind)),
         Keyword::Else => Err(stuck(behind)),
-        Keyword::Quit => Err(stuck(behind)),
         Keyword::TCommit => Err(stuck(behind)),
         Keyword::TRestart => Err(stuck(behind)),
         Keyword::TRollback => Err(stuck(behind)),

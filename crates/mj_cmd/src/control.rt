@@ -1,16 +1,18 @@
-// The arguments of IF, HANG, NEW and GOTO.
+// The arguments of IF, HANG, NEW and GOTO, and of QUIT.
 
-ghost use Rattle.std.specs.Prelude.{◌≡◌, ◌⊎◌, ◌∷◌, ◌++◌, ◌≤◌, Bool, IfOk, [], false, length, option_map, refl, true};
-ghost use Rattle.mj_ast.specs.Commands.{Named, value_parts, guard_parts, jumped_parts, renewed_parts, target_parts};
+ghost use Rattle.std.specs.Prelude.{◌≡◌, ◌⊎◌, ◌∷◌, ◌++◌, ◌≤◌, Bool, IfOk, Some, [], false, length, option_map, refl, true};
+ghost use Rattle.mj_ast.specs.Commands.{Named, value_parts, result_parts, guard_parts, jumped_parts, renewed_parts, target_parts};
 ghost use Rattle.mj_ast.specs.Trees.{expr_of, jumped_of, renewed_of, target_of};
-ghost use Rattle.mj_line.specs.Forms.{EntryWanted, GuardEnd, ValueEnd, ValueWanted, Jumps, NewEnd, NewWanted, RoutineEnd, RoutineWanted};
-ghost use Rattle.mj_cmd.specs.Heads.{HasOther, HasArgument};
-ghost use Rattle.mj_cmd.specs.Readers.{PassesEach, PassesEntry, PassesEverEach, PassesGuard, PassesWhere};
+ghost use Rattle.mj_line.specs.Forms.{EntryWanted, GuardEnd, ResultEnd, ResultWanted, ValueEnd, ValueWanted, Jumps, NewEnd, NewWanted};
+ghost use Rattle.mj_line.specs.Forms.{RoutineEnd, RoutineWanted};
+ghost use Rattle.mj_lex.specs.Seen.{tokens_seen};
+ghost use Rattle.mj_cmd.specs.Heads.{HasOther, HasArgument, HasParted};
+ghost use Rattle.mj_cmd.specs.Readers.{PassesEach, PassesEntry, PassesEverEach, PassesGuard, PassesIn, PassesWhere};
 
 use crate::kill::{names, word_text};
 use crate::list::{Argument, Item};
 use crate::parts::{
-    behind_caret, behind_colon, behind_entry_label, behind_name, behind_open, stuck,
+    behind_caret, behind_colon, behind_entry_label, behind_name, behind_open, parted, stuck,
 };
 use crate::phrase::Phrases;
 use mj_ast::{Expr, Jumped, Renewed, Target};
@@ -28,6 +30,26 @@ fn value<'a, 't>(
 {
     let (value, rest) = phrases.expression(0, tokens)?;
     Ok((value, rest))
+}
+
+/// Reads the value that a QUIT gives, up to where the command ends.
+pub fn given<'a, 't>(
+    phrases: Phrases,
+    tokens: &'t [Lexeme<'a>],
+) -> Result<(Expr, &'t [Lexeme<'a>]), ParseError>
+    requires { HasOther (tokens_seen tokens.now) }
+    ensures shorter { IfOk result (λ x. length x.1.now ≤ length tokens.now) }
+    ensures parted { IfOk result (λ x. HasParted (tokens_seen x.1.now)) }
+    ensures reads { PassesIn phrases.limited (λ x. result_parts (Some (expr_of x.0))) (λ x. x.1.now) result tokens.now ResultWanted ResultEnd }
+{
+    let (value, rest) = phrases.expression(0, tokens)?;
+    match parted(rest) {
+        Ok(rest) => Ok((value, rest)),
+        Err(stop) => {
+            drop(value); // for the proof
+            Err(stop)
+        }
+    }
 }
 
 impl Item for Expr {

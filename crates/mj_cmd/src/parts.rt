@@ -42,6 +42,7 @@ pub fn stuck(tokens: &[Lexeme]) -> ParseError
         Some((Token::Word(word), _)) => stuck_word(tokens, word),
         Some((Token::Called(word), _)) => stuck_word(tokens, word),
         Some((Token::Special(word), _)) => stuck_word(tokens, word),
+        Some((Token::Invoked(word), _)) => stuck_word(tokens, word),
         _ => ParseError::Stuck(tokens.len()),
     }
 }

@@ -1,8 +1,8 @@
 -- How a run ends.
-use Rattle.std.proofs.Common.{◌≡◌, ℕ, ◌≤◌, List, [], ◌∷◌, ◌++◌, length, refl, ap, sym, ◌∙◌, subst, append_assoc, append-nil, ◌⊎◌, inl, inr}
-use Rattle.mj_ast.specs.Syntax.{Chain, Var, No}
-use Rattle.mj_ast.specs.Expressions.{Symbol, Constant, Inherent, Name, Applied, Overlong, Mark, Other}
-use Rattle.mj_expr.specs.Machine.{Alone, InGroup, InList, InOther, InCondition, InChoice, State, Wanted, Sought, Marked, Named, Calling, Behind, Held, Got, placed, Limits, Next, Go, Stuck, Deep, Long, Whole, Target, Outcome, Accept, StuckAt, DeepAt, TooLong, refused, ends, finish, step, run, turn}
+use Rattle.std.proofs.Common.{◌≡◌, Some, None, ℕ, ◌≤◌, List, [], ◌∷◌, ◌++◌, length, refl, ap, sym, ◌∙◌, subst, append_assoc, append-nil, ◌⊎◌, inl, inr}
+use Rattle.mj_ast.specs.Syntax.{Chain, Extrinsic, Var, No, NoActual}
+use Rattle.mj_ast.specs.Expressions.{Symbol, Constant, Inherent, Name, Applied, Entry, Overlong, Mark, Other}
+use Rattle.mj_expr.specs.Machine.{Alone, InGroup, InList, InOther, InCondition, InChoice, InActuals, State, Wanted, Sought, Marked, Named, Entering, Routed, Calling, Behind, Held, Got, filled, placed, entry_at, Limits, Next, Go, Stuck, Deep, Long, Whole, Target, Outcome, Accept, StuckAt, DeepAt, TooLong, refused, ends, finish, step, run, turn}
 use Rattle.mj_expr.proofs.Zipper.{Kind}
 use Rattle.mj_expr.proofs.Room.{HasRead}
 use Rattle.mj_expr.proofs.Facts.{IsMore, deeper, Facts, LongFacts}
@@ -82,6 +82,7 @@ refused_deep (Constant v ∷ ks) n e = cc
 refused_deep (Inherent v ∷ ks) n e = cc
 refused_deep (Name w ∷ ks) n e = cc
 refused_deep (Applied f ∷ ks) n e = cc
+refused_deep (Entry l ∷ ks) n e = cc
 refused_deep (Mark s ∷ ks) n e = cc
 refused_deep (Other ∷ ks) n e = cc
 
@@ -96,6 +97,9 @@ ends_deep (Held x r (InList u es)) ks n e = refused_deep ks n e
 ends_deep (Held x r (InOther f v c)) ks n e = refused_deep ks n e
 ends_deep (Held x r (InCondition ps c)) ks n e = refused_deep ks n e
 ends_deep (Held x r (InChoice ps a c)) ks n e = refused_deep ks n e
+ends_deep (Held x r (InActuals t es c)) ks n e = refused_deep ks n e
+ends_deep (Entering label routine c) ks n e = refused_deep ks n e
+ends_deep (Routed label c) ks n e = refused_deep ks n e
 ends_deep (Calling f c) ks n e = refused_deep ks n e
 ends_deep (Behind f v c) ks n e = refused_deep ks n e
 ends_deep (Got v) ks n e = let f : Accept (Target v) ks ≡ DeepAt n = e in cc
@@ -105,6 +109,10 @@ finish_deep (Wanted c) ks n e = refused_deep ks n e
 finish_deep (Sought p) ks n e = refused_deep ks n e
 finish_deep (Marked p) ks n e = refused_deep ks n e
 finish_deep (Named scope word p) ks n e = ends_deep (placed (Var scope word No) p) ks n e
+finish_deep (Entering None None c) ks n e = refused_deep ks n e
+finish_deep (Entering (Some l) routine c) ks n e = ends_deep (filled (Extrinsic (entry_at (Some l) routine) NoActual) c) ks n e
+finish_deep (Entering None (Some r) c) ks n e = ends_deep (filled (Extrinsic (entry_at None (Some r)) NoActual) c) ks n e
+finish_deep (Routed label c) ks n e = refused_deep ks n e
 finish_deep (Calling f c) ks n e = refused_deep ks n e
 finish_deep (Behind f v c) ks n e = refused_deep ks n e
 finish_deep (Held x r o) ks n e = ends_deep (Held x r o) ks n e

@@ -10,14 +10,13 @@ use Rattle.mj_oper.specs.declared.op.Op.{Op}
 use Rattle.mj_ast.specs.declared.function.NameFunction.{NameFunction}
 use Rattle.mj_ast.specs.declared.function.Callee.{Callee}
 use Rattle.mj_ast.specs.declared.function.Callee.TheVariants as callee
-use Rattle.mj_ast.specs.Syntax.{Expr, Chain, Tails, Done, Operand, Literal, Intrinsic, Unary, Group, About, Select, Variable, Exprs, No, More, Last}
+use Rattle.mj_ast.specs.Syntax.{Expr, Chain, Tails, Done, Operand, Literal, Intrinsic, Unary, Group, About, Select, Extrinsic, Variable, Exprs, No, More, Last, Actuals, Target as EntryAt}
 use Rattle.mj_ast.specs.Tokens.{Token}
-use Rattle.mj_ast.specs.Expressions.{Symbol, Constant, Inherent, Name, Applied, Overlong, Mark, Other, symbol, unary_sign, binary_sign, expr_symbols, variable_symbols, count, subscript_count, least_subscripts, most_others, levels, levels_of}
+use Rattle.mj_ast.specs.Expressions.{Symbol, Constant, Inherent, Name, Applied, Entry, Overlong, Mark, Other, routine_symbols, symbol, unary_sign, binary_sign, expr_symbols, variable_symbols, count, subscript_count, least_subscripts, most_others, levels, levels_of}
 use Rattle.mj_ast.specs.Lines.{Filler, no_filler}
-use Rattle.mj_expr.specs.Machine.{Outer, Alone, InGroup, InList, InOther, InCondition, InChoice, Owner, Subscripts, Arguments, Within, Front, Right, Under, Place, AsOperand, AsNamed, AsTarget, Pairs, and_pair, before_choices, State, Wanted, Calling, Behind, Held, Limits, Next, Go, Stuck, Deep, Long, TooLong, refused_in, and_then, and_more, filled, closed, least_of, most_of, is_limited, outer_of, run, turn, step, depth_of, opens, opens_call, suffices, after_variable, unary_of, binary_of, hold_sign, hold_other, comma, close, is_full}
-use Rattle.mj_expr.specs.Reads.{BeginsNone}
+use Rattle.mj_expr.specs.Machine.{Outer, Alone, InGroup, InList, InOther, InCondition, InChoice, InActuals, Owner, Subscripts, Arguments, Within, Front, Right, Under, Place, AsOperand, AsNamed, AsTarget, Pairs, and_pair, before_choices, State, Wanted, Calling, Behind, Held, Limits, Next, Go, Stuck, Deep, Long, TooLong, refused_in, and_then, and_more, and_given, filled, closed, least_of, most_of, is_limited, outer_of, run, turn, step, depth_of, opens, opens_call, suffices, after_variable, unary_of, binary_of, hold_sign, hold_other, comma, close, is_full}
 use Rattle.mj_expr.proofs.Steps.{less_true, less_false, most_true}
-use Rattle.mj_expr.proofs.Zipper.{Kind, outer_before, owner_before, before, listed, listed-more, list_symbols-more, exprs_nesting-more, exprs_width-more, exprs_misfits-more, count-more, list_nesting-more, pairs_symbols, pairs_symbols-and, pairs_nesting-and, pairs_width-and, pairs_misfits-and, choices_symbols-before, choices_nesting-before, choices_width-before, choices_misfits-before}
+use Rattle.mj_expr.proofs.Zipper.{Kind, outer_before, owner_before, before, listed, listed-more, list_symbols-more, exprs_nesting-more, exprs_width-more, exprs_misfits-more, count-more, list_nesting-more, pairs_symbols, pairs_symbols-and, pairs_nesting-and, pairs_width-and, pairs_misfits-and, choices_symbols-before, choices_nesting-before, choices_width-before, choices_misfits-before, passed, passed-given, actuals_symbols-given, nesting-given, width-given, misfits-given}
 use Rattle.mj_expr.proofs.Room.{HasRead, Good, OuterGood, OwnerGood, PlaceGood, good_depth, filled_read, closed_read}
 
 -- ---- limits
@@ -68,6 +67,7 @@ mutual
     omega (arith, g.6, i.width),
     g.7,
   )
+  outer_good_more (InActuals t es c) K m l i g = (good_more c K m l i g.0, omega (arith, g.1, i.depth), omega (arith, g.2, i.depth), omega (arith, g.3, i.width), g.4, g.5)
 
   pub owner_good_more : (u : Owner) (K : Kind) (m l : Limits) → IsMore m l → OwnerGood K m u → OwnerGood K l u
   owner_good_more (Subscripts scope word p) K m l i g = place_good_more p K m l i g
@@ -240,6 +240,28 @@ choice_read K m ps a c x r ks h =
           ∙ same ∙ ap (λ (zs : List Symbol). zs ++ Mark Comma ∷ []) h.read;
     }
 
+-- another actual may come
+given_read : (K : Kind) (m : Limits) (t : EntryAt) (es : Actuals) (c : Within) (x : Operand) (r : Tails) (ks : List Symbol) →
+    HasRead K m (Held x r (InActuals t es c)) ks → HasRead K m (Wanted (Front (InActuals t (and_given es (Chain x r)) c))) (ks ++ Mark Comma ∷ [])
+given_read K m t es c x r ks h =
+    let e : Expr = Chain x r in
+    let same : before c ++ Entry t.label ∷ (routine_symbols t.routine ++ Mark Open ∷ (passed es ++ (expr_symbols e ++ Mark Comma ∷ [])))
+    ≡ ((before c ++ Entry t.label ∷ (routine_symbols t.routine ++ Mark Open ∷ passed es)) ++ expr_symbols e) ++ Mark Comma ∷ [] = simp append_assoc in
+    record {
+      good =
+          let g = h.good in (
+            g.0.0,
+            g.0.1,
+            omega (arith, (nesting-given es e).0, g.0.2, g.1),
+            omega (arith, width-given es e, g.0.3, g.2),
+            omega (arith, misfits-given es e, g.0.4, g.3),
+            g.0.5,
+          );
+      read =
+          ap (λ (zs : List Symbol). before c ++ Entry t.label ∷ (routine_symbols t.routine ++ Mark Open ∷ zs)) (passed-given es e)
+          ∙ same ∙ ap (λ (zs : List Symbol). zs ++ Mark Comma ∷ []) h.read;
+    }
+
 comma_facts : (K : Kind) (m : Limits) (x : Operand) (r : Tails) (o : Outer) →
     Facts K m (HasRead K m (Held x r o)) (HeldLong K m (HasRead K m (Held x r o)) (λ l. comma l (Chain x r) o) (Mark Comma)) (λ l. comma l (Chain x r) o) (Mark Comma) (comma m (Chain x r) o)
 comma_facts K m x r Alone = λ l i. refl
@@ -248,6 +270,7 @@ comma_facts K m x r (InList u es) = comma_as K m u es x r (nat_lt (count es + 1)
 comma_facts K m x r (InOther f v c) = λ l i. refl
 comma_facts K m x r (InCondition ps c) = λ l i. refl
 comma_facts K m x r (InChoice ps a c) = (choice_read K m ps a c x r, λ l i. refl)
+comma_facts K m x r (InActuals t es c) = (given_read K m t es c x r, λ l i. refl)
 
 -- the value of a condition is wanted
 colon_read : (K : Kind) (m : Limits) (ps : Pairs) (c : Within) (x : Operand) (r : Tails) (ks : List Symbol) →
@@ -314,6 +337,20 @@ choice_closed K m ps a c x r ks h =
     (omega (arith, choices_misfits-before ps (Last a e), g.0.4, g.0.7, g.3))
     (ap (λ (zs : List Symbol). before c ++ Applied callee.Select ∷ Mark Open ∷ zs) (choices_symbols-before ps (Last a e)) ∙ same ∙ ap (λ (zs : List Symbol). zs ++ Mark Close ∷ []) h.read)
 
+-- the end of a function that is written in M
+given_closed : (K : Kind) (m : Limits) (t : EntryAt) (es : Actuals) (c : Within) (x : Operand) (r : Tails) (ks : List Symbol) → HasRead K m (Held x r (InActuals t es c)) ks →
+    HasRead K m (filled (Extrinsic t (and_given es (Chain x r))) c) (ks ++ Mark Close ∷ [])
+given_closed K m t es c x r ks h =
+    let g = h.good in
+    let e : Expr = Chain x r in
+    let same : before c ++ Entry t.label ∷ (routine_symbols t.routine ++ Mark Open ∷ (passed es ++ (expr_symbols e ++ Mark Close ∷ [])))
+    ≡ ((before c ++ Entry t.label ∷ (routine_symbols t.routine ++ Mark Open ∷ passed es)) ++ expr_symbols e) ++ Mark Close ∷ [] = simp append_assoc in
+    filled_read c K m (Extrinsic t (and_given es e)) _ g.0.0
+    (omega (arith, (nesting-given es e).1, g.0.2, g.1))
+    (omega (arith, width-given es e, g.0.3, g.2))
+    (omega (arith, misfits-given es e, g.0.4, g.0.5, g.3))
+    (ap (λ (zs : List Symbol). before c ++ Entry t.label ∷ (routine_symbols t.routine ++ zs)) (actuals_symbols-given es e) ∙ same ∙ ap (λ (zs : List Symbol). zs ++ Mark Close ∷ []) h.read)
+
 abbrev HeldL : Kind → Limits → Operand → Tails → Outer → Sign → (Limits → Next) → Type 0
 HeldL K m x r o s at = HeldLong K m (HasRead K m (Held x r o)) at (Mark s)
 
@@ -325,12 +362,14 @@ other_facts K m x r (InList u es) Close = close_as K m u es x r (HeldL K m x r (
 other_facts K m x r (InOther f v c) Close = (other_closed K m f v c x r, λ l i. refl)
 other_facts K m x r (InCondition ps c) Close = λ l i. refl
 other_facts K m x r (InChoice ps a c) Close = (choice_closed K m ps a c x r, λ l i. refl)
+other_facts K m x r (InActuals t es c) Close = (given_closed K m t es c x r, λ l i. refl)
 other_facts K m x r Alone Colon = λ l i. refl
 other_facts K m x r (InGroup c) Colon = λ l i. refl
 other_facts K m x r (InList u es) Colon = λ l i. refl
 other_facts K m x r (InOther f v c) Colon = λ l i. refl
 other_facts K m x r (InCondition ps c) Colon = (colon_read K m ps c x r, λ l i. refl)
 other_facts K m x r (InChoice ps a c) Colon = λ l i. refl
+other_facts K m x r (InActuals t es c) Colon = λ l i. refl
 other_facts K m x r o Comma = comma_facts K m x r o
 other_facts K m x r o s = λ l i. refl
 
@@ -355,6 +394,7 @@ held_facts K m x r o (Constant value) = λ l i. refl
 held_facts K m x r o (Inherent value) = λ l i. refl
 held_facts K m x r o (Name word) = λ l i. refl
 held_facts K m x r o (Applied f) = λ l i. refl
+held_facts K m x r o (Entry l) = λ l i. refl
 held_facts K m x r o Overlong = λ l i. refl
 held_facts K m x r o Other = λ l i. refl
 
@@ -417,6 +457,7 @@ behind_facts K m R L f v c (Constant value) g = λ l i. refl
 behind_facts K m R L f v c (Inherent value) g = λ l i. refl
 behind_facts K m R L f v c (Name word) g = λ l i. refl
 behind_facts K m R L f v c (Applied h) g = λ l i. refl
+behind_facts K m R L f v c (Entry l) g = λ l i. refl
 behind_facts K m R L f v c Overlong g = λ l i. refl
 behind_facts K m R L f v c Other g = λ l i. refl
 
@@ -473,6 +514,7 @@ full_same m l (InList (Arguments f c) es) e = refl
 full_same m l (InOther f v c) e = refl
 full_same m l (InCondition ps c) e = refl
 full_same m l (InChoice ps a c) e = refl
+full_same m l (InActuals t es c) e = refl
 
 pub room_stays : (m l : Limits) (o : Outer) → is_full m o ≡ false → IsMore m l → is_full l o ≡ false
 room_stays m l Alone e i = refl
@@ -480,6 +522,7 @@ room_stays m l (InGroup c) e i = refl
 room_stays m l (InOther f v c) e i = refl
 room_stays m l (InCondition ps c) e i = refl
 room_stays m l (InChoice ps a c) e i = refl
+room_stays m l (InActuals t es c) e i = refl
 room_stays m l (InList (Arguments f c) es) e i = refl
 room_stays m l (InList (Subscripts scope word p) es) e i = room_as (count es + 1) m.width l.width (nat_lt (count es + 1) m.width) refl e i.width
   where
@@ -497,6 +540,7 @@ full_comma l y x r (InGroup c) e = absurd (let h : false ≡ true = e in cc)
 full_comma l y x r (InOther f v c) e = absurd (let h : false ≡ true = e in cc)
 full_comma l y x r (InCondition ps c) e = absurd (let h : false ≡ true = e in cc)
 full_comma l y x r (InChoice ps a c) e = absurd (let h : false ≡ true = e in cc)
+full_comma l y x r (InActuals t es c) e = absurd (let h : false ≡ true = e in cc)
 full_comma l y x r (InList (Arguments f c) es) e = absurd (let h : false ≡ true = e in cc)
 full_comma l y x r (InList (Subscripts scope word p) es) e = full_as (nat_lt (count es + 1) l.width) refl
   where
@@ -513,27 +557,7 @@ full_opened K m x r (InGroup c) e = absurd (let h : false ≡ true = e in cc)
 full_opened K m x r (InOther f v c) e = absurd (let h : false ≡ true = e in cc)
 full_opened K m x r (InCondition ps c) e = absurd (let h : false ≡ true = e in cc)
 full_opened K m x r (InChoice ps a c) e = absurd (let h : false ≡ true = e in cc)
+full_opened K m x r (InActuals t es c) e = absurd (let h : false ≡ true = e in cc)
 full_opened K m x r (InList (Arguments f c) es) e = absurd (let h : false ≡ true = e in cc)
 full_opened K m x r (InList (Subscripts scope word p) es) e =
     (Wanted (Front (InList (Subscripts scope word p) (and_more es (Chain x r)))), λ ks h. comma_read K m (wider m) (Subscripts scope word p) es x r ks (more_wider m) (omega (arith, h.good.0.4)) h)
-
--- where an operand is wanted, and none begins
-pub none_refuses : (m l : Limits) (c : Within) (k : Symbol) (ks : List Symbol) (full : Bool) → l.width ≡ m.width → is_full l (outer_of c) ≡ full →
-    BeginsNone k → run m (k ∷ ks) (Wanted c) ≡ refused_in full (k ∷ ks)
-none_refuses m l c (Constant v) ks full w e h = absurd h
-none_refuses m l c (Inherent v) ks full w e h = absurd h
-none_refuses m l c (Name v) ks full w e h = absurd h
-none_refuses m l c (Applied v) ks full w e h = absurd h
-none_refuses m l c Overlong ks full w e h = refl
-none_refuses m l c Other ks full w e h = refl
-none_refuses m l c (Mark Caret) ks full w e h = absurd h
-none_refuses m l c (Mark Open) ks full w e h = absurd h
-none_refuses m l c (Mark Comma) ks full w e h = ap (λ (b : Bool). turn m ks (Wanted c) (Mark Comma) (cond b Long Stuck)) (sym (full_same m l (outer_of c) w) ∙ e) ∙ stray_as full
-  where
-    stray_as : (b : Bool) → turn m ks (Wanted c) (Mark Comma) (cond b Long Stuck) ≡ refused_in b (Mark Comma ∷ ks)
-    stray_as true = refl
-    stray_as false = refl
-none_refuses m l c (Mark Plus) ks full w e h = absurd (none_some _ (sym h))
-none_refuses m l c (Mark Minus) ks full w e h = absurd (none_some _ (sym h))
-none_refuses m l c (Mark Apostrophe) ks full w e h = absurd (none_some _ (sym h))
-none_refuses m l c (Mark s) ks full w e h = refl

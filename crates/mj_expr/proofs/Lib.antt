@@ -4,10 +4,14 @@ pub mod Zipper
 pub mod Room
 pub mod Complete
 pub mod Facts
+pub mod Missing
+pub mod Entries
 pub mod States
 pub mod Ends
 pub mod Told
 pub mod Said
 pub mod Turns
+pub mod Commas
 pub mod Shapes
+pub mod Runs
 pub mod Examples

@@ -1,18 +1,21 @@
 -- The trees that the program makes, without where they lie in memory.
-use Rattle.std.proofs.Common.{◌≡◌, ℕ, List, [], ◌∷◌, ◌++◌, length, refl, sym, ap, ◌∙◌, Vec, Box, Global, Some, arith}
+use Rattle.std.proofs.Common.{◌≡◌, ℕ, List, [], ◌∷◌, ◌++◌, length, refl, sym, ap, ◌∙◌, Vec, Box, Global, Option, Some, None, arith}
 use mathlib.Core.Former.{Count}
 use Rattle.mj_ast.specs.declared.expr.Scope.{Scope}
 use Rattle.mj_ast.specs.declared.expr.Expr as expr
 use Rattle.mj_ast.specs.declared.expr.Tail.{Tail}
 use Rattle.mj_ast.specs.declared.expr.Operand as operand
+use Rattle.mj_ast.specs.declared.expr.Actual as actual
+use Rattle.mj_ast.specs.declared.routine.Target as target
 use Rattle.mj_ast.specs.declared.expr.Variable as variable
 use Rattle.mj_ast.specs.declared.expr.Variable.{out-Variable}
 use Rattle.mj_ast.specs.declared.expr.Choice as choice
 use Rattle.mj_ast.specs.declared.function.Function.{Function}
-use Rattle.mj_ast.specs.Syntax.{Chain, Tails, Then, Call, Var, Exprs, More, Before}
-use Rattle.mj_ast.specs.Trees.{operand_of, expr_of, variable_of, choice_of, tail_row, expr_row, tails_of, exprs_of}
+use Rattle.mj_ast.specs.Syntax.{Expr, Chain, Tails, Then, Call, Extrinsic, Var, Exprs, More, Before, Actuals, Given, Omitted}
+use Rattle.mj_ast.specs.Trees.{operand_of, expr_of, variable_of, choice_of, target_of, option_of, actual_before, tail_row, expr_row, actual_row, tails_of, exprs_of, actuals_of}
 use Rattle.mj_ast.specs.Expressions.{count, subscript_count}
 use Rattle.mj_expr.specs.Machine.{and_then, and_more}
+use Rattle.mj_expr.specs.Readers.{and_actual}
 
 abbrev tails_in : expr.Expr → (n : Count) × expr.Row_of-Tail n
 tails_in (expr.Expr' first shape row) = (_, row)
@@ -33,7 +36,7 @@ pub expr_made : (first : operand.Operand) (rest : Vec Tail Global) → expr_of (
 unfolding expr.roll-Expr denote.Hole.Carrier.roll
 expr_made first rest =
     let row = tails_in (expr.roll-Expr (record { first = first; rest = rest })) in
-    ap (λ (ts : Tails). Chain (operand_of first) ts) (tail_row_items row.0 row.1 ∙ ap tails_of (expr.items_hidden-the_row-Tail-1 rest))
+    ap (λ (ts : Tails). Chain (operand_of first) ts) (tail_row_items row.0 row.1 ∙ ap tails_of (expr.items_hidden-the_row-Tail-2 rest))
 
 -- a variable of its parts
 pub variable_made : (scope : Scope) (word : List ℕ) (es : Vec expr.Expr Global) →
@@ -44,12 +47,20 @@ variable_made scope word es =
     ap (λ (xs : Exprs). Var scope word xs) (expr_row_items row.0 row.1 ∙ ap exprs_of (variable.items_hidden-the_row-Expr-0 es))
 
 -- a call of its parts
-pub call_made : (f : Function) (es : Vec expr.Expr Global) → Call f (expr_row (operand.TheBlock.hidden-the_row-Expr-0 es)) ≡ Call f (exprs_of es.items)
-call_made f es = ap (Call f) (expr_row_items _ (operand.TheBlock.hidden-the_row-Expr-0 es) ∙ ap exprs_of (variable.items_hidden-the_row-Expr-0 es))
+pub call_made : (f : Function) (es : Vec expr.Expr Global) → Call f (expr_row (actual.TheBlock.hidden-the_row-Expr-0 es)) ≡ Call f (exprs_of es.items)
+call_made f es = ap (Call f) (expr_row_items _ (actual.TheBlock.hidden-the_row-Expr-0 es) ∙ ap exprs_of (variable.items_hidden-the_row-Expr-0 es))
+
+actual_row_items : (n : _) (row : operand.Row_of-Actual n) → actual_row row ≡ actuals_of (operand.items-the_row-Actual n row)
+actual_row_items n operand.end_of-Actual = refl
+actual_row_items n (operand.more_of-Actual a rest) = ap (actual_before a) (actual_row_items _ rest)
+
+-- a function that is written in M, of its parts
+pub extrinsic_made : (t : target.Target) (es : Vec actual.Actual Global) → operand_of (operand.Extrinsic t es) ≡ Extrinsic (target_of t) (actuals_of es.items)
+extrinsic_made t es = ap (Extrinsic (target_of t)) (actual_row_items _ (actual.TheBlock.hidden-the_row-Actual-1 es) ∙ ap actuals_of (operand.items_hidden-the_row-Actual-1 es))
 
 -- what stands behind the variable of a function
-pub others_made : (es : Vec expr.Expr Global) → expr_row (operand.TheBlock.hidden-the_row-Expr-0 es) ≡ exprs_of es.items
-others_made es = expr_row_items _ (operand.TheBlock.hidden-the_row-Expr-0 es) ∙ ap exprs_of (variable.items_hidden-the_row-Expr-0 es)
+pub others_made : (es : Vec expr.Expr Global) → expr_row (actual.TheBlock.hidden-the_row-Expr-0 es) ≡ exprs_of es.items
+others_made es = expr_row_items _ (actual.TheBlock.hidden-the_row-Expr-0 es) ∙ ap exprs_of (variable.items_hidden-the_row-Expr-0 es)
 
 -- a choice before others
 pub choice_made : (a e : expr.Expr) (others : Box choice.Choice Global) →
@@ -65,6 +76,20 @@ tails_push (u ∷ ts) t = ap (λ (r : Tails). Then u.op (operand_of u.operand) r
 pub exprs_push : (es : List expr.Expr) (e : expr.Expr) → exprs_of (es ++ e ∷ []) ≡ and_more (exprs_of es) (expr_of e)
 exprs_push [] e = refl
 exprs_push (f ∷ es) e = ap (λ (r : Exprs). More (expr_of f) r) (exprs_push es e)
+
+given_first : (e : Expr) (es : Actuals) (o : Option Expr) → Given e (and_actual es o) ≡ and_actual (Given e es) o
+given_first e es None = refl
+given_first e es (Some f) = refl
+
+omitted_first : (es : Actuals) (o : Option Expr) → Omitted (and_actual es o) ≡ and_actual (Omitted es) o
+omitted_first es None = refl
+omitted_first es (Some f) = refl
+
+pub actuals_push : (es : List actual.Actual) (a : actual.Actual) → actuals_of (es ++ a ∷ []) ≡ and_actual (actuals_of es) (option_of a)
+actuals_push [] (actual.Given e) = refl
+actuals_push [] actual.Omitted = refl
+actuals_push (actual.Given f ∷ es) a = ap (Given (expr_of f)) (actuals_push es a) ∙ given_first (expr_of f) (actuals_of es) (option_of a)
+actuals_push (actual.Omitted ∷ es) a = ap Omitted (actuals_push es a) ∙ omitted_first (actuals_of es) (option_of a)
 
 pub count_exprs : (es : List expr.Expr) → count (exprs_of es) ≡ length es
 count_exprs [] = refl

@@ -1,11 +1,11 @@
 -- What stands around a place, within the limits, and what a state has read.
-use Rattle.std.proofs.Common.{◌≡◌, ◌+◌, ◌-◌, ◌≤◌, max, List, [], ◌∷◌, ◌++◌, ap, sym, ◌∙◌, append_assoc, append-nil, arith}
+use Rattle.std.proofs.Common.{◌≡◌, ℕ, Option, ◌+◌, ◌-◌, ◌≤◌, max, List, [], ◌∷◌, ◌++◌, ap, sym, ◌∙◌, append_assoc, append-nil, arith}
 use Rattle.mj_ast.specs.declared.sign.Sign.TheVariants.{Caret}
 use Rattle.mj_ast.specs.declared.function.Callee.TheVariants as callee
-use Rattle.mj_ast.specs.Syntax.{Expr, Chain, Done, Operand, Value, Unary, Group, Call, About, Select, Variable, Var, Exprs, No, More, Last}
-use Rattle.mj_ast.specs.Expressions.{Symbol, Name, Applied, Mark, scoped, unary_sign, expr_symbols, operand_symbols, variable_symbols, list_symbols, count, subscript_count, least_subscripts, most_others, levels, expr_nesting, operand_nesting, variable_nesting, list_nesting, exprs_nesting, expr_width, operand_width, variable_width, exprs_width, expr_misfits, operand_misfits, variable_misfits, exprs_misfits}
-use Rattle.mj_expr.specs.Machine.{Outer, Alone, InGroup, InList, InOther, InCondition, InChoice, Owner, Subscripts, Arguments, Within, Front, Right, Under, Place, AsOperand, AsNamed, AsTarget, before_choices, State, Wanted, Sought, Marked, Named, Calling, Behind, Held, Got, Limits, Phrase, Whole, Target, and_then, and_more, filled, placed, closed, outer_depth, owner_depth, depth_of, place_depth, least_of, most_of}
-use Rattle.mj_expr.proofs.Zipper.{AnExpression, AVariable, tails_symbols-then, joined, scoped-append, tails_nesting-then, tails_width-then, exprs_nesting-more, exprs_width-more, count-more, tails_misfits-then, exprs_misfits-more, exprs_nesting-joined, exprs_width-joined, exprs_misfits-joined, count-joined, list_nesting-some, pairs_nesting, pairs_width, pairs_misfits, choices_nesting-before, choices_width-before, choices_misfits-before, zero_expr, pad, pad_count, pad_nesting, pad_width, pad_misfits, owner_least, least_at, least_at_few, Kind, IsKind, ForExpression, ForVariable, phrase_nesting, phrase_width, phrase_misfits, outer_before, owner_before, before, place_before, outer_plug, owner_plug, plug, place_plug}
+use Rattle.mj_ast.specs.Syntax.{Expr, Chain, Done, Operand, Value, Unary, Group, Call, About, Select, Extrinsic, Variable, Var, Exprs, No, More, Last, NoActual}
+use Rattle.mj_ast.specs.Expressions.{Symbol, Name, Applied, Entry, Mark, routine_symbols, further_nesting, actuals_width, actuals_misfits, entry_misfits, scoped, unary_sign, expr_symbols, operand_symbols, variable_symbols, list_symbols, count, subscript_count, least_subscripts, most_others, levels, expr_nesting, operand_nesting, variable_nesting, list_nesting, exprs_nesting, expr_width, operand_width, variable_width, exprs_width, expr_misfits, operand_misfits, variable_misfits, exprs_misfits}
+use Rattle.mj_expr.specs.Machine.{Outer, Alone, InGroup, InList, InOther, InCondition, InChoice, InActuals, Owner, Subscripts, Arguments, Within, Front, Right, Under, Place, AsOperand, AsNamed, AsTarget, before_choices, State, Wanted, Sought, Marked, Named, Entering, Routed, Calling, Behind, Held, Got, Limits, Phrase, Whole, Target, and_then, and_more, and_given, entry_at, filled, placed, closed, outer_depth, owner_depth, depth_of, place_depth, least_of, most_of}
+use Rattle.mj_expr.proofs.Zipper.{AnExpression, AVariable, tails_symbols-then, joined, scoped-append, tails_nesting-then, tails_width-then, exprs_nesting-more, exprs_width-more, count-more, tails_misfits-then, exprs_misfits-more, exprs_nesting-joined, exprs_width-joined, exprs_misfits-joined, count-joined, list_nesting-some, pairs_nesting, pairs_width, pairs_misfits, choices_nesting-before, choices_width-before, choices_misfits-before, nesting-given, width-given, misfits-given, zero_expr, pad, pad_count, pad_nesting, pad_width, pad_misfits, owner_least, least_at, least_at_few, Kind, IsKind, ForExpression, ForVariable, phrase_nesting, phrase_width, phrase_misfits, outer_before, owner_before, before, place_before, outer_plug, owner_plug, plug, place_plug}
 
 -- ---- within the limits
 
@@ -22,6 +22,9 @@ abbrev mutual
   OuterGood K m (InChoice ps a c) =
       Good K m c × (depth_of c + 1 ≤ m.depth) × (pairs_nesting ps + depth_of c + 1 ≤ m.depth) × (pairs_width ps ≤ m.width) × (pairs_misfits ps ≡ 0)
       × (expr_nesting a + depth_of c + 1 ≤ m.depth) × (expr_width a ≤ m.width) × (expr_misfits a ≡ 0)
+  OuterGood K m (InActuals t es c) =
+      Good K m c × (depth_of c + 1 ≤ m.depth) × (further_nesting es + depth_of c + 1 ≤ m.depth) × (actuals_width es ≤ m.width) × (actuals_misfits es ≡ 0)
+      × (entry_misfits t.label t.routine ≡ 0)
 
   pub OwnerGood : Kind → Limits → Owner → Type 0
   OwnerGood K m (Subscripts scope word p) = PlaceGood K m p
@@ -44,6 +47,7 @@ good_depth K m (Front (InList w es)) g = g.1
 good_depth K m (Front (InOther f v c)) g = g.1
 good_depth K m (Front (InCondition ps c)) g = g.1
 good_depth K m (Front (InChoice ps a c)) g = g.1
+good_depth K m (Front (InActuals t es c)) g = g.1
 good_depth K m (Right first rest op o) g = omega (arith, g.1)
 good_depth K m (Under op c) g = g.1
 
@@ -113,6 +117,11 @@ mutual
       (omega (arith, choices_nesting-before ps (Last a e), g.2, g.5))
       (omega (arith, choices_width-before ps (Last a e), g.3, g.6))
       (omega (arith, choices_misfits-before ps (Last a e), g.4, g.7))
+  outer_plug_fits (InActuals t es c) K m e g n w f =
+      plug_fits c K m (Extrinsic t (and_given es e)) g.0
+      (omega (arith, (nesting-given es e).1, g.2))
+      (omega (arith, width-given es e, g.3))
+      (omega (arith, misfits-given es e, g.4, g.5))
 
   pub owner_plug_fits : (u : Owner) (K : Kind) (m : Limits) (es : Exprs) → OwnerGood K m u → list_nesting es + owner_depth u ≤ m.depth →
       exprs_width es ≤ m.width → count es ≤ most_of m u → least_of u ≤ count es → 1 ≤ count es → exprs_misfits es ≡ 0 → Fits K m (owner_plug u es)
@@ -139,6 +148,8 @@ sofar (Wanted c) = before c
 sofar (Sought p) = place_before p
 sofar (Marked p) = place_before p ++ Mark Caret ∷ []
 sofar (Named scope word p) = place_before p ++ scoped scope (Name word ∷ [])
+sofar (Entering label routine c) = before c ++ Entry label ∷ routine_symbols routine
+sofar (Routed label c) = before c ++ Entry label ∷ Mark Caret ∷ []
 sofar (Calling callee c) = before c ++ Applied callee ∷ []
 sofar (Behind f v c) = place_before (AsNamed f c) ++ variable_symbols v
 sofar (Held first rest o) = outer_before o ++ expr_symbols (Chain first rest)
@@ -149,6 +160,8 @@ IsGood K m (Wanted c) = Good K m c
 IsGood K m (Sought p) = PlaceGood K m p
 IsGood K m (Marked p) = PlaceGood K m p
 IsGood K m (Named scope word p) = PlaceGood K m p
+IsGood K m (Entering label routine c) = Good K m c
+IsGood K m (Routed label c) = Good K m c
 IsGood K m (Calling callee c) = Good K m c × (depth_of c + levels callee ≤ m.depth) × (levels callee ≤ m.width + 1)
 IsGood K m (Behind f v c) = Good K m c × (variable_nesting v + depth_of c + 1 ≤ m.depth) × (variable_width v ≤ m.width) × (variable_misfits v ≡ 0) × (least_subscripts f ≤ subscript_count v)
 IsGood K m (Held first rest o) = OuterGood K m o × (expr_nesting (Chain first rest) + outer_depth o ≤ m.depth) × (expr_width (Chain first rest) ≤ m.width) × (expr_misfits (Chain first rest) ≡ 0)
@@ -172,6 +185,13 @@ filled_read (Right first rest op o) K m x ks g n w f e = record {
       ∙ sym (simp append_assoc) ∙ e;
 }
 filled_read (Under op c) K m x ks g n w f e = filled_read c K m (Unary op x) ks g.0 (omega arith) w f (sym (append_assoc (before c) (Mark (unary_sign op) ∷ []) (operand_symbols x)) ∙ e)
+
+-- a function without actuals is what was read of its entry
+pub entry_read : (K : Kind) (m : Limits) (label routine : Option (List ℕ)) (c : Within) (ks : List Symbol) → entry_misfits label routine ≡ 0 →
+    HasRead K m (Entering label routine c) ks → HasRead K m (filled (Extrinsic (entry_at label routine) NoActual) c) ks
+entry_read K m label routine c ks f h =
+    filled_read c K m (Extrinsic (entry_at label routine) NoActual) ks h.good (omega (arith, good_depth K m c h.good)) (omega arith) (omega (arith, f))
+    (ap (λ (xs : List Symbol). before c ++ Entry label ∷ xs) (append-nil (routine_symbols routine)) ∙ h.read)
 
 pub placed_read : (p : Place) (K : Kind) (m : Limits) (v : Variable) (ks : List Symbol) → PlaceGood K m p → variable_nesting v + place_depth p ≤ m.depth →
     variable_width v ≤ m.width → variable_misfits v ≡ 0 → least_at p ≤ subscript_count v →

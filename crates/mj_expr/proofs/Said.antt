@@ -10,12 +10,12 @@ use Rattle.mj_text.specs.declared.fault.Fault.{Fault}
 use Rattle.mj_text.specs.declared.text.TheConstants.{TEXT_LIMIT}
 use Rattle.mj_ast.specs.declared.sign.Sign.{Sign}
 use Rattle.mj_ast.specs.declared.sign.Sign.TheVariants.{Comma}
-use Rattle.mj_ast.specs.Syntax.{Chain, Var, No}
-use Rattle.mj_ast.specs.Tokens.{Token, Word, Called, Special, Digits, Quoted, Signed, Blank, Comment, Unclosed, Stray}
+use Rattle.mj_ast.specs.Syntax.{Chain, Extrinsic, Var, No, NoActual}
+use Rattle.mj_ast.specs.Tokens.{Token, Word, Called, Special, Invoked, Numbered, Dollars, Digits, Quoted, Signed, Blank, Comment, Unclosed, Stray}
 use Rattle.mj_ast.specs.declared.function.Callee.{Callee}
 use Rattle.mj_ast.specs.declared.function.Special as special
-use Rattle.mj_ast.specs.Expressions.{Symbol, Constant, Inherent, Name, Applied, Overlong, Mark, Other, symbol, constant_of, function_symbol, callee_of, special_symbol, special_of, levels_of, width_limit, Phrases, Spells, BeginsPhrase, BeginsWithin}
-use Rattle.mj_expr.specs.Machine.{Alone, InGroup, InList, InOther, InCondition, InChoice, State, Wanted, Sought, Marked, Named, Calling, Behind, Held, Got, placed, Limits, Stuck, Phrase, Whole, Target, Outcome, Accept, StuckAt, DeepAt, TooLong, refused, ends, finish, step, run, turn}
+use Rattle.mj_ast.specs.Expressions.{Symbol, Constant, Inherent, Name, Applied, Entry, Overlong, Mark, Other, symbol, constant_of, function_symbol, callee_of, special_symbol, special_of, levels_of, width_limit, Phrases, Spells, BeginsPhrase, BeginsWithin}
+use Rattle.mj_expr.specs.Machine.{Alone, InGroup, InList, InOther, InCondition, InChoice, InActuals, State, Wanted, Sought, Marked, Named, Entering, Routed, Calling, Behind, Held, Got, filled, placed, entry_at, Limits, Stuck, Phrase, Whole, Target, Outcome, Accept, StuckAt, DeepAt, TooLong, refused, ends, finish, step, run, turn}
 use Rattle.mj_expr.specs.Phrases.{IsRead, IsShort, IsStuck, IsDeep, IsOverlong, IsLong, IsPhraseRefused}
 use Rattle.mj_expr.specs.Reads.{limits, symbols_seen, Refuses}
 use Rattle.mj_expr.specs.declared.stop.ParseError.{ParseError}
@@ -30,7 +30,7 @@ use Rattle.mj_expr.proofs.Ends.{Stops, Halts, EndsDeep, EndsLong, EndsAs, run_en
 use Rattle.mj_expr.proofs.Told.{split, read_goes, start_read, accepts, accept_phrase, cons_nil, head_same, tail_same, Wraps}
 
 ceases_none : (K : Kind) → Ceases K []
-ceases_none AnExpression = (tt, tt)
+ceases_none AnExpression = ((tt, tt), tt)
 ceases_none AVariable = tt
 
 -- ---- how a state refuses
@@ -42,6 +42,7 @@ refused_stuck (Constant v ∷ ks) n e = cc
 refused_stuck (Inherent v ∷ ks) n e = cc
 refused_stuck (Name w ∷ ks) n e = cc
 refused_stuck (Applied f ∷ ks) n e = cc
+refused_stuck (Entry l ∷ ks) n e = cc
 refused_stuck (Mark s ∷ ks) n e = cc
 refused_stuck (Other ∷ ks) n e = cc
 
@@ -56,6 +57,9 @@ ends_stuck (Held x r (InList u es)) ks n e = refused_stuck ks n e
 ends_stuck (Held x r (InOther f v c)) ks n e = refused_stuck ks n e
 ends_stuck (Held x r (InCondition ps c)) ks n e = refused_stuck ks n e
 ends_stuck (Held x r (InChoice ps a c)) ks n e = refused_stuck ks n e
+ends_stuck (Held x r (InActuals t es c)) ks n e = refused_stuck ks n e
+ends_stuck (Entering label routine c) ks n e = refused_stuck ks n e
+ends_stuck (Routed label c) ks n e = refused_stuck ks n e
 ends_stuck (Calling f c) ks n e = refused_stuck ks n e
 ends_stuck (Behind f v c) ks n e = refused_stuck ks n e
 ends_stuck (Got v) ks n e = absurd (let f : Accept (Target v) ks ≡ StuckAt n = e in cc)
@@ -65,6 +69,10 @@ finish_stuck (Wanted c) ks n e = refused_stuck ks n e
 finish_stuck (Sought p) ks n e = refused_stuck ks n e
 finish_stuck (Marked p) ks n e = refused_stuck ks n e
 finish_stuck (Named scope word p) ks n e = ends_stuck (placed (Var scope word No) p) ks n e
+finish_stuck (Entering None None c) ks n e = refused_stuck ks n e
+finish_stuck (Entering (Some l) routine c) ks n e = ends_stuck (filled (Extrinsic (entry_at (Some l) routine) NoActual) c) ks n e
+finish_stuck (Entering None (Some r) c) ks n e = ends_stuck (filled (Extrinsic (entry_at None (Some r)) NoActual) c) ks n e
+finish_stuck (Routed label c) ks n e = refused_stuck ks n e
 finish_stuck (Calling f c) ks n e = refused_stuck ks n e
 finish_stuck (Behind f v c) ks n e = refused_stuck ks n e
 finish_stuck (Held x r o) ks n e = ends_stuck (Held x r o) ks n e
@@ -77,6 +85,7 @@ refused_long (Constant v ∷ ks) e = absurd (let f : StuckAt (length (Constant v
 refused_long (Inherent v ∷ ks) e = absurd (let f : StuckAt (length (Inherent v ∷ ks)) ≡ TooLong = e in cc)
 refused_long (Name w ∷ ks) e = absurd (let f : StuckAt (length (Name w ∷ ks)) ≡ TooLong = e in cc)
 refused_long (Applied g ∷ ks) e = absurd (let f : StuckAt (length (Applied g ∷ ks)) ≡ TooLong = e in cc)
+refused_long (Entry l ∷ ks) e = absurd (let f : StuckAt (length (Entry l ∷ ks)) ≡ TooLong = e in cc)
 refused_long (Mark s ∷ ks) e = absurd (let f : StuckAt (length (Mark s ∷ ks)) ≡ TooLong = e in cc)
 refused_long (Other ∷ ks) e = absurd (let f : StuckAt (length (Other ∷ ks)) ≡ TooLong = e in cc)
 
@@ -91,6 +100,9 @@ ends_long (Held x r (InList u es)) ks e = refused_long ks e
 ends_long (Held x r (InOther f v c)) ks e = refused_long ks e
 ends_long (Held x r (InCondition ps c)) ks e = refused_long ks e
 ends_long (Held x r (InChoice ps a c)) ks e = refused_long ks e
+ends_long (Held x r (InActuals t es c)) ks e = refused_long ks e
+ends_long (Entering label routine c) ks e = refused_long ks e
+ends_long (Routed label c) ks e = refused_long ks e
 ends_long (Calling f c) ks e = refused_long ks e
 ends_long (Behind f v c) ks e = refused_long ks e
 ends_long (Got v) ks e = absurd (let f : Accept (Target v) ks ≡ TooLong = e in cc)
@@ -100,6 +112,10 @@ finish_long (Wanted c) ks e = refused_long ks e
 finish_long (Sought p) ks e = refused_long ks e
 finish_long (Marked p) ks e = refused_long ks e
 finish_long (Named scope word p) ks e = ends_long (placed (Var scope word No) p) ks e
+finish_long (Entering None None c) ks e = refused_long ks e
+finish_long (Entering (Some l) routine c) ks e = ends_long (filled (Extrinsic (entry_at (Some l) routine) NoActual) c) ks e
+finish_long (Entering None (Some r) c) ks e = ends_long (filled (Extrinsic (entry_at None (Some r)) NoActual) c) ks e
+finish_long (Routed label c) ks e = refused_long ks e
 finish_long (Calling f c) ks e = refused_long ks e
 finish_long (Behind f v c) ks e = refused_long ks e
 finish_long (Held x r o) ks e = ends_long (Held x r o) ks e
@@ -119,6 +135,9 @@ overlong_ends (Held x r (InList u es)) ks n e = overlong_refused ks n e
 overlong_ends (Held x r (InOther f v c)) ks n e = overlong_refused ks n e
 overlong_ends (Held x r (InCondition ps c)) ks n e = overlong_refused ks n e
 overlong_ends (Held x r (InChoice ps a c)) ks n e = overlong_refused ks n e
+overlong_ends (Held x r (InActuals t es c)) ks n e = overlong_refused ks n e
+overlong_ends (Entering label routine c) ks n e = overlong_refused ks n e
+overlong_ends (Routed label c) ks n e = overlong_refused ks n e
 overlong_ends (Calling f c) ks n e = overlong_refused ks n e
 overlong_ends (Behind f v c) ks n e = overlong_refused ks n e
 overlong_ends (Got v) ks n e = let f : Accept (Target v) (Overlong ∷ ks) ≡ StuckAt n = e in cc
@@ -128,6 +147,10 @@ overlong_finish (Wanted c) ks n e = overlong_refused ks n e
 overlong_finish (Sought p) ks n e = overlong_refused ks n e
 overlong_finish (Marked p) ks n e = overlong_refused ks n e
 overlong_finish (Named scope word p) ks n e = overlong_ends (placed (Var scope word No) p) ks n e
+overlong_finish (Entering None None c) ks n e = overlong_refused ks n e
+overlong_finish (Entering (Some l) routine c) ks n e = overlong_ends (filled (Extrinsic (entry_at (Some l) routine) NoActual) c) ks n e
+overlong_finish (Entering None (Some r) c) ks n e = overlong_ends (filled (Extrinsic (entry_at None (Some r)) NoActual) c) ks n e
+overlong_finish (Routed label c) ks n e = overlong_refused ks n e
 overlong_finish (Calling f c) ks n e = overlong_refused ks n e
 overlong_finish (Behind f v c) ks n e = overlong_refused ks n e
 overlong_finish (Held x r o) ks n e = overlong_ends (Held x r o) ks n e
@@ -142,6 +165,9 @@ stuck_short : (s : State) (k : Token) (ks : List Symbol) (n : ℕ) → finish s 
 stuck_short s (Word w) ks n e = short_as s w (Name w) ks n (nat_le (length w) 31) refl e
 stuck_short s (Called w) ks n e = short_as s w (function_symbol (callee_of w)) ks n (nat_le (length w) 31) refl e
 stuck_short s (Special w) ks n e = short_as s w (special_symbol (special_of w)) ks n (nat_le (length w) 31) refl e
+stuck_short s (Invoked w) ks n e = short_as s w (Entry (Some w)) ks n (nat_le (length w) 31) refl e
+stuck_short s (Numbered ds) ks n e = tt
+stuck_short s Dollars ks n e = tt
 stuck_short s (Digits ds) ks n e = tt
 stuck_short s (Quoted v) ks n e = tt
 stuck_short s (Signed t) ks n e = tt
@@ -212,6 +238,21 @@ other_mark s e = cc
 other_overlong : Other ≡ Overlong → ⊥
 other_overlong e = cc
 
+-- a label is neither
+label_mark : (l : Option (List ℕ)) (s : Sign) → Entry l ≡ Mark s → ⊥
+label_mark l s e = cc
+
+label_overlong : (l : Option (List ℕ)) → Entry l ≡ Overlong → ⊥
+label_overlong l e = cc
+
+digits_mark : (b : Bool) (l : Option (List ℕ)) (s : Sign) → cond b (Entry l) Other ≡ Mark s → ⊥
+digits_mark true l s e = cc
+digits_mark false l s e = cc
+
+digits_overlong : (b : Bool) (l : Option (List ℕ)) → cond b (Entry l) Other ≡ Overlong → ⊥
+digits_overlong true l e = cc
+digits_overlong false l e = cc
+
 word_long : (w : List ℕ) (k : Symbol) (b : Bool) → nat_le (length w) 31 ≡ b → (k ≡ Overlong → ⊥) → cond b k Overlong ≡ Overlong → 31 < length w
 word_long w k true f g e = absurd (g e)
 word_long w k false f g e = grind (arith, nat_tests)
@@ -220,6 +261,9 @@ pub comma_token : (k : Token) → symbol k ≡ Mark Comma → k ≡ Signed Comma
 comma_token (Word w) e = absurd (word_mark (nat_le (length w) 31) (Name w) Comma (name_mark w Comma) e)
 comma_token (Called w) e = absurd (word_mark (nat_le (length w) 31) (function_symbol (callee_of w)) Comma (function_mark (callee_of w) Comma) e)
 comma_token (Special w) e = absurd (word_mark (nat_le (length w) 31) (special_symbol (special_of w)) Comma (special_mark (special_of w) Comma) e)
+comma_token (Invoked w) e = absurd (word_mark (nat_le (length w) 31) (Entry (Some w)) Comma (label_mark (Some w) Comma) e)
+comma_token (Numbered ds) e = absurd (digits_mark (nat_le (length ds) TEXT_LIMIT) (Some ds) Comma e)
+comma_token Dollars e = absurd (label_mark None Comma e)
 comma_token (Digits ds) e = absurd (constant_mark (reading ds) Comma e)
 comma_token (Quoted v) e = absurd (choice_mark (nat_le (length v) TEXT_LIMIT) v Comma e)
 comma_token (Signed s) e = let f : Mark s ≡ Mark Comma = e in let g : s ≡ Comma = cc in ap Signed g
@@ -239,12 +283,16 @@ abbrev pub Over : Token → Type 0
 Over (Word w) = 31 < length w
 Over (Called w) = 31 < length w
 Over (Special w) = 31 < length w
+Over (Invoked w) = 31 < length w
 Over _ = ⊥
 
 pub overlong_word : (k : Token) → symbol k ≡ Overlong → Over k
 overlong_word (Word w) e = word_long w (Name w) (nat_le (length w) 31) refl (name_overlong w) e
 overlong_word (Called w) e = word_long w (function_symbol (callee_of w)) (nat_le (length w) 31) refl (function_overlong (callee_of w)) e
 overlong_word (Special w) e = word_long w (special_symbol (special_of w)) (nat_le (length w) 31) refl (special_overlong (special_of w)) e
+overlong_word (Invoked w) e = word_long w (Entry (Some w)) (nat_le (length w) 31) refl (label_overlong (Some w)) e
+overlong_word (Numbered ds) e = absurd (digits_overlong (nat_le (length ds) TEXT_LIMIT) (Some ds) e)
+overlong_word Dollars e = absurd (label_overlong None e)
 overlong_word (Digits ds) e = absurd (constant_overlong (reading ds) e)
 overlong_word (Quoted v) e = absurd (choice_overlong (nat_le (length v) TEXT_LIMIT) v e)
 overlong_word (Signed s) e = absurd (let f : Mark s ≡ Overlong = e in cc)
@@ -389,6 +437,9 @@ module _ {T : Type 0} (K : Kind) (P : Phrases T) (W : Wraps K P) where
   overlong_at front (Word w) e g h = record { long = word_long w (Name w) (nat_le (length w) 31) refl (name_overlong w) e; whole = g; at = h }
   overlong_at front (Called w) e g h = record { long = word_long w (function_symbol (callee_of w)) (nat_le (length w) 31) refl (function_overlong (callee_of w)) e; whole = g; at = h }
   overlong_at front (Special w) e g h = record { long = word_long w (special_symbol (special_of w)) (nat_le (length w) 31) refl (special_overlong (special_of w)) e; whole = g; at = h }
+  overlong_at front (Invoked w) e g h = record { long = word_long w (Entry (Some w)) (nat_le (length w) 31) refl (label_overlong (Some w)) e; whole = g; at = h }
+  overlong_at front (Numbered ds) e g h = absurd (digits_overlong (nat_le (length ds) TEXT_LIMIT) (Some ds) e)
+  overlong_at front Dollars e g h = absurd (label_overlong None e)
   overlong_at front (Digits ds) e g h = absurd (constant_overlong (reading ds) e)
   overlong_at front (Quoted v) e g h = absurd (choice_overlong (nat_le (length v) TEXT_LIMIT) v e)
   overlong_at front (Signed s) e g h = absurd (let f : Mark s ≡ Overlong = e in cc)

@@ -1,5 +1,5 @@
 -- The machine goes as its shapes do, where no level is too deep.
-use Rattle.std.proofs.Common.{◌≡◌, ℕ, ◌+◌, ◌<◌, ◌≤◌, List, [], ◌∷◌, ◌++◌, append_assoc, length, refl, ap, sym, ◌∙◌, subst, Bool, true, false, nat_lt, nat_le, Option, Some, None, Result, Ok, Err, arith}
+use Rattle.std.proofs.Common.{◌≡◌, ℕ, ◌+◌, ◌<◌, ◌≤◌, List, [], ◌∷◌, refl, ap, sym, ◌∙◌, subst, Bool, true, false, nat_lt, nat_le, Option, Some, None, ◌⊎◌, inl, inr, arith}
 use Rattle.std.specs.Prelude.{cond, not, ◌&&◌}
 use Rattle.mj_ast.specs.declared.sign.Sign.{Sign}
 use Rattle.mj_ast.specs.declared.sign.Sign.TheVariants.{Caret, Open, Close, Comma, Colon}
@@ -9,21 +9,17 @@ use Rattle.mj_oper.specs.declared.op.Op.{Op}
 use Rattle.mj_ast.specs.declared.function.NameFunction.{NameFunction}
 use Rattle.mj_ast.specs.declared.function.Callee.{Callee}
 use Rattle.mj_ast.specs.declared.function.Callee.TheVariants as callee
-use Rattle.mj_ast.specs.Syntax.{Expr, Chain, Operand, Literal, Value, Intrinsic, Unary, Group, Call, About, Select, Tails, Variable, Var, Exprs, No, More, Last}
-use Rattle.mj_ast.specs.Tokens.{Token}
-use Rattle.mj_ast.specs.Expressions.{Symbol, Constant, Inherent, Name, Applied, Overlong, Mark, Other, count, subscript_count, least_subscripts, most_others, levels}
-use Rattle.mj_lex.specs.declared.token.Lexeme.{Lexeme}
-use Rattle.mj_expr.specs.Machine.{Outer, Alone, InGroup, InList, InOther, InCondition, InChoice, Owner, Subscripts, Arguments, Within, Front, Right, Under, Place, AsOperand, AsNamed, AsTarget, State, Wanted, Sought, Marked, Named, Calling, Behind, Held, Got, filled, placed, closed, outer_of, outer_depth, owner_depth, depth_of, place_depth, Limits, Next, Go, Stuck, Deep, Long, opens, opens_call, suffices, after_variable, is_full, most_of, comma, close, want_other, want_sign, hold_other, hold_sign, hold, on, step, unary_of, binary_of, and_more, before_choices, Phrase, Whole, Target, Outcome, Accept, TooLong, ends, finish, run, goes}
-use Rattle.mj_expr.specs.Reads.{symbols_seen, kind_of, least_in, most_in, limited_in}
-use Rattle.mj_expr.specs.declared.stop.ParseError.{ParseError}
-use Rattle.mj_expr.specs.declared.stop.ParseError.TheVariants as stop
+use Rattle.mj_ast.specs.Syntax.{Actuals, Target as EntryAt, Expr, Chain, Operand, Literal, Value, Intrinsic, Unary, Group, Call, About, Select, Tails, Variable, Var, Exprs, No, More, Last, Extrinsic, NoActual}
+use Rattle.mj_ast.specs.Expressions.{Symbol, Constant, Inherent, Name, Applied, Entry, Overlong, Mark, Other, count, subscript_count, least_subscripts, most_others, levels}
+use Rattle.mj_expr.specs.Machine.{Outer, Alone, InGroup, InList, InOther, InCondition, InChoice, InActuals, Owner, Subscripts, Arguments, Within, Front, Right, Under, Place, AsOperand, AsNamed, AsTarget, State, Wanted, Sought, Marked, Named, Entering, Routed, Calling, Behind, Held, Got, entry_at, and_given, and_omitted, comma_at, close_at, filled, placed, closed, outer_of, outer_depth, owner_depth, depth_of, place_depth, Limits, Next, Go, Stuck, Deep, Long, opens, opens_call, suffices, after_variable, is_full, most_of, comma, close, want_other, want_sign, hold_other, hold_sign, hold, on, step, unary_of, binary_of, and_more, before_choices, after_entry, Target, goes}
+use Rattle.mj_expr.specs.Reads.{kind_of, least_in, most_in, limited_in}
 use Rattle.mj_expr.specs.declared.beyond.Around.{Around}
 use Rattle.mj_expr.specs.declared.beyond.Around.TheVariants as around
 use Rattle.mj_expr.specs.declared.beyond.Stage.{Stage}
 use Rattle.mj_expr.specs.declared.beyond.Stage.TheVariants as stage
 use Rattle.mj_expr.specs.declared.beyond.Turn.{Turn}
 use Rattle.mj_expr.specs.declared.beyond.Turn.TheVariants as turn
-use Rattle.mj_expr.specs.Shapes.{Shape, outer_shape, owner_shape, shape_of, place_shape, state_shape, stage_of, sort_of, stray_turn, behind_sign, behind_turn, bare_goes, other_turn, operand_other, operand_sign, turn_at, Passed, Passes, Halts, ended, Led, To, Nowhere, Beyond, led, on_from, pass, PassesAs, IsEndOf, MachineEnds}
+use Rattle.mj_expr.specs.Shapes.{Shape, outer_shape, owner_shape, shape_of, place_shape, state_shape, stage_of, sort_of, stray_turn, behind_sign, behind_turn, bare_goes, other_turn, operand_other, operand_sign, wanted_stage, operand_turn, turn_at, actual_turn, actuals_turn, entry_turn, label_turn, routine_turn, Led, To, Nowhere, Beyond, led}
 use Rattle.mj_expr.proofs.Steps.{less_true, most_true, kind_least, kind_limited}
 use Rattle.mj_expr.proofs.Zipper.{count-more, least_at, least_at_few, levels_few}
 use Rattle.mj_expr.proofs.Facts.{filled_outer}
@@ -36,6 +32,8 @@ state_depth (Wanted c) = depth_of c
 state_depth (Sought p) = place_depth p
 state_depth (Marked p) = place_depth p
 state_depth (Named scope word p) = place_depth p
+state_depth (Entering label routine c) = depth_of c
+state_depth (Routed label c) = depth_of c
 state_depth (Calling f c) = depth_of c
 state_depth (Behind f v c) = depth_of c + 1
 state_depth (Held x r o) = outer_depth o
@@ -50,6 +48,7 @@ abbrev mutual
   outer_whole (InOther f v c) = whole_of c
   outer_whole (InCondition before c) = whole_of c
   outer_whole (InChoice before condition c) = whole_of c
+  outer_whole (InActuals t before c) = whole_of c
 
   pub owner_whole : Owner → Bool
   owner_whole (Subscripts scope word p) = place_whole p
@@ -70,6 +69,8 @@ state_whole (Wanted c) = whole_of c
 state_whole (Sought p) = place_whole p
 state_whole (Marked p) = place_whole p
 state_whole (Named scope word p) = place_whole p
+state_whole (Entering label routine c) = whole_of c
+state_whole (Routed label c) = whole_of c
 state_whole (Calling f c) = whole_of c
 state_whole (Behind f v c) = whole_of c
 state_whole (Held x r o) = outer_whole o
@@ -108,7 +109,7 @@ closed_at (Subscripts scope word p) es h = placed_at (Var scope word es) p (omeg
 closed_at (Arguments f c) es h = filled_at (Call f es) c
 
 -- the shape of a place is that of the expression that it stands in
-outer_same : (c : Within) → shape_of c ≡ outer_shape (outer_of c)
+pub outer_same : (c : Within) → shape_of c ≡ outer_shape (outer_of c)
 outer_same (Front o) = refl
 outer_same (Right first rest op o) = refl
 outer_same (Under op c) = outer_same c
@@ -118,7 +119,7 @@ outer_less (Front o) = omega arith
 outer_less (Right first rest op o) = omega arith
 outer_less (Under op c) = let h = outer_less c in omega arith
 
-outer_kept : (c : Within) → outer_whole (outer_of c) ≡ whole_of c
+pub outer_kept : (c : Within) → outer_whole (outer_of c) ≡ whole_of c
 outer_kept (Front o) = refl
 outer_kept (Right first rest op o) = refl
 outer_kept (Under op c) = outer_kept c
@@ -155,6 +156,7 @@ full_same m (InList w before) e =
 full_same m (InOther f v c) e = refl
 full_same m (InCondition before c) e = refl
 full_same m (InChoice before condition c) e = refl
+full_same m (InActuals t before c) e = refl
 
 stray_test : (a : Around) → stray_turn a ≡ cond (full_test a) turn.Long turn.Stuck
 stray_test (around.List k n) = refl
@@ -164,6 +166,7 @@ stray_test around.Group = refl
 stray_test (around.About f) = refl
 stray_test around.Condition = refl
 stray_test around.Choice = refl
+stray_test around.Actuals = refl
 
 stray_by : (d : ℕ) (whole : Bool) (a : Around) (others : List Around) (b : Bool) → Follows d whole (cond b Long Stuck) (led a others (cond b turn.Long turn.Stuck))
 stray_by d whole a others true = refl
@@ -194,6 +197,8 @@ target_stuck (Constant v) = refl
 target_stuck (Inherent v) = refl
 target_stuck (Name w) = refl
 target_stuck (Applied f) = refl
+target_stuck (Entry None) = refl
+target_stuck (Entry (Some l)) = refl
 target_stuck Overlong = refl
 target_stuck Other = refl
 
@@ -250,6 +255,11 @@ other_follows m x r (InCondition before c) Close e = refl
 other_follows m x r (InChoice before a c) Close e =
     let y = Select (before_choices before (Last a (Chain x r))) in
     goes_at (filled y c) stage.Behind (shape_of c) (depth_of c) (depth_of c + 1) (whole_of c) (filled_at y c) (omega arith)
+other_follows m x r (InActuals t before c) Close e =
+    let y = Extrinsic t (and_given before (Chain x r)) in
+    goes_at (filled y c) stage.Behind (shape_of c) (depth_of c) (depth_of c + 1) (whole_of c) (filled_at y c) (omega arith)
+other_follows m x r (InActuals t before c) Comma e = (refl, omega arith, refl, tt)
+other_follows m x r (InActuals t before c) Colon e = refl
 other_follows m x r Alone Comma e = refl
 other_follows m x r (InGroup c) Comma e = refl
 other_follows m x r (InList w before) Comma e = list_comma m (Chain x r) w before e
@@ -272,6 +282,7 @@ sign_follows m x r (InList w before) s (Some op) e = (refl, omega arith, refl, t
 sign_follows m x r (InOther f v c) s (Some op) e = (refl, omega arith, refl, tt)
 sign_follows m x r (InCondition before c) s (Some op) e = (refl, omega arith, refl, tt)
 sign_follows m x r (InChoice before a c) s (Some op) e = (refl, omega arith, refl, tt)
+sign_follows m x r (InActuals t before c) s (Some op) e = (refl, omega arith, refl, tt)
 sign_follows m x r o s None e = other_follows m x r o s e
 
 held_follows : (m : Limits) (x : Operand) (r : Tails) (o : Outer) (k : Symbol) → m.width ≡ 31 →
@@ -282,6 +293,8 @@ held_follows m x r o (Constant v) e = refl
 held_follows m x r o (Inherent v) e = refl
 held_follows m x r o (Name w) e = refl
 held_follows m x r o (Applied f) e = refl
+held_follows m x r o (Entry None) e = refl
+held_follows m x r o (Entry (Some l)) e = refl
 held_follows m x r o Overlong e = refl
 held_follows m x r o Other e = refl
 
@@ -324,6 +337,8 @@ about_follows f v c (Constant u) = about_stuck (around.About f) ((shape_of c).ar
 about_follows f v c (Inherent u) = about_stuck (around.About f) ((shape_of c).around ∷ (shape_of c).others) (suffices f v)
 about_follows f v c (Name w) = about_stuck (around.About f) ((shape_of c).around ∷ (shape_of c).others) (suffices f v)
 about_follows f v c (Applied g) = about_stuck (around.About f) ((shape_of c).around ∷ (shape_of c).others) (suffices f v)
+about_follows f v c (Entry None) = about_stuck (around.About f) ((shape_of c).around ∷ (shape_of c).others) (suffices f v)
+about_follows f v c (Entry (Some l)) = about_stuck (around.About f) ((shape_of c).around ∷ (shape_of c).others) (suffices f v)
 about_follows f v c Overlong = about_stuck (around.About f) ((shape_of c).around ∷ (shape_of c).others) (suffices f v)
 about_follows f v c Other = about_stuck (around.About f) ((shape_of c).around ∷ (shape_of c).others) (suffices f v)
 
@@ -335,6 +350,7 @@ outer_goes (InList w before) = refl
 outer_goes (InOther f v c) = refl
 outer_goes (InCondition before c) = refl
 outer_goes (InChoice before condition c) = refl
+outer_goes (InActuals t before c) = refl
 
 within_goes : (c : Within) → bare_goes (shape_of c).around ≡ true
 within_goes (Front o) = outer_goes o
@@ -345,17 +361,23 @@ within_goes (Under op c) = within_goes c
 abbrev bare_led : Shape → Symbol → Bool → Led
 bare_led a k b = led a.around a.others (cond b (behind_turn a.around (sort_of k)) turn.Stuck)
 
+-- behind an operand
+filled_follows : (m : Limits) (x : Operand) (c : Within) (k : Symbol) → m.width ≡ 31 →
+    Follows (depth_of c) (whole_of c) (on m (filled x c) k) (led (shape_of c).around (shape_of c).others (behind_turn (shape_of c).around (sort_of k)))
+filled_follows m x c k e =
+    let f = filled_outer x c in
+    let o = outer_of c in
+    let P : State → Type 0 = λ s. Follows (depth_of c) (whole_of c) (on m s k) (led (shape_of c).around (shape_of c).others (behind_turn (shape_of c).around (sort_of k))) in
+    let Q : Shape → Type 0 = λ a. Follows (depth_of c) (whole_of c) (hold m f.0 f.1 o k) (led a.around a.others (behind_turn a.around (sort_of k))) in
+    subst P (sym f.2) (subst Q (sym (outer_same c))
+    (follows_more (outer_depth o) (depth_of c) (outer_whole o) (whole_of c) _ _ (outer_less c) (outer_kept c) (held_follows m f.0 f.1 o k e)))
+
 named_follows : (m : Limits) (scope : Scope) (word : List ℕ) (p : Place) (k : Symbol) → m.width ≡ 31 →
     Follows (place_depth p) (place_whole p) (on m (placed (Var scope word No) p) k) (bare_led (place_shape p) k (bare_goes (place_shape p).around))
 named_follows m scope word (AsOperand c) k e =
     let v = Var scope word No in
-    let f = filled_outer (Value v) c in
-    let o = outer_of c in
-    let P : State → Type 0 = λ s. Follows (depth_of c) (whole_of c) (on m s k) (led (shape_of c).around (shape_of c).others (behind_turn (shape_of c).around (sort_of k))) in
-    let Q : Shape → Type 0 = λ a. Follows (depth_of c) (whole_of c) (hold m f.0 f.1 o k) (led a.around a.others (behind_turn a.around (sort_of k))) in
     let R : Bool → Type 0 = λ b. Follows (depth_of c) (whole_of c) (on m (filled (Value v) c) k) (bare_led (shape_of c) k b) in
-    subst R (sym (within_goes c)) (subst P (sym f.2) (subst Q (sym (outer_same c))
-    (follows_more (outer_depth o) (depth_of c) (outer_whole o) (whole_of c) _ _ (outer_less c) (outer_kept c) (held_follows m f.0 f.1 o k e))))
+    subst R (sym (within_goes c)) (filled_follows m (Value v) c k e)
 named_follows m scope word (AsNamed f c) k e = about_follows f (Var scope word No) c k
 named_follows m scope word AsTarget k e = ap (led around.Target []) (target_stuck k)
 
@@ -363,36 +385,152 @@ named_follows m scope word AsTarget k e = ap (led around.Target []) (target_stuc
 call_follows : (m : Limits) (f : Callee) (c : Within) (d : ℕ) (whole : Bool) (l : Led) → depth_of c + levels f ≤ m.depth → Follows d whole (Go (Calling f c)) l → Follows d whole (opens_call m f c) l
 call_follows m f c d whole l i h = let P : Bool → Type 0 = λ b. Follows d whole (cond b (Go (Calling f c)) Deep) l in subst P (sym (most_true (depth_of c + levels f) m.depth i)) h
 
-want_other_follows : (m : Limits) (c : Within) (s : Sign) → m.width ≡ 31 → depth_of c < m.depth →
-    Follows (depth_of c) (whole_of c) (want_other m c s) (led (shape_of c).around (shape_of c).others (operand_other (shape_of c).around s))
-want_other_follows m c Caret e i = (refl, omega arith, refl, tt)
-want_other_follows m c Open e i = opens_follow m (depth_of c) (depth_of c) (whole_of c) (Wanted (Front (InGroup c))) _ i (refl, omega arith, refl, tt)
-want_other_follows m c Comma e i = stray_follows m (depth_of c) (whole_of c) (shape_of c).around (shape_of c).others (is_full m (outer_of c)) (within_full m c e)
-want_other_follows m c s e i = refl
+-- an operand is wanted, and no actual may be left out
+abbrev IsOperand : Within → Type 0
+IsOperand c = ((m : Limits) → comma_at m c ≡ cond (is_full m (outer_of c)) Long Stuck) × (close_at c ≡ Stuck)
 
-want_sign_follows : (m : Limits) (c : Within) (s : Sign) (q : Option UnaryOp) → m.width ≡ 31 → depth_of c < m.depth →
+-- the symbols that do the same where an actual may be left out
+abbrev IsOtherThan : Symbol → Type 0
+IsOtherThan (Mark Comma) = ⊥
+IsOtherThan (Mark Close) = ⊥
+IsOtherThan k = Unit {0}
+
+want_other_follows : (m : Limits) (c : Within) (s : Sign) → m.width ≡ 31 → depth_of c < m.depth → IsOperand c ⊎ IsOtherThan (Mark s) →
+    Follows (depth_of c) (whole_of c) (want_other m c s) (led (shape_of c).around (shape_of c).others (operand_other (shape_of c).around s))
+want_other_follows m c Caret e i q = (refl, omega arith, refl, tt)
+want_other_follows m c Open e i q = opens_follow m (depth_of c) (depth_of c) (whole_of c) (Wanted (Front (InGroup c))) _ i (refl, omega arith, refl, tt)
+want_other_follows m c Comma e i (inl q) =
+    let P : Next → Type 0 = λ n. Follows (depth_of c) (whole_of c) n (led (shape_of c).around (shape_of c).others (stray_turn (shape_of c).around)) in
+    subst P (sym (q.0 m)) (stray_follows m (depth_of c) (whole_of c) (shape_of c).around (shape_of c).others (is_full m (outer_of c)) (within_full m c e))
+want_other_follows m c Comma e i (inr q) = absurd q
+want_other_follows m c Close e i (inl q) =
+    let P : Next → Type 0 = λ n. Follows (depth_of c) (whole_of c) n (led (shape_of c).around (shape_of c).others turn.Stuck) in subst P (sym q.1) refl
+want_other_follows m c Close e i (inr q) = absurd q
+want_other_follows m c s e i q = refl
+
+wanted_under : (m : Limits) (op : UnaryOp) (c : Within) → depth_of c < m.depth →
+    Follows (depth_of c) (whole_of c) (opens m (depth_of c) (Wanted (Under op c))) (led (shape_of c).around (shape_of c).others (turn.Goes stage.Operand (shape_of c).around))
+wanted_under m op c i = opens_follow m (depth_of c) (depth_of c) (whole_of c) (Wanted (Under op c)) _ i (refl, omega arith, refl, tt)
+
+want_sign_follows : (m : Limits) (c : Within) (s : Sign) (q : Option UnaryOp) → m.width ≡ 31 → depth_of c < m.depth → IsOperand c ⊎ IsOtherThan (Mark s) →
     Follows (depth_of c) (whole_of c) (want_sign m c s q) (led (shape_of c).around (shape_of c).others (operand_sign (shape_of c).around s q))
-want_sign_follows m c s (Some op) e i = opens_follow m (depth_of c) (depth_of c) (whole_of c) (Wanted (Under op c)) _ i (refl, omega arith, refl, tt)
-want_sign_follows m c s None e i = want_other_follows m c s e i
+want_sign_follows m c s (Some op) e i p = wanted_under m op c i
+want_sign_follows m c s None e i p = want_other_follows m c s e i p
+
+want_follows : (m : Limits) (c : Within) (k : Symbol) → m.width ≡ 31 → depth_of c + 1 < m.depth → IsOperand c ⊎ IsOtherThan k →
+    Follows (depth_of c) (whole_of c) (step m (Wanted c) k) (led (shape_of c).around (shape_of c).others (operand_turn (shape_of c).around (sort_of k)))
+want_follows m c (Constant v) e i q = goes_at (filled (Literal v) c) stage.Behind (shape_of c) (depth_of c) (depth_of c) (whole_of c) (filled_at (Literal v) c) (omega arith)
+want_follows m c (Inherent v) e i q = goes_at (filled (Intrinsic v) c) stage.Behind (shape_of c) (depth_of c) (depth_of c) (whole_of c) (filled_at (Intrinsic v) c) (omega arith)
+want_follows m c (Name w) e i q = (refl, omega arith, refl, tt)
+want_follows m c (Applied f) e i q = call_follows m f c (depth_of c) (whole_of c) _ (omega (arith, levels_few f)) (refl, omega arith, refl, tt)
+want_follows m c (Entry None) e i q = (refl, omega arith, refl, tt)
+want_follows m c (Entry (Some l)) e i q = (refl, omega arith, refl, tt)
+want_follows m c (Mark s) e i q = want_sign_follows m c s (unary_of s) e (omega arith) q
+want_follows m c Overlong e i q = refl
+want_follows m c Other e i q = refl
+
+-- where an actual may be left out
+actual_other_follows : (m : Limits) (t : EntryAt) (es : Actuals) (c : Within) (k : Symbol) → m.width ≡ 31 → depth_of c + 1 + 1 < m.depth → IsOtherThan k →
+    Follows (depth_of c + 1) (whole_of c) (step m (Wanted (Front (InActuals t es c))) k) (led around.Actuals ((shape_of c).around ∷ (shape_of c).others) (operand_turn around.Actuals (sort_of k)))
+actual_other_follows m t es c k e i q = want_follows m (Front (InActuals t es c)) k e i (inr q)
+
+actual_follows : (m : Limits) (t : EntryAt) (es : Actuals) (c : Within) (k : Symbol) → m.width ≡ 31 → depth_of c + 1 + 1 < m.depth →
+    Follows (depth_of c + 1) (whole_of c) (step m (Wanted (Front (InActuals t es c))) k) (led around.Actuals ((shape_of c).around ∷ (shape_of c).others) (actual_turn around.Actuals (sort_of k)))
+actual_follows m t es c (Mark Comma) e i = (refl, omega arith, refl, tt)
+actual_follows m t es c (Mark Close) e i =
+    let y = Extrinsic t (and_omitted es) in
+    goes_at (filled y c) stage.Behind (shape_of c) (depth_of c) (depth_of c + 1) (whole_of c) (filled_at y c) (omega arith)
+actual_follows m t es c (Mark s) e i = actual_other_follows m t es c (Mark s) e i tt
+actual_follows m t es c (Constant v) e i = actual_other_follows m t es c (Constant v) e i tt
+actual_follows m t es c (Inherent v) e i = actual_other_follows m t es c (Inherent v) e i tt
+actual_follows m t es c (Name w) e i = actual_other_follows m t es c (Name w) e i tt
+actual_follows m t es c (Applied f) e i = actual_other_follows m t es c (Applied f) e i tt
+actual_follows m t es c (Entry None) e i = actual_other_follows m t es c (Entry None) e i tt
+actual_follows m t es c (Entry (Some l)) e i = actual_other_follows m t es c (Entry (Some l)) e i tt
+actual_follows m t es c Overlong e i = refl
+actual_follows m t es c Other e i = refl
+
+wanted_follows : (m : Limits) (c : Within) (k : Symbol) → m.width ≡ 31 → depth_of c + 1 < m.depth →
+    Follows (depth_of c) (whole_of c) (step m (Wanted c) k) (led (shape_of c).around (shape_of c).others (turn_at (wanted_stage c) (shape_of c).around (sort_of k)))
+wanted_follows m (Front (InActuals t es c)) k e i = actual_follows m t es c k e i
+wanted_follows m (Front Alone) k e i = want_follows m (Front Alone) k e i (inl (λ m. refl, refl))
+wanted_follows m (Front (InGroup c)) k e i = want_follows m (Front (InGroup c)) k e i (inl (λ m. refl, refl))
+wanted_follows m (Front (InList u es)) k e i = want_follows m (Front (InList u es)) k e i (inl (λ m. refl, refl))
+wanted_follows m (Front (InOther f v c)) k e i = want_follows m (Front (InOther f v c)) k e i (inl (λ m. refl, refl))
+wanted_follows m (Front (InCondition ps c)) k e i = want_follows m (Front (InCondition ps c)) k e i (inl (λ m. refl, refl))
+wanted_follows m (Front (InChoice ps a c)) k e i = want_follows m (Front (InChoice ps a c)) k e i (inl (λ m. refl, refl))
+wanted_follows m (Right x r op o) k e i = want_follows m (Right x r op o) k e i (inl (λ m. refl, refl))
+wanted_follows m (Under op c) k e i = want_follows m (Under op c) k e i (inl (λ m. refl, refl))
+
+-- behind an entry
+entry_follows : (m : Limits) (t : EntryAt) (c : Within) (k : Symbol) → m.width ≡ 31 → depth_of c < m.depth →
+    Follows (depth_of c) (whole_of c) (after_entry m t c k) (led (shape_of c).around (shape_of c).others (actuals_turn (shape_of c).around (sort_of k)))
+entry_follows m t c (Mark Open) e i = opens_follow m (depth_of c) (depth_of c) (whole_of c) (Wanted (Front (InActuals t NoActual c))) _ i (refl, omega arith, refl, tt)
+entry_follows m t c (Mark s) e i = filled_follows m (Extrinsic t NoActual) c (Mark s) e
+entry_follows m t c (Constant v) e i = filled_follows m (Extrinsic t NoActual) c (Constant v) e
+entry_follows m t c (Inherent v) e i = filled_follows m (Extrinsic t NoActual) c (Inherent v) e
+entry_follows m t c (Name w) e i = filled_follows m (Extrinsic t NoActual) c (Name w) e
+entry_follows m t c (Applied f) e i = filled_follows m (Extrinsic t NoActual) c (Applied f) e
+entry_follows m t c (Entry None) e i = filled_follows m (Extrinsic t NoActual) c (Entry None) e
+entry_follows m t c (Entry (Some l)) e i = filled_follows m (Extrinsic t NoActual) c (Entry (Some l)) e
+entry_follows m t c Overlong e i = filled_follows m (Extrinsic t NoActual) c Overlong e
+entry_follows m t c Other e i = filled_follows m (Extrinsic t NoActual) c Other e
+
+dollars_follow : (m : Limits) (c : Within) (k : Symbol) → m.width ≡ 31 →
+    Follows (depth_of c) (whole_of c) (step m (Entering None None c) k) (led (shape_of c).around (shape_of c).others (entry_turn (shape_of c).around (sort_of k)))
+dollars_follow m c (Mark Caret) e = (refl, omega arith, refl, tt)
+dollars_follow m c (Mark Comma) e = stray_follows m (depth_of c) (whole_of c) (shape_of c).around (shape_of c).others (is_full m (outer_of c)) (within_full m c e)
+dollars_follow m c (Mark s) e = refl
+dollars_follow m c (Constant v) e = refl
+dollars_follow m c (Inherent v) e = refl
+dollars_follow m c (Name w) e = refl
+dollars_follow m c (Applied f) e = refl
+dollars_follow m c (Entry None) e = refl
+dollars_follow m c (Entry (Some l)) e = refl
+dollars_follow m c Overlong e = refl
+dollars_follow m c Other e = refl
+
+label_follows : (m : Limits) (l : List ℕ) (c : Within) (k : Symbol) → m.width ≡ 31 → depth_of c < m.depth →
+    Follows (depth_of c) (whole_of c) (step m (Entering (Some l) None c) k) (led (shape_of c).around (shape_of c).others (label_turn (shape_of c).around (sort_of k)))
+label_follows m l c (Mark Caret) e i = (refl, omega arith, refl, tt)
+label_follows m l c (Mark s) e i = entry_follows m (entry_at (Some l) None) c (Mark s) e i
+label_follows m l c (Constant v) e i = entry_follows m (entry_at (Some l) None) c (Constant v) e i
+label_follows m l c (Inherent v) e i = entry_follows m (entry_at (Some l) None) c (Inherent v) e i
+label_follows m l c (Name w) e i = entry_follows m (entry_at (Some l) None) c (Name w) e i
+label_follows m l c (Applied f) e i = entry_follows m (entry_at (Some l) None) c (Applied f) e i
+label_follows m l c (Entry None) e i = entry_follows m (entry_at (Some l) None) c (Entry None) e i
+label_follows m l c (Entry (Some n)) e i = entry_follows m (entry_at (Some l) None) c (Entry (Some n)) e i
+label_follows m l c Overlong e i = entry_follows m (entry_at (Some l) None) c Overlong e i
+label_follows m l c Other e i = entry_follows m (entry_at (Some l) None) c Other e i
+
+routed_follows : (m : Limits) (label : Option (List ℕ)) (c : Within) (k : Symbol) → m.width ≡ 31 →
+    Follows (depth_of c) (whole_of c) (step m (Routed label c) k) (led (shape_of c).around (shape_of c).others (routine_turn (shape_of c).around (sort_of k)))
+routed_follows m None c (Name w) e = (refl, omega arith, refl, tt)
+routed_follows m (Some l) c (Name w) e = (refl, omega arith, refl, tt)
+routed_follows m label c (Mark Comma) e = stray_follows m (depth_of c) (whole_of c) (shape_of c).around (shape_of c).others (is_full m (outer_of c)) (within_full m c e)
+routed_follows m label c (Mark s) e = refl
+routed_follows m label c (Constant v) e = refl
+routed_follows m label c (Inherent v) e = refl
+routed_follows m label c (Applied f) e = refl
+routed_follows m label c (Entry None) e = refl
+routed_follows m label c (Entry (Some n)) e = refl
+routed_follows m label c Overlong e = refl
+routed_follows m label c Other e = refl
 
 -- what a state does with a symbol, and its shape
-abbrev led_from : State → Symbol → Led
+abbrev pub led_from : State → Symbol → Led
 led_from s k = led (state_shape s).around (state_shape s).others (turn_at (stage_of s) (state_shape s).around (sort_of k))
 
-follows : (m : Limits) (s : State) (k : Symbol) → m.width ≡ 31 → state_depth s + 1 < m.depth → IsSound s → Follows (state_depth s) (state_whole s) (step m s k) (led_from s k)
-follows m (Wanted c) (Constant v) e i g = goes_at (filled (Literal v) c) stage.Behind (shape_of c) (depth_of c) (depth_of c) (whole_of c) (filled_at (Literal v) c) (omega arith)
-follows m (Wanted c) (Inherent v) e i g = goes_at (filled (Intrinsic v) c) stage.Behind (shape_of c) (depth_of c) (depth_of c) (whole_of c) (filled_at (Intrinsic v) c) (omega arith)
-follows m (Wanted c) (Name w) e i g = (refl, omega arith, refl, tt)
-follows m (Wanted c) (Applied f) e i g = call_follows m f c (depth_of c) (whole_of c) _ (omega (arith, levels_few f)) (refl, omega arith, refl, tt)
-follows m (Wanted c) (Mark s) e i g = want_sign_follows m c s (unary_of s) e (omega arith)
-follows m (Wanted c) Overlong e i g = refl
-follows m (Wanted c) Other e i g = refl
+pub follows : (m : Limits) (s : State) (k : Symbol) → m.width ≡ 31 → state_depth s + 1 < m.depth → IsSound s → Follows (state_depth s) (state_whole s) (step m s k) (led_from s k)
+follows m (Wanted c) k e i g = wanted_follows m c k e i
 follows m (Sought p) (Name w) e i g = (refl, omega arith, refl, tt)
 follows m (Sought p) (Mark Caret) e i g = (refl, omega arith, refl, tt)
 follows m (Sought p) (Mark s) e i g = refl
 follows m (Sought p) (Constant v) e i g = refl
 follows m (Sought p) (Inherent v) e i g = refl
 follows m (Sought p) (Applied f) e i g = refl
+follows m (Sought p) (Entry None) e i g = refl
+follows m (Sought p) (Entry (Some l)) e i g = refl
 follows m (Sought p) Overlong e i g = refl
 follows m (Sought p) Other e i g = refl
 follows m (Marked p) (Name w) e i g = (refl, omega arith, refl, tt)
@@ -403,11 +541,20 @@ follows m (Marked p) (Mark s) e i g = refl
 follows m (Marked p) (Constant v) e i g = refl
 follows m (Marked p) (Inherent v) e i g = refl
 follows m (Marked p) (Applied f) e i g = refl
+follows m (Marked p) (Entry None) e i g = refl
+follows m (Marked p) (Entry (Some l)) e i g = refl
 follows m (Marked p) Overlong e i g = refl
 follows m (Marked p) Other e i g = refl
 follows m (Named scope word p) (Mark Open) e i g = opens_follow m (place_depth p) (place_depth p) (place_whole p)
     (Wanted (Front (InList (Subscripts scope word p) No))) _ (omega arith) (refl, omega arith, refl, tt)
+follows m (Named scope word p) (Entry None) e i g = named_follows m scope word p (Entry None) e
+follows m (Named scope word p) (Entry (Some l)) e i g = named_follows m scope word p (Entry (Some l)) e
 follows m (Named scope word p) k e i g = named_follows m scope word p k e
+follows m (Entering None None c) k e i g = dollars_follow m c k e
+follows m (Entering (Some l) None c) k e i g = label_follows m l c k e (omega arith)
+follows m (Entering None (Some n) c) k e i g = entry_follows m (entry_at None (Some n)) c k e (omega arith)
+follows m (Entering (Some l) (Some n) c) k e i g = entry_follows m (entry_at (Some l) (Some n)) c k e (omega arith)
+follows m (Routed label c) k e i g = routed_follows m label c k e
 follows m (Calling (callee.Texts f) c) (Mark Open) e i g = (refl, omega arith, refl, tt)
 follows m (Calling (callee.Names f) c) (Mark Open) e i g = (refl, omega arith, refl, tt)
 follows m (Calling callee.Select c) (Mark Open) e i g = (refl, omega arith, refl, tt)
@@ -416,6 +563,8 @@ follows m (Calling f c) (Constant v) e i g = refl
 follows m (Calling f c) (Inherent v) e i g = refl
 follows m (Calling f c) (Name w) e i g = refl
 follows m (Calling f c) (Applied h) e i g = refl
+follows m (Calling f c) (Entry None) e i g = refl
+follows m (Calling f c) (Entry (Some l)) e i g = refl
 follows m (Calling f c) Overlong e i g = refl
 follows m (Calling f c) Other e i g = refl
 follows m (Behind f v c) k e i g =
@@ -424,115 +573,3 @@ follows m (Behind f v c) k e i g =
     subst P (most_true (least_subscripts f) (subscript_count v) g) (about_follows f v c k)
 follows m (Held x r o) k e i g = held_follows m x r o k e
 follows m (Got v) k e i g = ap (led around.Target []) (target_stuck k)
-
--- ---- runs
-
--- a phrase of this kind
-abbrev pub IsOf : Bool → Phrase → Type 0
-IsOf true (Whole e) = Unit {0}
-IsOf true (Target v) = ⊥
-IsOf false (Whole e) = ⊥
-IsOf false (Target v) = Unit {0}
-
--- what was passed is what was read, without its tree
-abbrev pub Agrees : Bool → Passed → Outcome → Type 0
-Agrees whole (Passes rest) o = (p : Phrase) × IsOf whole p × (o ≡ Accept p rest)
-Agrees whole (Halts x) o = o ≡ x
-
-held_ends : (x : Operand) (r : Tails) (o : Outer) (ks : List Symbol) → Agrees (outer_whole o) (ended stage.Behind (outer_shape o).around ks) (ends (Held x r o) ks)
-held_ends x r Alone ks = (Whole (Chain x r), tt, refl)
-held_ends x r (InGroup c) ks = refl
-held_ends x r (InList w before) ks = refl
-held_ends x r (InOther f v c) ks = refl
-held_ends x r (InCondition before c) ks = refl
-held_ends x r (InChoice before a c) ks = refl
-
-named_ends : (v : Variable) (p : Place) (ks : List Symbol) → Agrees (place_whole p) (ended stage.Subscripts (place_shape p).around ks) (ends (placed v p) ks)
-named_ends v (AsOperand c) ks =
-    let f = filled_outer (Value v) c in
-    let P : State → Type 0 = λ s. Agrees (whole_of c) (ended stage.Subscripts (shape_of c).around ks) (ends s ks) in
-    let Q : Shape → Type 0 = λ a. Agrees (whole_of c) (ended stage.Subscripts a.around ks) (ends (Held f.0 f.1 (outer_of c)) ks) in
-    let R : Bool → Type 0 = λ b. Agrees b (ended stage.Subscripts (outer_shape (outer_of c)).around ks) (ends (Held f.0 f.1 (outer_of c)) ks) in
-    subst P (sym f.2) (subst Q (sym (outer_same c)) (subst R (outer_kept c) (held_ends f.0 f.1 (outer_of c) ks)))
-named_ends v (AsNamed f c) ks = refl
-named_ends v AsTarget ks = (Target v, tt, refl)
-
-state_ends : (s : State) (ks : List Symbol) → Agrees (state_whole s) (ended (stage_of s) (state_shape s).around ks) (finish s ks)
-state_ends (Wanted c) ks = refl
-state_ends (Sought p) ks = refl
-state_ends (Marked p) ks = refl
-state_ends (Named scope word p) ks = named_ends (Var scope word No) p ks
-state_ends (Calling f c) ks = refl
-state_ends (Behind f v c) ks = refl
-state_ends (Held x r o) ks = held_ends x r o ks
-state_ends (Got v) ks = (Target v, tt, refl)
-
--- what is passed from a state on
-abbrev pub passed_from : State → List Symbol → Passed
-passed_from s ks = pass ks (stage_of s) (state_shape s).around (state_shape s).others
-
-goes_as : (m : Limits) (ks : List Symbol) (d left : ℕ) (whole : Bool) (out : Outcome) (end : Passed) (n : Next) (l : Led) → Agrees whole end out →
-    ((t : State) → state_depth t ≤ d + 1 → IsSound t → Agrees (state_whole t) (passed_from t ks) (run m ks t)) → Follows d whole n l →
-    Agrees whole (on_from (pass ks) end l) (goes (run m ks) out left n)
-goes_as m ks d left whole out end (Go t) l a h f =
-    let P : Led → Type 0 = λ x. Agrees whole (on_from (pass ks) end x) (run m ks t) in
-    let Q : Bool → Type 0 = λ b. Agrees b (passed_from t ks) (run m ks t) in
-    subst P (sym f.0) (subst Q f.2 (h t f.1 f.3))
-goes_as m ks d left whole out end Stuck l a h f = let P : Led → Type 0 = λ x. Agrees whole (on_from (pass ks) end x) out in subst P (sym f) a
-goes_as m ks d left whole out end Deep l a h f = absurd f
-goes_as m ks d left whole out end Long l a h f = let P : Led → Type 0 = λ x. Agrees whole (on_from (pass ks) end x) TooLong in subst P (sym f) refl
-
-pub passed : (ks : List Symbol) (m : Limits) (s : State) → m.width ≡ 31 → state_depth s + length ks + 1 ≤ m.depth → IsSound s → Agrees (state_whole s) (passed_from s ks) (run m ks s)
-passed [] m s e i g = state_ends s []
-passed (k ∷ ks) m s e i g =
-    goes_as m ks (state_depth s) (length (k ∷ ks)) (state_whole s) (finish s (k ∷ ks)) (ended (stage_of s) (state_shape s).around (k ∷ ks)) (step m s k) (led_from s k)
-    (state_ends s (k ∷ ks)) (λ t h z. passed ks m t e (omega arith) z) (follows m s k e (omega arith) g)
-
--- ---- what a call returns
-
-whole_ends : {X : Type 0} (rest : X → List Lexeme) (r : Result X ParseError) (p : Passed) (o : Outcome) → PassesAs rest r p → Agrees true p o → MachineEnds Whole rest r o
-whole_ends rest (Ok x) p o h a = let P : Passed → Type 0 = λ q. Agrees true q o in of_whole (subst P h a)
-  where
-    of_whole : {ks : List Symbol} → Agrees true (Passes ks) o → (e : Expr) × (o ≡ Accept (Whole e) ks)
-    of_whole (Whole e, i, f) = (e, f)
-    of_whole (Target v, i, f) = absurd i
-whole_ends rest (Err stop.Memory) p o h a = tt
-whole_ends rest (Err (stop.Stuck n)) p o h a = let P : Passed → Type 0 = λ q. Agrees true q o in subst P h a
-whole_ends rest (Err (stop.Deep n)) p o h a = absurd h
-whole_ends rest (Err stop.Long) p o h a = let P : Passed → Type 0 = λ q. Agrees true q o in subst P h a
-
-target_ends : {X : Type 0} (rest : X → List Lexeme) (r : Result X ParseError) (p : Passed) (o : Outcome) → PassesAs rest r p → Agrees false p o → MachineEnds Target rest r o
-target_ends rest (Ok x) p o h a = let P : Passed → Type 0 = λ q. Agrees false q o in of_target (subst P h a)
-  where
-    of_target : {ks : List Symbol} → Agrees false (Passes ks) o → (v : Variable) × (o ≡ Accept (Target v) ks)
-    of_target (Whole e, i, f) = absurd i
-    of_target (Target v, i, f) = (v, f)
-target_ends rest (Err stop.Memory) p o h a = tt
-target_ends rest (Err (stop.Stuck n)) p o h a = let P : Passed → Type 0 = λ q. Agrees false q o in subst P h a
-target_ends rest (Err (stop.Deep n)) p o h a = absurd h
-target_ends rest (Err stop.Long) p o h a = let P : Passed → Type 0 = λ q. Agrees false q o in subst P h a
-
--- one token less, and again
-pub end_next : (ks ms : List Token) → (k : Token) × (ks ≡ k ∷ ms) → IsEndOf ks ms
-end_next ks ms h = (h.0 ∷ [], h.1)
-
-pub end_more : (ks ms ns : List Token) → IsEndOf ks ms → (k : Token) × (ms ≡ k ∷ ns) → IsEndOf ks ns
-end_more ks ms ns e h = (e.0 ++ h.0 ∷ [], e.1 ∙ ap (λ (zs : List Token). e.0 ++ zs) h.1 ∙ sym (append_assoc e.0 (h.0 ∷ []) ns))
-
-seen_length : (ls : List Lexeme) → length (symbols_seen ls) ≡ length ls
-seen_length [] = refl
-seen_length (l ∷ ls) = let h = seen_length ls in omega arith
-
-pub ends_whole : {X : Type 0} (rest : X → List Lexeme) (r : Result X ParseError) (ls : List Lexeme) (m : Limits) → m.width ≡ 31 → length ls < m.depth →
-    PassesAs rest r (pass (symbols_seen ls) stage.Operand around.Alone []) → MachineEnds Whole rest r (run m (symbols_seen ls) (Wanted (Front Alone)))
-ends_whole rest r ls m e i h =
-    let ks = symbols_seen ls in
-    let n = seen_length ls in
-    whole_ends rest r (pass ks stage.Operand around.Alone []) (run m ks (Wanted (Front Alone))) h (passed ks m (Wanted (Front Alone)) e (omega arith) tt)
-
-pub ends_target : {X : Type 0} (rest : X → List Lexeme) (r : Result X ParseError) (ls : List Lexeme) (m : Limits) → m.width ≡ 31 → length ls < m.depth →
-    PassesAs rest r (pass (symbols_seen ls) stage.Variable around.Target []) → MachineEnds Target rest r (run m (symbols_seen ls) (Sought AsTarget))
-ends_target rest r ls m e i h =
-    let ks = symbols_seen ls in
-    let n = seen_length ls in
-    target_ends rest r (pass ks stage.Variable around.Target []) (run m ks (Sought AsTarget)) h (passed ks m (Sought AsTarget) e (omega arith) tt)

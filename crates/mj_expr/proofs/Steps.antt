@@ -8,17 +8,18 @@ use Rattle.mj_ast.specs.declared.expr.Scope.{Scope}
 use Rattle.mj_oper.specs.declared.op.Op.{Op}
 use Rattle.mj_ast.specs.declared.function.NameFunction.{NameFunction}
 use Rattle.mj_ast.specs.declared.function.Callee.{Callee}
-use Rattle.mj_ast.specs.Syntax.{Expr, Chain, Tails, Done, Operand, Value, Unary, About, Select, Variable, Var, Exprs, No, More, Choices, Last, Before}
-use Rattle.mj_ast.specs.Expressions.{Symbol, Constant, Inherent, Name, Applied, Overlong, Mark, Other, count, subscript_count, least_subscripts, most_others, levels, constant_of, function_symbol}
-use Rattle.mj_expr.specs.Machine.{Outer, Alone, InList, InOther, InCondition, InChoice, Owner, Subscripts, Arguments, Within, Front, Right, Under, Place, AsOperand, AsNamed, AsTarget, Pairs, NoPairs, Pair, and_pair, before_choices, State, Wanted, Named, Calling, Behind, Held, Got, filled, placed, closed, held, Limits, Next, Go, Stuck, Deep, Long, Outcome, Accept, StuckAt, DeepAt, Whole, Target, run, turn, refused_in, and_more, and_then, hold_sign, depth_of, place_depth, inside, suffices, least_of, most_of, is_limited}
-use Rattle.mj_expr.specs.Reads.{limits, symbols_seen, ReadsSymbols, Refuses, HasNoBinary, HasNoOpen, HasNoComma, HasNoColon, HasNoClose, StartsBinary, kind_of, least_in, most_in, limited_in}
+use Rattle.mj_ast.specs.Syntax.{Expr, Chain, Tails, Done, Operand, Value, Unary, About, Select, Extrinsic, Variable, Var, Exprs, No, More, Choices, Last, Before, Actuals, NoActual, Given, Omitted, Target as EntryAt}
+use Rattle.mj_ast.specs.Expressions.{Symbol, Constant, Inherent, Name, Applied, Entry, Overlong, Mark, Other, count, subscript_count, least_subscripts, most_others, levels, constant_of, function_symbol}
+use Rattle.mj_expr.specs.Machine.{Outer, Alone, InList, InOther, InCondition, InChoice, InActuals, Owner, Subscripts, Arguments, Within, Front, Right, Under, Place, AsOperand, AsNamed, AsTarget, Pairs, NoPairs, Pair, and_pair, before_choices, State, Wanted, Named, Entering, Routed, Calling, Behind, Held, Got, filled, placed, closed, held, Limits, Next, Go, Stuck, Deep, Long, Outcome, Accept, StuckAt, DeepAt, Whole, Target, run, turn, refused_in, and_more, and_then, and_given, and_omitted, entry_at, hold_sign, depth_of, place_depth, inside, suffices, least_of, most_of, is_limited}
+use Rattle.mj_expr.specs.Reads.{limits, symbols_seen, ReadsSymbols, Refuses, HasNoBinary, HasNoOpen, HasNoComma, HasNoColon, HasNoClose, HasNoCaret, StartsBinary, kind_of, least_in, most_in, limited_in}
+use Rattle.mj_expr.specs.Readers.{IsWhole}
 use Rattle.mj_expr.specs.Lists.{behind_from, behind_list}
 use Rattle.mj_expr.specs.declared.token.ListKind.{ListKind}
 use Rattle.mj_expr.specs.declared.stop.ParseError.{ParseError}
 use Rattle.mj_expr.specs.declared.stop.ParseError.TheVariants as stop
 use Rattle.mj_text.specs.declared.fault.Fault.{Fault}
 use Rattle.mj_lex.specs.declared.token.Lexeme.{Lexeme}
-use Rattle.mj_expr.proofs.Zipper.{joined}
+use Rattle.mj_expr.proofs.Zipper.{joined, continued}
 
 some_none : {A : Type 0} (x : A) → Some x ≡ None → ⊥
 some_none x e = cc
@@ -166,6 +167,7 @@ held_refuses m (Constant v ∷ ks) w before (Chain x r) b c d = refl
 held_refuses m (Inherent v ∷ ks) w before (Chain x r) b c d = refl
 held_refuses m (Name v ∷ ks) w before (Chain x r) b c d = refl
 held_refuses m (Applied v ∷ ks) w before (Chain x r) b c d = refl
+held_refuses m (Entry v ∷ ks) w before (Chain x r) b c d = refl
 held_refuses m (Overlong ∷ ks) w before (Chain x r) b c d = refl
 held_refuses m (Other ∷ ks) w before (Chain x r) b c d = refl
 held_refuses m (Mark Close ∷ ks) w before (Chain x r) b c d = absurd d
@@ -186,6 +188,7 @@ held_few m (Constant v ∷ ks) w before (Chain x r) e b c = refl
 held_few m (Inherent v ∷ ks) w before (Chain x r) e b c = refl
 held_few m (Name v ∷ ks) w before (Chain x r) e b c = refl
 held_few m (Applied v ∷ ks) w before (Chain x r) e b c = refl
+held_few m (Entry v ∷ ks) w before (Chain x r) e b c = refl
 held_few m (Overlong ∷ ks) w before (Chain x r) e b c = refl
 held_few m (Other ∷ ks) w before (Chain x r) e b c = refl
 held_few m (Mark Close ∷ ks) w before (Chain x r) e b c = ap (λ (v : Bool). turn m ks (Held x r (InList w before)) (Mark Close) (cond v (Go (closed w (and_more before (Chain x r)))) Stuck)) e
@@ -250,6 +253,7 @@ condition_refuses m (Constant v ∷ ks) ps (Chain x r) c b d = refl
 condition_refuses m (Inherent v ∷ ks) ps (Chain x r) c b d = refl
 condition_refuses m (Name v ∷ ks) ps (Chain x r) c b d = refl
 condition_refuses m (Applied v ∷ ks) ps (Chain x r) c b d = refl
+condition_refuses m (Entry v ∷ ks) ps (Chain x r) c b d = refl
 condition_refuses m (Overlong ∷ ks) ps (Chain x r) c b d = refl
 condition_refuses m (Other ∷ ks) ps (Chain x r) c b d = refl
 condition_refuses m (Mark Close ∷ ks) ps (Chain x r) c b d = refl
@@ -269,6 +273,7 @@ choice_refuses m (Constant v ∷ ks) ps a (Chain x r) c b d f = refl
 choice_refuses m (Inherent v ∷ ks) ps a (Chain x r) c b d f = refl
 choice_refuses m (Name v ∷ ks) ps a (Chain x r) c b d f = refl
 choice_refuses m (Applied v ∷ ks) ps a (Chain x r) c b d f = refl
+choice_refuses m (Entry v ∷ ks) ps a (Chain x r) c b d f = refl
 choice_refuses m (Overlong ∷ ks) ps a (Chain x r) c b d f = refl
 choice_refuses m (Other ∷ ks) ps a (Chain x r) c b d f = refl
 choice_refuses m (Mark Close ∷ ks) ps a (Chain x r) c b d f = absurd f
@@ -326,6 +331,7 @@ about_bare m (Constant u ∷ ks) f v c h = refl
 about_bare m (Inherent u ∷ ks) f v c h = refl
 about_bare m (Name u ∷ ks) f v c h = refl
 about_bare m (Applied u ∷ ks) f v c h = refl
+about_bare m (Entry u ∷ ks) f v c h = refl
 about_bare m (Overlong ∷ ks) f v c h = refl
 about_bare m (Other ∷ ks) f v c h = refl
 about_bare m (Mark Close ∷ ks) f v c h = ap (λ (b : Bool). turn m ks (Behind f v c) (Mark Close) (cond b (Go (filled (About f v No) c)) Stuck)) (most_false (least_subscripts f) (subscript_count v) h)
@@ -339,6 +345,7 @@ about_refuses m (Constant u ∷ ks) f v c h i = refl
 about_refuses m (Inherent u ∷ ks) f v c h i = refl
 about_refuses m (Name u ∷ ks) f v c h i = refl
 about_refuses m (Applied u ∷ ks) f v c h i = refl
+about_refuses m (Entry u ∷ ks) f v c h i = refl
 about_refuses m (Overlong ∷ ks) f v c h i = refl
 about_refuses m (Other ∷ ks) f v c h i = refl
 about_refuses m (Mark Close ∷ ks) f v c h i = absurd h
@@ -352,6 +359,7 @@ about_full m (Constant u ∷ ks) f v c h i = refl
 about_full m (Inherent u ∷ ks) f v c h i = refl
 about_full m (Name u ∷ ks) f v c h i = refl
 about_full m (Applied u ∷ ks) f v c h i = refl
+about_full m (Entry u ∷ ks) f v c h i = refl
 about_full m (Overlong ∷ ks) f v c h i = refl
 about_full m (Other ∷ ks) f v c h i = refl
 about_full m (Mark Close ∷ ks) f v c h i = absurd h
@@ -374,6 +382,7 @@ other_refuses m (Constant u ∷ ks) f v (Chain x r) c b d = refl
 other_refuses m (Inherent u ∷ ks) f v (Chain x r) c b d = refl
 other_refuses m (Name u ∷ ks) f v (Chain x r) c b d = refl
 other_refuses m (Applied u ∷ ks) f v (Chain x r) c b d = refl
+other_refuses m (Entry u ∷ ks) f v (Chain x r) c b d = refl
 other_refuses m (Overlong ∷ ks) f v (Chain x r) c b d = refl
 other_refuses m (Other ∷ ks) f v (Chain x r) c b d = refl
 other_refuses m (Mark Close ∷ ks) f v (Chain x r) c b d = absurd d
@@ -386,6 +395,114 @@ other_refuses m (Mark Apostrophe ∷ ks) f v (Chain x r) c b d = refl
 other_refuses m (Mark Question ∷ ks) f v (Chain x r) c b d = refl
 other_refuses m (Mark NegatedQuestion ∷ ks) f v (Chain x r) c b d = refl
 other_refuses m (Mark s ∷ ks) f v (Chain x r) c b d = absurd (some_none _ b)
+
+-- ---- functions that are written in M
+
+pub given_more : (es : Actuals) (e : Expr) (fs : Actuals) → continued (and_given es e) fs ≡ continued es (Given e fs)
+given_more NoActual e fs = refl
+given_more (Given f es) e fs = ap (Given f) (given_more es e fs)
+given_more (Omitted es) e fs = ap Omitted (given_more es e fs)
+
+pub given_last : (es : Actuals) (e : Expr) → continued es (Given e NoActual) ≡ and_given es e
+given_last NoActual e = refl
+given_last (Given f es) e = ap (Given f) (given_last es e)
+given_last (Omitted es) e = ap Omitted (given_last es e)
+
+pub omitted_more : (es fs : Actuals) → continued (and_omitted es) fs ≡ continued es (Omitted fs)
+omitted_more NoActual fs = refl
+omitted_more (Given f es) fs = ap (Given f) (omitted_more es fs)
+omitted_more (Omitted es) fs = ap Omitted (omitted_more es fs)
+
+pub omitted_last : (es : Actuals) → continued es (Omitted NoActual) ≡ and_omitted es
+omitted_last NoActual = refl
+omitted_last (Given f es) = ap (Given f) (omitted_last es)
+omitted_last (Omitted es) = ap Omitted (omitted_last es)
+
+pub given_goes : (m : Limits) (ks : List Symbol) (t : EntryAt) (es : Actuals) (e : Expr) (c : Within) →
+    run m (Mark Comma ∷ ks) (held e (InActuals t es c)) ≡ run m ks (Wanted (Front (InActuals t (and_given es e) c)))
+given_goes m ks t es (Chain x r) c = refl
+
+pub given_closes : (m : Limits) (ks : List Symbol) (t : EntryAt) (es : Actuals) (e : Expr) (c : Within) →
+    run m (Mark Close ∷ ks) (held e (InActuals t es c)) ≡ run m ks (filled (Extrinsic t (and_given es e)) c)
+given_closes m ks t es (Chain x r) c = refl
+
+pub given_refuses : (m : Limits) (ks : List Symbol) (t : EntryAt) (es : Actuals) (e : Expr) (c : Within) → HasNoBinary ks → HasNoComma ks → HasNoClose ks →
+    run m ks (held e (InActuals t es c)) ≡ refused_in false ks
+given_refuses m [] t es (Chain x r) c b d f = refl
+given_refuses m (Constant v ∷ ks) t es (Chain x r) c b d f = refl
+given_refuses m (Inherent v ∷ ks) t es (Chain x r) c b d f = refl
+given_refuses m (Name v ∷ ks) t es (Chain x r) c b d f = refl
+given_refuses m (Applied v ∷ ks) t es (Chain x r) c b d f = refl
+given_refuses m (Entry v ∷ ks) t es (Chain x r) c b d f = refl
+given_refuses m (Overlong ∷ ks) t es (Chain x r) c b d f = refl
+given_refuses m (Other ∷ ks) t es (Chain x r) c b d f = refl
+given_refuses m (Mark Close ∷ ks) t es (Chain x r) c b d f = absurd f
+given_refuses m (Mark Comma ∷ ks) t es (Chain x r) c b d f = absurd d
+given_refuses m (Mark Caret ∷ ks) t es (Chain x r) c b d f = refl
+given_refuses m (Mark Open ∷ ks) t es (Chain x r) c b d f = refl
+given_refuses m (Mark Colon ∷ ks) t es (Chain x r) c b d f = refl
+given_refuses m (Mark Dot ∷ ks) t es (Chain x r) c b d f = refl
+given_refuses m (Mark Apostrophe ∷ ks) t es (Chain x r) c b d f = refl
+given_refuses m (Mark Question ∷ ks) t es (Chain x r) c b d f = refl
+given_refuses m (Mark NegatedQuestion ∷ ks) t es (Chain x r) c b d f = refl
+given_refuses m (Mark s ∷ ks) t es (Chain x r) c b d f = absurd (some_none _ b)
+
+pub omitted_goes : (m : Limits) (ks : List Symbol) (t : EntryAt) (es : Actuals) (c : Within) →
+    run m (Mark Comma ∷ ks) (Wanted (Front (InActuals t es c))) ≡ run m ks (Wanted (Front (InActuals t (and_omitted es) c)))
+omitted_goes m ks t es c = refl
+
+pub omitted_closes : (m : Limits) (ks : List Symbol) (t : EntryAt) (es : Actuals) (c : Within) →
+    run m (Mark Close ∷ ks) (Wanted (Front (InActuals t es c))) ≡ run m ks (filled (Extrinsic t (and_omitted es)) c)
+omitted_closes m ks t es c = refl
+
+-- a function without actuals
+entry_as : (m : Limits) (label routine : Option (List ℕ)) (c : Within) (ks : List Symbol) (y : Operand) (r : Tails) (o : Outer) →
+    filled (Extrinsic (entry_at label routine) NoActual) c ≡ Held y r o → HasNoOpen ks → IsWhole label routine ks →
+    run m ks (Entering label routine c) ≡ run m ks (filled (Extrinsic (entry_at label routine) NoActual) c)
+entry_as m None None c ks y r o e h w = absurd w
+entry_as m (Some l) None c [] y r o e h w = rw e refl
+entry_as m (Some l) None c (Mark Open ∷ ks) y r o e h w = absurd h
+entry_as m (Some l) None c (Mark Caret ∷ ks) y r o e h w = absurd w
+entry_as m (Some l) None c (k ∷ ks) y r o e h w = rw e refl
+entry_as m None (Some n) c [] y r o e h w = rw e refl
+entry_as m None (Some n) c (Mark Open ∷ ks) y r o e h w = absurd h
+entry_as m None (Some n) c (k ∷ ks) y r o e h w = rw e refl
+entry_as m (Some l) (Some n) c [] y r o e h w = rw e refl
+entry_as m (Some l) (Some n) c (Mark Open ∷ ks) y r o e h w = absurd h
+entry_as m (Some l) (Some n) c (k ∷ ks) y r o e h w = rw e refl
+
+pub entry_ends : (m : Limits) (label routine : Option (List ℕ)) (c : Within) (ks : List Symbol) → HasNoOpen ks → IsWhole label routine ks →
+    run m ks (Entering label routine c) ≡ run m ks (filled (Extrinsic (entry_at label routine) NoActual) c)
+entry_ends m label routine c ks h w = let e = filled_holds (Extrinsic (entry_at label routine) NoActual) c in entry_as m label routine c ks e.0 e.1 e.2 e.3 h w
+
+-- actuals open
+abbrev actuals_at : Option (List ℕ) → Option (List ℕ) → Within → Bool → Next
+actuals_at label routine c b = cond b (Go (Wanted (Front (InActuals (entry_at label routine) NoActual c)))) Deep
+
+opened_by : (m : Limits) (label routine : Option (List ℕ)) (c : Within) (ks : List Symbol) → IsWhole label routine (Mark Open ∷ ks) →
+    run m (Mark Open ∷ ks) (Entering label routine c) ≡ turn m ks (Entering label routine c) (Mark Open) (actuals_at label routine c (nat_lt (depth_of c) m.depth))
+opened_by m None None c ks w = absurd w
+opened_by m (Some l) None c ks w = refl
+opened_by m None (Some n) c ks w = refl
+opened_by m (Some l) (Some n) c ks w = refl
+
+pub actuals_open : (m : Limits) (ks : List Symbol) (label routine : Option (List ℕ)) (c : Within) → depth_of c < m.depth → IsWhole label routine (Mark Open ∷ ks) →
+    run m (Mark Open ∷ ks) (Entering label routine c) ≡ run m ks (Wanted (Front (InActuals (entry_at label routine) NoActual c)))
+actuals_open m ks label routine c h w =
+    opened_by m label routine c ks w
+    ∙ ap (λ (b : Bool). turn m ks (Entering label routine c) (Mark Open) (actuals_at label routine c b)) (less_true (depth_of c) m.depth h)
+
+pub actuals_deep : (m : Limits) (ks : List Symbol) (label routine : Option (List ℕ)) (c : Within) → m.depth ≤ depth_of c → IsWhole label routine (Mark Open ∷ ks) →
+    run m (Mark Open ∷ ks) (Entering label routine c) ≡ DeepAt (length (Mark Open ∷ ks))
+actuals_deep m ks label routine c h w =
+    opened_by m label routine c ks w
+    ∙ ap (λ (b : Bool). turn m ks (Entering label routine c) (Mark Open) (actuals_at label routine c b)) (less_false (depth_of c) m.depth h)
+
+-- the routine of an entry
+pub caret_goes : (m : Limits) (ks : List Symbol) (label : Option (List ℕ)) (word : List ℕ) (c : Within) →
+    run m (Mark Caret ∷ Name word ∷ ks) (Entering label None c) ≡ run m ks (Entering label (Some word) c)
+caret_goes m ks None word c = refl
+caret_goes m ks (Some l) word c = refl
 
 -- ---- refusals by tokens
 
@@ -454,6 +571,7 @@ whole_done m (Chain x r) (Constant v ∷ ks) h = refl
 whole_done m (Chain x r) (Inherent v ∷ ks) h = refl
 whole_done m (Chain x r) (Name w ∷ ks) h = refl
 whole_done m (Chain x r) (Applied v ∷ ks) h = refl
+whole_done m (Chain x r) (Entry v ∷ ks) h = refl
 whole_done m (Chain x r) (Overlong ∷ ks) h = refl
 whole_done m (Chain x r) (Other ∷ ks) h = refl
 whole_done m (Chain x r) (Mark Close ∷ ks) h = refl

@@ -1,5 +1,5 @@
 -- What a run says of the tokens.
-use Rattle.std.proofs.Common.{◌≡◌, ℕ, zero, suc, ◌+◌, ◌-◌, ◌≤◌, List, [], ◌∷◌, ◌++◌, refl, ap, sym, ◌∙◌, subst, append_assoc, append-nil, arith, map}
+use Rattle.std.proofs.Common.{◌≡◌, Option, Some, None, ℕ, zero, suc, ◌+◌, ◌-◌, ◌≤◌, List, [], ◌∷◌, ◌++◌, refl, ap, sym, ◌∙◌, subst, append_assoc, append-nil, arith, map}
 use Rattle.std.specs.Prelude.{pos}
 use Rattle.std.proofs.lemmas.List.{map-append}
 use Rattle.mj_num.specs.Number.{canonic_text}
@@ -7,12 +7,12 @@ use Rattle.mj_ast.specs.declared.sign.Sign.TheVariants.{Caret, Open, Close, Comm
 use Rattle.mj_ast.specs.declared.function.Callee.TheVariants as callee
 use Rattle.mj_ast.specs.declared.expr.Scope.{Scope}
 use Rattle.mj_ast.specs.declared.expr.Scope.TheVariants.{Local, Global}
-use Rattle.mj_ast.specs.Syntax.{Expr, Chain, Operand, Literal, Value, Call, About, Select, Tails, Variable, Var, No, Last}
+use Rattle.mj_ast.specs.Syntax.{Expr, Chain, Operand, Literal, Value, Call, About, Select, Tails, Variable, Var, No, Last, Extrinsic, NoActual}
 use Rattle.mj_ast.specs.Tokens.{Token, Word, Digits, Signed}
-use Rattle.mj_ast.specs.Expressions.{Symbol, Constant, Inherent, Name, Applied, Overlong, Mark, Other, symbol, Phrases, expressions, variables, expr_symbols, variable_symbols, operand_symbols, scoped, list_symbols, more_symbols, count, least, least_subscripts, expr_nesting, variable_nesting, expr_width, variable_width, expr_misfits, variable_misfits}
-use Rattle.mj_expr.specs.Machine.{Outer, Alone, InGroup, InList, InOther, InCondition, InChoice, Owner, Subscripts, Arguments, Within, Front, Right, Under, Place, AsOperand, AsNamed, AsTarget, State, Wanted, Sought, Marked, Named, Calling, Behind, Held, Got, Limits, least_of, Phrase, Whole, Target, Accept, refused, ends, finish}
+use Rattle.mj_ast.specs.Expressions.{Symbol, Constant, Inherent, Name, Applied, Entry, Overlong, Mark, Other, symbol, Phrases, expressions, variables, expr_symbols, variable_symbols, operand_symbols, routine_symbols, entry_misfits, scoped, list_symbols, more_symbols, count, least, least_subscripts, expr_nesting, variable_nesting, expr_width, variable_width, expr_misfits, variable_misfits}
+use Rattle.mj_expr.specs.Machine.{Outer, Alone, InGroup, InList, InOther, InCondition, InChoice, InActuals, Owner, Subscripts, Arguments, Within, Front, Right, Under, Place, AsOperand, AsNamed, AsTarget, State, Wanted, Sought, Marked, Named, Entering, Routed, Calling, Behind, Held, Got, entry_at, filled, Limits, least_of, Phrase, Whole, Target, Accept, refused, ends, finish}
 use Rattle.mj_expr.proofs.Zipper.{Kind, AnExpression, AVariable, IsKind, plug, outer_plug, place_plug, plug_symbols, outer_plug_symbols, place_plug_symbols, before, outer_before, place_before, after, outer_after, owner_after, place_after, phrase_symbols, phrase_nesting, phrase_width, phrase_misfits, start, ForExpression, ForVariable, zero_expr, pad, pad_count, pad_nesting, pad_list, pad_width, pad_misfits, list_nesting-some, scoped-append, least_most, least_at}
-use Rattle.mj_expr.proofs.Room.{Fits, HasRead, good_depth, plug_fits, outer_plug_fits, place_plug_fits, place_good_room, place_good_width}
+use Rattle.mj_expr.proofs.Room.{Fits, HasRead, Good, entry_read, good_depth, plug_fits, outer_plug_fits, place_plug_fits, place_good_room, place_good_width}
 use Rattle.mj_expr.proofs.Facts.{filled_outer}
 use Rattle.mj_expr.proofs.States.{variable_read}
 
@@ -70,6 +70,7 @@ mutual
       let h = closers c in
       (Signed Colon ∷ Digits (48 ∷ []) ∷ Signed Close ∷ h.0, ap (λ (zs : List Symbol). Mark Colon ∷ (expr_symbols zero_expr ++ Mark Close ∷ zs)) h.1)
   outer_closers (InChoice ps a c) = let h = closers c in (Signed Close ∷ h.0, ap (λ (zs : List Symbol). Mark Close ∷ zs) h.1)
+  outer_closers (InActuals t es c) = let h = closers c in (Signed Close ∷ h.0, ap (λ (zs : List Symbol). Mark Close ∷ zs) h.1)
 
   owner_closers : (u : Owner) → (ts : List Token) × (map symbol ts ≡ owner_after u)
   owner_closers (Subscripts scope word p) = place_closers p
@@ -102,6 +103,19 @@ goes_on K m p xs ys zs ks tokens closing f e g h = record {
       ∙ sym (append_assoc ks (map symbol tokens) zs) ∙ ap (λ (v : List Symbol). v ++ zs) (sym h) ∙ append_assoc xs ys zs ∙ sym e;
   fits = f;
 }
+
+-- a function without actuals, whose entry was read or begun
+entry_goes : (K : Kind) (m : Limits) (label routine : Option (List ℕ)) (c : Within) (ks : List Symbol) (tokens : List Token) → Good K m c → entry_misfits label routine ≡ 0 →
+    before c ++ Entry label ∷ routine_symbols routine ≡ ks ++ map symbol tokens → GoesOn K m ks
+entry_goes K m label routine c ks tokens g f e =
+    let t : Operand = Extrinsic (entry_at label routine) NoActual in
+    goes_on K m (plug c t) (before c) (operand_symbols t) (after c) ks tokens (closers c).0
+    (plug_fits c K m t g (omega (arith, good_depth K m c g)) (omega arith) (omega (arith, f))) (plug_symbols c t) (closers c).1
+    (ap (λ (u : List Symbol). before c ++ Entry label ∷ u) (append-nil (routine_symbols routine)) ∙ e)
+
+some_fits : (label : Option (List ℕ)) (word : List ℕ) → entry_misfits label (Some word) ≡ 0
+some_fits None word = refl
+some_fits (Some l) word = refl
 
 pub read_goes : (K : Kind) (m : Limits) (s : State) (ks : List Symbol) → HasRead K m s ks → GoesOn K m ks
 read_goes K m (Wanted c) ks h =
@@ -139,6 +153,14 @@ read_goes K m (Named scope word p) ks h =
     (ap (λ (u : List Symbol). place_before p ++ u) (sym (scoped-append scope (Name word ∷ []) (list_symbols (pad n)))) ∙
     sym (append_assoc (place_before p) (scoped scope (Name word ∷ [])) (list_symbols (pad n))) ∙
     ap (λ (u : List Symbol). u ++ list_symbols (pad n)) h.read ∙ ap (λ (u : List Symbol). ks ++ u) (sym k.1))
+read_goes K m (Entering None None c) ks h =
+    entry_goes K m None (Some (65 ∷ [])) c ks (Signed Caret ∷ Word (65 ∷ []) ∷ []) h.good refl
+    (sym (append_assoc (before c) (Entry None ∷ []) (Mark Caret ∷ Name (65 ∷ []) ∷ [])) ∙ ap (λ (u : List Symbol). u ++ Mark Caret ∷ Name (65 ∷ []) ∷ []) h.read)
+read_goes K m (Entering (Some l) None c) ks h = entry_goes K m (Some l) None c ks [] h.good refl (h.read ∙ sym (append-nil ks))
+read_goes K m (Entering label (Some word) c) ks h = entry_goes K m label (Some word) c ks [] h.good (some_fits label word) (h.read ∙ sym (append-nil ks))
+read_goes K m (Routed label c) ks h =
+    entry_goes K m label (Some (65 ∷ [])) c ks (Word (65 ∷ []) ∷ []) h.good (some_fits label (65 ∷ []))
+    (sym (append_assoc (before c) (Entry label ∷ Mark Caret ∷ []) (Name (65 ∷ []) ∷ [])) ∙ ap (λ (u : List Symbol). u ++ Name (65 ∷ []) ∷ []) h.read)
 read_goes K m (Calling (callee.Names f) c) ks h =
     let n = least_subscripts f in
     let v : Variable = Var Local (65 ∷ []) (pad n) in
@@ -195,6 +217,7 @@ refused_accept (Constant v ∷ ks) p r e = cc
 refused_accept (Inherent v ∷ ks) p r e = cc
 refused_accept (Name w ∷ ks) p r e = cc
 refused_accept (Applied f ∷ ks) p r e = cc
+refused_accept (Entry l ∷ ks) p r e = cc
 refused_accept (Mark s ∷ ks) p r e = cc
 refused_accept (Other ∷ ks) p r e = cc
 
@@ -235,6 +258,7 @@ held_accepts K m x t (InList u es) s ks p r front again h e = absurd (refused_ac
 held_accepts K m x t (InOther f v c) s ks p r front again h e = absurd (refused_accept ks p r (sym (again ks) ∙ e))
 held_accepts K m x t (InCondition ps c) s ks p r front again h e = absurd (refused_accept ks p r (sym (again ks) ∙ e))
 held_accepts K m x t (InChoice ps a c) s ks p r front again h e = absurd (refused_accept ks p r (sym (again ks) ∙ e))
+held_accepts K m x t (InActuals u es c) s ks p r front again h e = absurd (refused_accept ks p r (sym (again ks) ∙ e))
 
 named_accepts : (K : Kind) (m : Limits) (scope : Scope) (word : List ℕ) (q : Place) (ks : List Symbol) (p : Phrase) (r front : List Symbol) →
     HasRead K m (Named scope word q) front → finish (Named scope word q) ks ≡ Accept p r → Accepts K m (Named scope word q) ks p r front
@@ -248,11 +272,24 @@ named_accepts K m scope word AsTarget ks p r front h e =
     let g = variable_read K m scope word AsTarget front (omega arith) h in
     target_accepts K m (Var scope word No) (Named scope word AsTarget) ks p r front (λ ls. refl) g.good.0 g.good.1 g.good.2 g.good.3 g.read e
 
+entry_accepts : (K : Kind) (m : Limits) (label routine : Option (List ℕ)) (c : Within) (ks : List Symbol) (p : Phrase) (r front : List Symbol) → entry_misfits label routine ≡ 0 →
+    ((ls : List Symbol) → finish (Entering label routine c) ls ≡ ends (filled (Extrinsic (entry_at label routine) NoActual) c) ls) →
+    HasRead K m (Entering label routine c) front → finish (Entering label routine c) ks ≡ Accept p r → Accepts K m (Entering label routine c) ks p r front
+entry_accepts K m label routine c ks p r front n same h e =
+    let f = filled_outer (Extrinsic (entry_at label routine) NoActual) c in
+    let P : State → Type 0 = λ s. HasRead K m s front in
+    held_accepts K m f.0 f.1 _ (Entering label routine c) ks p r front (λ ls. same ls ∙ ap (λ (s : State). ends s ls) f.2) (subst P f.2 (entry_read K m label routine c front n h)) e
+
 pub accepts : (K : Kind) (m : Limits) (s : State) (ks : List Symbol) (p : Phrase) (r front : List Symbol) → HasRead K m s front → finish s ks ≡ Accept p r → Accepts K m s ks p r front
 accepts K m (Wanted c) ks p r front h e = absurd (refused_accept ks p r e)
 accepts K m (Sought q) ks p r front h e = absurd (refused_accept ks p r e)
 accepts K m (Marked q) ks p r front h e = absurd (refused_accept ks p r e)
 accepts K m (Named scope word q) ks p r front h e = named_accepts K m scope word q ks p r front h e
+accepts K m (Entering None None c) ks p r front h e = absurd (refused_accept ks p r e)
+accepts K m (Entering (Some l) None c) ks p r front h e = entry_accepts K m (Some l) None c ks p r front refl (λ ls. refl) h e
+accepts K m (Entering None (Some n) c) ks p r front h e = entry_accepts K m None (Some n) c ks p r front refl (λ ls. refl) h e
+accepts K m (Entering (Some l) (Some n) c) ks p r front h e = entry_accepts K m (Some l) (Some n) c ks p r front refl (λ ls. refl) h e
+accepts K m (Routed label c) ks p r front h e = absurd (refused_accept ks p r e)
 accepts K m (Calling f c) ks p r front h e = absurd (refused_accept ks p r e)
 accepts K m (Behind f v c) ks p r front h e = absurd (refused_accept ks p r e)
 accepts K m (Held x t o) ks p r front h e = held_accepts K m x t o (Held x t o) ks p r front (λ ls. refl) h e

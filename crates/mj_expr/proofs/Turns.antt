@@ -1,17 +1,16 @@
--- Where a phrase ends, and what is known at any state of commas, constants and names.
-use Rattle.std.proofs.Common.{◌≡◌, ℕ, ◌+◌, ◌≤◌, List, [], ◌∷◌, length, refl, ap, sym, ◌∙◌, subst, Bool, true, false, nat_lt, Option, Some, None, arith, nat_le}
-use Rattle.std.specs.Prelude.{cond, not, ◌&&◌}
+-- Where a phrase ends, and what is known at any state of constants and names.
+use Rattle.std.proofs.Common.{◌≡◌, ◌+◌, ◌≤◌, List, [], ◌∷◌, length, refl, ap, sym, ◌∙◌, subst, Bool, true, false, nat_lt, Option, Some, None, arith, nat_le}
+use Rattle.std.specs.Prelude.{cond}
 use Rattle.mj_ast.specs.declared.sign.Sign.{Sign}
 use Rattle.mj_ast.specs.declared.sign.Sign.TheVariants.{Caret, Open, Close, Comma, Colon}
 use Rattle.mj_oper.specs.declared.op.UnaryOp.{UnaryOp}
 use Rattle.mj_oper.specs.declared.op.Op.{Op}
-use Rattle.mj_ast.specs.declared.expr.Scope.TheVariants.{Local, Global}
-use Rattle.mj_ast.specs.Syntax.{Expr, Chain, Operand, Literal, Value, Intrinsic, Tails, Variable, Var, No, More, Group, Call, About, Select, Exprs, Last}
+use Rattle.mj_ast.specs.Syntax.{Expr, Chain, Operand, Literal, Value, Intrinsic, Tails, Variable, Var, No, More, Group, Call, About, Select, Extrinsic, Exprs, Last, NoActual}
 use Rattle.mj_ast.specs.declared.function.NameFunction.{NameFunction}
 use Rattle.mj_ast.specs.declared.function.Callee.{Callee}
 use Rattle.mj_ast.specs.declared.function.Callee.TheVariants as callee
-use Rattle.mj_ast.specs.Expressions.{Symbol, Constant, Inherent, Name, Applied, Overlong, Mark, Other, count, most_others, levels}
-use Rattle.mj_expr.specs.Machine.{Outer, Alone, InGroup, InList, InOther, InCondition, InChoice, Owner, Subscripts, Arguments, before_choices, least_of, most_of, is_limited, Within, Place, AsOperand, AsNamed, AsTarget, State, Wanted, Sought, Marked, Named, Calling, Behind, Held, Got, filled, placed, closed, outer_of, Limits, Next, Go, Stuck, Deep, Long, opens, opens_call, depth_of, suffices, after_variable, inside, is_full, is_full_in, stray_comma, want_other, want_sign, hold_other, hold_sign, hold, on, step, unary_of, binary_of, Phrase, Whole, Target, Accept, DeepAt, TooLong, refused, ends, finish, run, turn, and_more}
+use Rattle.mj_ast.specs.Expressions.{Symbol, Constant, Inherent, Name, Applied, Entry, Overlong, Mark, Other, count, most_others}
+use Rattle.mj_expr.specs.Machine.{Outer, Alone, InGroup, InList, InOther, InCondition, InChoice, InActuals, Owner, Subscripts, Arguments, before_choices, least_of, most_of, is_limited, Within, Front, Right, Under, Place, AsOperand, AsNamed, AsTarget, State, Wanted, Sought, Marked, Named, Entering, Routed, Calling, Behind, Held, Got, entry_at, and_given, and_omitted, comma_at, close_at, filled, placed, closed, outer_of, Limits, Next, Go, Stuck, Deep, Long, suffices, after_variable, inside, is_full, is_full_in, want_other, want_sign, hold_other, hold_sign, hold, on, step, unary_of, binary_of, Phrase, Whole, Target, Accept, DeepAt, TooLong, refused, ends, finish, run, turn, and_more}
 use Rattle.mj_expr.proofs.Facts.{filled_outer}
 use Rattle.mj_expr.proofs.Told.{accept_rest, accept_phrase}
 
@@ -24,6 +23,7 @@ no_accept (Constant v ∷ ks) p r e = cc
 no_accept (Inherent v ∷ ks) p r e = cc
 no_accept (Name w ∷ ks) p r e = cc
 no_accept (Applied f ∷ ks) p r e = cc
+no_accept (Entry l ∷ ks) p r e = cc
 no_accept (Mark s ∷ ks) p r e = cc
 no_accept (Other ∷ ks) p r e = cc
 
@@ -46,6 +46,9 @@ ends_again (Held x t (InList u es)) ks p r e = absurd (no_accept ks p r e)
 ends_again (Held x t (InOther f v c)) ks p r e = absurd (no_accept ks p r e)
 ends_again (Held x t (InCondition ps c)) ks p r e = absurd (no_accept ks p r e)
 ends_again (Held x t (InChoice ps a c)) ks p r e = absurd (no_accept ks p r e)
+ends_again (Held x t (InActuals u es c)) ks p r e = absurd (no_accept ks p r e)
+ends_again (Entering label routine c) ks p r e = absurd (no_accept ks p r e)
+ends_again (Routed label c) ks p r e = absurd (no_accept ks p r e)
 ends_again (Calling f c) ks p r e = absurd (no_accept ks p r e)
 ends_again (Behind f v c) ks p r e = absurd (no_accept ks p r e)
 ends_again (Got v) ks p r e = (accept_rest (Target v) p ks r e, λ ls. ap (λ (q : Phrase). Accept q ls) (accept_phrase (Target v) p ks r e))
@@ -58,6 +61,10 @@ finish_again (Wanted c) ks p r e = again_as (Wanted c) ks p r (ends_again (Wante
 finish_again (Sought q) ks p r e = again_as (Sought q) ks p r (ends_again (Sought q) ks p r e) (λ ls. refl)
 finish_again (Marked q) ks p r e = again_as (Marked q) ks p r (ends_again (Marked q) ks p r e) (λ ls. refl)
 finish_again (Named scope word q) ks p r e = let h = ends_again (placed (Var scope word No) q) ks p r e in record { rest = h.0; again = h.1 }
+finish_again (Entering None None c) ks p r e = again_as (Entering None None c) ks p r (ends_again (Entering None None c) ks p r e) (λ ls. refl)
+finish_again (Entering (Some l) n c) ks p r e = let h = ends_again (filled (Extrinsic (entry_at (Some l) n) NoActual) c) ks p r e in record { rest = h.0; again = h.1 }
+finish_again (Entering None (Some n) c) ks p r e = let h = ends_again (filled (Extrinsic (entry_at None (Some n)) NoActual) c) ks p r e in record { rest = h.0; again = h.1 }
+finish_again (Routed label c) ks p r e = again_as (Routed label c) ks p r (ends_again (Routed label c) ks p r e) (λ ls. refl)
 finish_again (Calling f c) ks p r e = again_as (Calling f c) ks p r (ends_again (Calling f c) ks p r e) (λ ls. refl)
 finish_again (Behind f v c) ks p r e = again_as (Behind f v c) ks p r (ends_again (Behind f v c) ks p r e) (λ ls. refl)
 finish_again (Held x t o) ks p r e = again_as (Held x t o) ks p r (ends_again (Held x t o) ks p r e) (λ ls. refl)
@@ -114,10 +121,33 @@ close_reached : (s : State) (b : Bool) → IsReached s → NextReached (cond b (
 close_reached s true h = h
 close_reached s false h = tt
 
+comma_at_reached : (m : Limits) (c : Within) → NextReached (comma_at m c)
+comma_at_reached m (Front Alone) = tt
+comma_at_reached m (Front (InGroup c)) = tt
+comma_at_reached m (Front (InList u es)) = full_reached (is_full m (InList u es))
+comma_at_reached m (Front (InOther f v c)) = tt
+comma_at_reached m (Front (InCondition ps c)) = tt
+comma_at_reached m (Front (InChoice ps a c)) = tt
+comma_at_reached m (Front (InActuals t es c)) = tt
+comma_at_reached m (Right x r op o) = full_reached (is_full m o)
+comma_at_reached m (Under op c) = full_reached (is_full m (outer_of c))
+
+close_at_reached : (c : Within) → NextReached (close_at c)
+close_at_reached (Front Alone) = tt
+close_at_reached (Front (InGroup c)) = tt
+close_at_reached (Front (InList u es)) = tt
+close_at_reached (Front (InOther f v c)) = tt
+close_at_reached (Front (InCondition ps c)) = tt
+close_at_reached (Front (InChoice ps a c)) = tt
+close_at_reached (Front (InActuals t es c)) = filled_reached (Extrinsic t (and_omitted es)) c
+close_at_reached (Right x r op o) = tt
+close_at_reached (Under op c) = tt
+
 want_other_reached : (m : Limits) (c : Within) (s : Sign) → NextReached (want_other m c s)
 want_other_reached m c Caret = tt
 want_other_reached m c Open = opens_reached _ (nat_lt _ m.depth) tt
-want_other_reached m c Comma = full_reached (is_full m (outer_of c))
+want_other_reached m c Comma = comma_at_reached m c
+want_other_reached m c Close = close_at_reached c
 want_other_reached m c s = tt
 
 want_sign_reached : (m : Limits) (c : Within) (s : Sign) (q : Option UnaryOp) → NextReached (want_sign m c s q)
@@ -131,18 +161,21 @@ hold_other_reached m e (InList u es) Close = close_reached _ (nat_le (least_of u
 hold_other_reached m e (InOther f v c) Close = filled_reached (About f v (More e No)) c
 hold_other_reached m e (InCondition ps c) Close = tt
 hold_other_reached m e (InChoice ps a c) Close = filled_reached (Select (before_choices ps (Last a e))) c
+hold_other_reached m e (InActuals t es c) Close = filled_reached (Extrinsic t (and_given es e)) c
 hold_other_reached m e Alone Colon = tt
 hold_other_reached m e (InGroup c) Colon = tt
 hold_other_reached m e (InList u es) Colon = tt
 hold_other_reached m e (InOther f v c) Colon = tt
 hold_other_reached m e (InCondition ps c) Colon = tt
 hold_other_reached m e (InChoice ps a c) Colon = tt
+hold_other_reached m e (InActuals t es c) Colon = tt
 hold_other_reached m e Alone Comma = tt
 hold_other_reached m e (InGroup c) Comma = tt
 hold_other_reached m e (InList u es) Comma = comma_reached _ (nat_lt (count es + 1) (most_of m u)) (is_limited u) tt
 hold_other_reached m e (InOther f v c) Comma = tt
 hold_other_reached m e (InCondition ps c) Comma = tt
 hold_other_reached m e (InChoice ps a c) Comma = tt
+hold_other_reached m e (InActuals t es c) Comma = tt
 hold_other_reached m e o s = tt
 
 hold_sign_reached : (m : Limits) (x : Operand) (r : Tails) (o : Outer) (s : Sign) (q : Option Op) → NextReached (hold_sign m x r o s q)
@@ -155,6 +188,7 @@ hold_reached m x r o (Constant v) = tt
 hold_reached m x r o (Inherent v) = tt
 hold_reached m x r o (Name w) = tt
 hold_reached m x r o (Applied f) = tt
+hold_reached m x r o (Entry l) = tt
 hold_reached m x r o Overlong = tt
 hold_reached m x r o Other = tt
 
@@ -179,6 +213,8 @@ on_reached m (Wanted c) k = tt
 on_reached m (Sought p) k = tt
 on_reached m (Marked p) k = tt
 on_reached m (Named scope word p) k = tt
+on_reached m (Entering label routine c) k = tt
+on_reached m (Routed label c) k = tt
 on_reached m (Calling f c) k = tt
 on_reached m (Got v) k = tt
 
@@ -187,6 +223,7 @@ step_reached m (Wanted c) (Constant v) = filled_reached (Literal v) c
 step_reached m (Wanted c) (Inherent v) = filled_reached (Intrinsic v) c
 step_reached m (Wanted c) (Name w) = tt
 step_reached m (Wanted c) (Applied f) = opens_reached _ (nat_le _ m.depth) tt
+step_reached m (Wanted c) (Entry l) = tt
 step_reached m (Wanted c) (Mark s) = want_sign_reached m c s (unary_of s)
 step_reached m (Wanted c) Overlong = tt
 step_reached m (Wanted c) Other = tt
@@ -198,6 +235,19 @@ step_reached m (Marked p) (Mark Comma) = full_reached (is_full_in m p)
 step_reached m (Marked p) k = tt
 step_reached m (Named scope word p) (Mark Open) = opens_reached _ (nat_lt _ m.depth) tt
 step_reached m (Named scope word p) k = on_reached m (placed (Var scope word No) p) k
+step_reached m (Entering None None c) (Mark Caret) = tt
+step_reached m (Entering None None c) (Mark Comma) = full_reached (is_full m (outer_of c))
+step_reached m (Entering None None c) k = tt
+step_reached m (Entering (Some l) None c) (Mark Caret) = tt
+step_reached m (Entering (Some l) None c) (Mark Open) = opens_reached _ (nat_lt _ m.depth) tt
+step_reached m (Entering (Some l) None c) k = on_reached m (filled (Extrinsic (entry_at (Some l) None) NoActual) c) k
+step_reached m (Entering None (Some n) c) (Mark Open) = opens_reached _ (nat_lt _ m.depth) tt
+step_reached m (Entering None (Some n) c) k = on_reached m (filled (Extrinsic (entry_at None (Some n)) NoActual) c) k
+step_reached m (Entering (Some l) (Some n) c) (Mark Open) = opens_reached _ (nat_lt _ m.depth) tt
+step_reached m (Entering (Some l) (Some n) c) k = on_reached m (filled (Extrinsic (entry_at (Some l) (Some n)) NoActual) c) k
+step_reached m (Routed label c) (Name w) = tt
+step_reached m (Routed label c) (Mark Comma) = full_reached (is_full m (outer_of c))
+step_reached m (Routed label c) k = tt
 step_reached m (Calling f c) (Mark Open) = inside_reached f c
 step_reached m (Calling f c) k = tt
 step_reached m (Behind f v c) k = behind_reached f v c k
@@ -219,23 +269,31 @@ IsEasy Stuck = Unit {0}
 IsEasy Deep = ⊥
 IsEasy Long = ⊥
 
-on_stuck : (m : Limits) (v : Variable) (p : Place) (k : Symbol) → ((x : Operand) (r : Tails) (o : Outer) → hold m x r o k ≡ Stuck) →
+pub on_stuck : (m : Limits) (v : Variable) (p : Place) (k : Symbol) → ((x : Operand) (r : Tails) (o : Outer) → hold m x r o k ≡ Stuck) →
     ((f : NameFunction) (c : Within) → after_variable f v c k ≡ Stuck) → on m (placed v p) k ≡ Stuck
 on_stuck m v (AsNamed f c) k h i = i f c
 on_stuck m v (AsOperand c) k h i = let f = filled_outer (Value v) c in ap (λ (s : State). on m s k) f.2 ∙ h f.0 f.1 (outer_of c)
 on_stuck m v AsTarget k h i = refl
+
+pub filled_stuck : (m : Limits) (x : Operand) (c : Within) (k : Symbol) → ((y : Operand) (r : Tails) (o : Outer) → hold m y r o k ≡ Stuck) → on m (filled x c) k ≡ Stuck
+filled_stuck m x c k h = let f = filled_outer x c in ap (λ (s : State). on m s k) f.2 ∙ h f.0 f.1 (outer_of c)
 
 pub overlong_stuck : (m : Limits) (s : State) → step m s Overlong ≡ Stuck
 overlong_stuck m (Wanted c) = refl
 overlong_stuck m (Sought p) = refl
 overlong_stuck m (Marked p) = refl
 overlong_stuck m (Named scope word p) = on_stuck m (Var scope word No) p Overlong (λ x r o. refl) (λ f c. refl)
+overlong_stuck m (Entering None None c) = refl
+overlong_stuck m (Entering (Some l) None c) = filled_stuck m (Extrinsic (entry_at (Some l) None) NoActual) c Overlong (λ y r o. refl)
+overlong_stuck m (Entering None (Some n) c) = filled_stuck m (Extrinsic (entry_at None (Some n)) NoActual) c Overlong (λ y r o. refl)
+overlong_stuck m (Entering (Some l) (Some n) c) = filled_stuck m (Extrinsic (entry_at (Some l) (Some n)) NoActual) c Overlong (λ y r o. refl)
+overlong_stuck m (Routed label c) = refl
 overlong_stuck m (Calling f c) = refl
 overlong_stuck m (Behind f v c) = refl
 overlong_stuck m (Held x r o) = refl
 overlong_stuck m (Got v) = refl
 
-easy_as : (n o : Next) → n ≡ o → IsEasy o → IsEasy n
+pub easy_as : (n o : Next) → n ≡ o → IsEasy o → IsEasy n
 easy_as n o e h = let P : Next → Type 0 = λ x. IsEasy x in subst P (sym e) h
 
 pub plain_easy : (m : Limits) (s : State) (k : Symbol) → IsPlain k → IsEasy (step m s k)
@@ -257,240 +315,36 @@ plain_easy m (Held x r o) (Name w) h = tt
 plain_easy m (Behind f u c) (Constant v) h = tt
 plain_easy m (Behind f u c) (Inherent v) h = tt
 plain_easy m (Behind f u c) (Name w) h = tt
+plain_easy m (Entering None None c) (Constant v) h = tt
+plain_easy m (Entering (Some l) None c) (Constant v) h =
+    easy_as (step m (Entering (Some l) None c) (Constant v)) Stuck (filled_stuck m (Extrinsic (entry_at (Some l) None) NoActual) c (Constant v) (λ y r o. refl)) tt
+plain_easy m (Entering None (Some n) c) (Constant v) h =
+    easy_as (step m (Entering None (Some n) c) (Constant v)) Stuck (filled_stuck m (Extrinsic (entry_at None (Some n)) NoActual) c (Constant v) (λ y r o. refl)) tt
+plain_easy m (Entering (Some l) (Some n) c) (Constant v) h =
+    easy_as (step m (Entering (Some l) (Some n) c) (Constant v)) Stuck (filled_stuck m (Extrinsic (entry_at (Some l) (Some n)) NoActual) c (Constant v) (λ y r o. refl)) tt
+plain_easy m (Routed label c) (Constant v) h = tt
+plain_easy m (Entering None None c) (Inherent v) h = tt
+plain_easy m (Entering (Some l) None c) (Inherent v) h =
+    easy_as (step m (Entering (Some l) None c) (Inherent v)) Stuck (filled_stuck m (Extrinsic (entry_at (Some l) None) NoActual) c (Inherent v) (λ y r o. refl)) tt
+plain_easy m (Entering None (Some n) c) (Inherent v) h =
+    easy_as (step m (Entering None (Some n) c) (Inherent v)) Stuck (filled_stuck m (Extrinsic (entry_at None (Some n)) NoActual) c (Inherent v) (λ y r o. refl)) tt
+plain_easy m (Entering (Some l) (Some n) c) (Inherent v) h =
+    easy_as (step m (Entering (Some l) (Some n) c) (Inherent v)) Stuck (filled_stuck m (Extrinsic (entry_at (Some l) (Some n)) NoActual) c (Inherent v) (λ y r o. refl)) tt
+plain_easy m (Routed label c) (Inherent v) h = tt
+plain_easy m (Entering None None c) (Name w) h = tt
+plain_easy m (Entering (Some l) None c) (Name w) h =
+    easy_as (step m (Entering (Some l) None c) (Name w)) Stuck (filled_stuck m (Extrinsic (entry_at (Some l) None) NoActual) c (Name w) (λ y r o. refl)) tt
+plain_easy m (Entering None (Some n) c) (Name w) h =
+    easy_as (step m (Entering None (Some n) c) (Name w)) Stuck (filled_stuck m (Extrinsic (entry_at None (Some n)) NoActual) c (Name w) (λ y r o. refl)) tt
+plain_easy m (Entering (Some l) (Some n) c) (Name w) h =
+    easy_as (step m (Entering (Some l) (Some n) c) (Name w)) Stuck (filled_stuck m (Extrinsic (entry_at (Some l) (Some n)) NoActual) c (Name w) (λ y r o. refl)) tt
+plain_easy m (Routed label c) (Name w) h = tt
 plain_easy m (Calling f c) (Constant v) h = tt
 plain_easy m (Calling f c) (Inherent v) h = tt
 plain_easy m (Calling f c) (Name w) h = tt
 plain_easy m (Got v) k h = tt
 plain_easy m s (Applied f) h = absurd h
+plain_easy m s (Entry l) h = absurd h
 plain_easy m s (Mark z) h = absurd h
 plain_easy m s Overlong h = absurd h
 plain_easy m s Other h = absurd h
-
--- ---- commas
-
--- a comma opens no level
-abbrev pub IsNoLevel : Next → Type 0
-IsNoLevel Deep = ⊥
-IsNoLevel n = Unit {0}
-
-level_full : (b : Bool) → IsNoLevel (cond b Long Stuck)
-level_full true = tt
-level_full false = tt
-
-level_comma : (s : State) (b d : Bool) → IsNoLevel (cond b (Go s) (cond d Long Stuck))
-level_comma s true d = tt
-level_comma s false d = level_full d
-
-level_close : (s : State) (b : Bool) → IsNoLevel (cond b (Go s) Stuck)
-level_close s true = tt
-level_close s false = tt
-
-held_level : (m : Limits) (x : Operand) (r : Tails) (o : Outer) → IsNoLevel (hold m x r o (Mark Comma))
-held_level m x r Alone = tt
-held_level m x r (InGroup c) = tt
-held_level m x r (InList u es) = level_comma _ (nat_lt (count es + 1) (most_of m u)) (is_limited u)
-held_level m x r (InOther f v c) = tt
-held_level m x r (InCondition ps c) = tt
-held_level m x r (InChoice ps a c) = tt
-
-level_another : (s : State) (b d : Bool) → IsNoLevel (cond b (cond d (Go s) Stuck) Stuck)
-level_another s true d = level_close s d
-level_another s false d = tt
-
-behind_level : (f : NameFunction) (v : Variable) (c : Within) (k : Symbol) → IsNoLevel (after_variable f v c k)
-behind_level f v c (Mark Close) = level_close _ (suffices f v)
-behind_level f v c (Mark Comma) = level_another _ (suffices f v) (nat_lt 0 (most_others f))
-behind_level f v c k = tt
-
-on_level : (m : Limits) (s : State) → IsNoLevel (on m s (Mark Comma))
-on_level m (Held x r o) = held_level m x r o
-on_level m (Behind f v c) = behind_level f v c (Mark Comma)
-on_level m (Wanted c) = tt
-on_level m (Sought p) = tt
-on_level m (Marked p) = tt
-on_level m (Named scope word p) = tt
-on_level m (Calling f c) = tt
-on_level m (Got v) = tt
-
-pub comma_level : (m : Limits) (s : State) → IsNoLevel (step m s (Mark Comma))
-comma_level m (Wanted c) = level_full (is_full m (outer_of c))
-comma_level m (Sought p) = tt
-comma_level m (Marked p) = level_full (is_full_in m p)
-comma_level m (Named scope word p) = on_level m (placed (Var scope word No) p)
-comma_level m (Calling f c) = tt
-comma_level m (Behind f v c) = behind_level f v c (Mark Comma)
-comma_level m (Held x r o) = held_level m x r o
-comma_level m (Got v) = tt
-
--- Where a comma behind one constant or name is one too many, a comma here is too.
-abbrev pub CommaAfter : Limits → State → Next → Type 0
-CommaAfter m s (Go t) = step m t (Mark Comma) ≡ Long → step m s (Mark Comma) ≡ Long
-CommaAfter m s n = Unit {0}
-
-stuck_long : Stuck ≡ Long → ⊥
-stuck_long e = cc
-
-go_long : (s : State) → Go s ≡ Long → ⊥
-go_long s e = cc
-
-full_as : (s : State) (b d : Bool) → cond b (Go s) (cond d Long Stuck) ≡ Long → (d && not b) ≡ true
-full_as s true d f = absurd (go_long s f)
-full_as s false true f = refl
-full_as s false false f = absurd (stuck_long f)
-
-held_full : (m : Limits) (x : Operand) (r : Tails) (o : Outer) → hold m x r o (Mark Comma) ≡ Long → is_full m o ≡ true
-held_full m x r Alone e = absurd (stuck_long e)
-held_full m x r (InGroup c) e = absurd (stuck_long e)
-held_full m x r (InList u es) e = full_as _ (nat_lt (count es + 1) (most_of m u)) (is_limited u) e
-held_full m x r (InOther f v c) e = absurd (stuck_long e)
-held_full m x r (InCondition ps c) e = absurd (stuck_long e)
-held_full m x r (InChoice ps a c) e = absurd (go_long _ e)
-
-filled_full : (m : Limits) (x : Operand) (c : Within) → step m (filled x c) (Mark Comma) ≡ Long → is_full m (outer_of c) ≡ true
-filled_full m x c e = let f = filled_outer x c in held_full m f.0 f.1 (outer_of c) (sym (ap (λ (s : State). step m s (Mark Comma)) f.2) ∙ e)
-
-on_full : (m : Limits) (v : Variable) (c : Within) → on m (placed v (AsOperand c)) (Mark Comma) ≡ Long → is_full m (outer_of c) ≡ true
-on_full m v c e = let f = filled_outer (Value v) c in held_full m f.0 f.1 (outer_of c) (sym (ap (λ (s : State). on m s (Mark Comma)) f.2) ∙ e)
-
-another_long : (s : State) (b d : Bool) → cond b (cond d (Go s) Stuck) Stuck ≡ Long → ⊥
-another_long s true true e = go_long s e
-another_long s true false e = stuck_long e
-another_long s false d e = stuck_long e
-
-behind_long : (f : NameFunction) (v : Variable) (c : Within) → after_variable f v c (Mark Comma) ≡ Long → ⊥
-behind_long f v c e = another_long _ (suffices f v) (nat_lt 0 (most_others f)) e
-
-after_as : (m : Limits) (s : State) (n : Next) → n ≡ Stuck → CommaAfter m s n
-after_as m s n e = let P : Next → Type 0 = λ x. CommaAfter m s x in subst P (sym e) tt
-
-pub comma_after : (m : Limits) (s : State) (k : Symbol) → IsReached s → IsPlain k → CommaAfter m s (step m s k)
-comma_after m (Wanted c) (Constant v) i h = λ e. ap (λ (b : Bool). cond b Long Stuck) (filled_full m (Literal v) c e)
-comma_after m (Wanted c) (Inherent v) i h = λ e. ap (λ (b : Bool). cond b Long Stuck) (filled_full m (Intrinsic v) c e)
-comma_after m (Wanted c) (Name w) i h = λ e. ap (λ (b : Bool). cond b Long Stuck) (on_full m (Var Local w No) c e)
-comma_after m (Sought AsTarget) (Constant v) i h = tt
-comma_after m (Sought AsTarget) (Inherent v) i h = tt
-comma_after m (Sought AsTarget) (Name w) i h = λ e. absurd (stuck_long e)
-comma_after m (Sought (AsNamed f c)) (Constant v) i h = tt
-comma_after m (Sought (AsNamed f c)) (Inherent v) i h = tt
-comma_after m (Sought (AsNamed f c)) (Name w) i h = λ e. absurd (behind_long f (Var Local w No) c e)
-comma_after m (Sought (AsOperand c)) k i h = absurd i
-comma_after m (Marked p) (Constant v) i h = tt
-comma_after m (Marked p) (Inherent v) i h = tt
-comma_after m (Marked (AsOperand c)) (Name w) i h = λ e. ap (λ (b : Bool). cond b Long Stuck) (on_full m (Var Global w No) c e)
-comma_after m (Marked (AsNamed f c)) (Name w) i h = λ e. absurd (behind_long f (Var Global w No) c e)
-comma_after m (Marked AsTarget) (Name w) i h = λ e. absurd (stuck_long e)
-comma_after m (Named scope word p) (Constant v) i h = after_as m (Named scope word p) (step m (Named scope word p) (Constant v))
-    (on_stuck m (Var scope word No) p (Constant v) (λ x r o. refl) (λ f c. refl))
-comma_after m (Named scope word p) (Inherent v) i h = after_as m (Named scope word p) (step m (Named scope word p) (Inherent v))
-    (on_stuck m (Var scope word No) p (Inherent v) (λ x r o. refl) (λ f c. refl))
-comma_after m (Named scope word p) (Name w) i h = after_as m (Named scope word p) (step m (Named scope word p) (Name w)) (on_stuck m (Var scope word No) p (Name w) (λ x r o. refl) (λ f c. refl))
-comma_after m (Held x r o) (Constant v) i h = tt
-comma_after m (Held x r o) (Inherent v) i h = tt
-comma_after m (Held x r o) (Name w) i h = tt
-comma_after m (Behind f u c) (Constant v) i h = tt
-comma_after m (Behind f u c) (Inherent v) i h = tt
-comma_after m (Behind f u c) (Name w) i h = tt
-comma_after m (Calling f c) (Constant v) i h = tt
-comma_after m (Calling f c) (Inherent v) i h = tt
-comma_after m (Calling f c) (Name w) i h = tt
-comma_after m (Got v) k i h = tt
-comma_after m s (Applied f) i h = absurd h
-comma_after m s (Mark z) i h = absurd h
-comma_after m s Overlong i h = absurd h
-comma_after m s Other i h = absurd h
-
--- ---- levels
-
--- Where a level too many opens, it does however long the lists may be.
-abbrev pub DeepBy : (Limits → Next) → Limits → Next → Type 0
-DeepBy at m Deep = (l : Limits) → l.depth ≡ m.depth → at l ≡ Deep
-DeepBy at m n = Unit {0}
-
-deep_opens : (m : Limits) (d : ℕ) (s : State) (b : Bool) → nat_lt d m.depth ≡ b → DeepBy (λ l. opens l d s) m (cond b (Go s) Deep)
-deep_opens m d s true e = tt
-deep_opens m d s false e = λ l i. ap (λ (n : ℕ). cond (nat_lt d n) (Go s) Deep) i ∙ ap (λ (b : Bool). cond b (Go s) Deep) e
-
-deep_call : (m : Limits) (f : Callee) (c : Within) (b : Bool) → nat_le (depth_of c + levels f) m.depth ≡ b → DeepBy (λ l. opens_call l f c) m (cond b (Go (Calling f c)) Deep)
-deep_call m f c true e = tt
-deep_call m f c false e = λ l i. ap (λ (n : ℕ). cond (nat_le (depth_of c + levels f) n) (Go (Calling f c)) Deep) i ∙ ap (λ (b : Bool). cond b (Go (Calling f c)) Deep) e
-
-no_deep : (at : Limits → Next) (m : Limits) (n : Next) → IsNoLevel n → DeepBy at m n
-no_deep at m (Go s) h = tt
-no_deep at m Stuck h = tt
-no_deep at m Deep h = absurd h
-no_deep at m Long h = tt
-
-deep_other : (m : Limits) (c : Within) (s : Sign) → DeepBy (λ l. want_other l c s) m (want_other m c s)
-deep_other m c Open = deep_opens m _ _ (nat_lt _ m.depth) refl
-deep_other m c Comma = no_deep _ m (stray_comma m (outer_of c)) (level_full (is_full m (outer_of c)))
-deep_other m c s = tt
-
-deep_sign : (m : Limits) (c : Within) (s : Sign) (q : Option UnaryOp) → DeepBy (λ l. want_sign l c s q) m (want_sign m c s q)
-deep_sign m c s (Some op) = deep_opens m _ _ (nat_lt _ m.depth) refl
-deep_sign m c s None = deep_other m c s
-
-held_close_level : (m : Limits) (e : Expr) (o : Outer) (s : Sign) → IsNoLevel (hold_other m e o s)
-held_close_level m e Alone Close = tt
-held_close_level m e (InGroup c) Close = tt
-held_close_level m e (InList u es) Close = level_close _ (nat_le (least_of u) (count es + 1))
-held_close_level m e (InOther f v c) Close = tt
-held_close_level m e (InCondition ps c) Close = tt
-held_close_level m e (InChoice ps a c) Close = tt
-held_close_level m e Alone Colon = tt
-held_close_level m e (InGroup c) Colon = tt
-held_close_level m e (InList u es) Colon = tt
-held_close_level m e (InOther f v c) Colon = tt
-held_close_level m e (InCondition ps c) Colon = tt
-held_close_level m e (InChoice ps a c) Colon = tt
-held_close_level m e Alone Comma = tt
-held_close_level m e (InGroup c) Comma = tt
-held_close_level m e (InList u es) Comma = level_comma _ (nat_lt (count es + 1) (most_of m u)) (is_limited u)
-held_close_level m e (InOther f v c) Comma = tt
-held_close_level m e (InCondition ps c) Comma = tt
-held_close_level m e (InChoice ps a c) Comma = tt
-held_close_level m e o s = tt
-
-hold_sign_level : (m : Limits) (x : Operand) (r : Tails) (o : Outer) (s : Sign) (q : Option Op) → IsNoLevel (hold_sign m x r o s q)
-hold_sign_level m x r o s (Some op) = tt
-hold_sign_level m x r o s None = held_close_level m (Chain x r) o s
-
-hold_level : (m : Limits) (x : Operand) (r : Tails) (o : Outer) (k : Symbol) → IsNoLevel (hold m x r o k)
-hold_level m x r o (Mark s) = hold_sign_level m x r o s (binary_of s)
-hold_level m x r o (Constant v) = tt
-hold_level m x r o (Inherent v) = tt
-hold_level m x r o (Name w) = tt
-hold_level m x r o (Applied f) = tt
-hold_level m x r o Overlong = tt
-hold_level m x r o Other = tt
-
-on_any_level : (m : Limits) (s : State) (k : Symbol) → IsNoLevel (on m s k)
-on_any_level m (Held x r o) k = hold_level m x r o k
-on_any_level m (Behind f v c) k = behind_level f v c k
-on_any_level m (Wanted c) k = tt
-on_any_level m (Sought p) k = tt
-on_any_level m (Marked p) k = tt
-on_any_level m (Named scope word p) k = tt
-on_any_level m (Calling f c) k = tt
-on_any_level m (Got v) k = tt
-
-pub step_deep : (m : Limits) (s : State) (k : Symbol) → DeepBy (λ l. step l s k) m (step m s k)
-step_deep m (Wanted c) (Mark s) = deep_sign m c s (unary_of s)
-step_deep m (Wanted c) (Constant v) = tt
-step_deep m (Wanted c) (Inherent v) = tt
-step_deep m (Wanted c) (Name w) = tt
-step_deep m (Wanted c) (Applied f) = deep_call m f c (nat_le (depth_of c + levels f) m.depth) refl
-step_deep m (Wanted c) Overlong = tt
-step_deep m (Wanted c) Other = tt
-step_deep m (Sought p) (Name w) = tt
-step_deep m (Sought p) (Mark Caret) = tt
-step_deep m (Sought p) k = tt
-step_deep m (Marked p) (Name w) = tt
-step_deep m (Marked p) (Mark Comma) = no_deep _ m _ (level_full (is_full_in m p))
-step_deep m (Marked p) k = tt
-step_deep m (Named scope word p) (Mark Open) = deep_opens m _ _ (nat_lt _ m.depth) refl
-step_deep m (Named scope word p) k = no_deep _ m _ (on_any_level m (placed (Var scope word No) p) k)
-step_deep m (Calling f c) (Mark Open) = tt
-step_deep m (Calling f c) k = tt
-step_deep m (Behind f v c) k = no_deep _ m _ (behind_level f v c k)
-step_deep m (Held x r o) k = no_deep _ m _ (hold_level m x r o k)
-step_deep m (Got v) k = tt

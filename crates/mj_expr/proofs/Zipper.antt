@@ -12,9 +12,9 @@ use Rattle.mj_ast.specs.declared.function.NameFunction.{NameFunction}
 use Rattle.mj_ast.specs.declared.function.NameFunction.TheVariants as names
 use Rattle.mj_ast.specs.declared.function.Callee.{Callee}
 use Rattle.mj_ast.specs.declared.function.Callee.TheVariants as callee
-use Rattle.mj_ast.specs.Syntax.{Expr, Chain, Tails, Done, Then, Operand, Literal, Value, Unary, Group, Call, About, Select, Variable, Var, Exprs, No, More, Choices, Last}
-use Rattle.mj_ast.specs.Expressions.{Symbol, Constant, Name, Applied, Mark, scoped, unary_sign, binary_sign, expr_symbols, tails_symbols, operand_symbols, variable_symbols, list_symbols, more_symbols, choices_symbols, count, least, most, least_subscripts, most_others, levels, expr_nesting, tails_nesting, operand_nesting, variable_nesting, list_nesting, exprs_nesting, choices_nesting, expr_width, tails_width, operand_width, variable_width, exprs_width, choices_width, expr_misfits, tails_misfits, operand_misfits, variable_misfits, exprs_misfits, choices_misfits}
-use Rattle.mj_expr.specs.Machine.{Outer, Alone, InGroup, InList, InOther, InCondition, InChoice, Owner, Subscripts, Arguments, Within, Front, Right, Under, Place, AsOperand, AsNamed, AsTarget, Pairs, NoPairs, Pair, and_pair, before_choices, State, Wanted, Sought, Limits, Phrase, Whole, Target, and_then, and_more, least_of, most_of}
+use Rattle.mj_ast.specs.Syntax.{Expr, Chain, Tails, Done, Then, Operand, Literal, Value, Unary, Group, Call, About, Select, Variable, Var, Exprs, No, More, Choices, Last, Extrinsic, Actuals, NoActual, Given, Omitted}
+use Rattle.mj_ast.specs.Expressions.{Symbol, Constant, Name, Applied, Entry, Mark, routine_symbols, actuals_symbols, further_symbols, actuals_nesting, further_nesting, actuals_width, actuals_misfits, scoped, unary_sign, binary_sign, expr_symbols, tails_symbols, operand_symbols, variable_symbols, list_symbols, more_symbols, choices_symbols, count, least, most, least_subscripts, most_others, levels, expr_nesting, tails_nesting, operand_nesting, variable_nesting, list_nesting, exprs_nesting, choices_nesting, expr_width, tails_width, operand_width, variable_width, exprs_width, choices_width, expr_misfits, tails_misfits, operand_misfits, variable_misfits, exprs_misfits, choices_misfits}
+use Rattle.mj_expr.specs.Machine.{Outer, Alone, InGroup, InList, InOther, InCondition, InChoice, InActuals, Owner, Subscripts, Arguments, Within, Front, Right, Under, Place, AsOperand, AsNamed, AsTarget, Pairs, NoPairs, Pair, and_pair, before_choices, State, Wanted, Sought, Limits, Phrase, Whole, Target, and_then, and_more, and_given, and_omitted, least_of, most_of}
 
 -- ---- spelling of what grows at its end
 
@@ -64,6 +64,12 @@ list_symbols-joined (More f es) e r =
     ap (λ (ks : List Symbol). Mark Open ∷ (expr_symbols f ++ ks)) (more_symbols-joined es e r)
     ∙ ap (λ (ks : List Symbol). Mark Open ∷ ks) (sym (append_assoc (expr_symbols f) (Mark Comma ∷ listed es) (expr_symbols e ++ more_symbols r)))
 
+-- with other actuals behind
+abbrev pub continued : Actuals → Actuals → Actuals
+continued NoActual fs = fs
+continued (Given e es) fs = Given e (continued es fs)
+continued (Omitted es) fs = Omitted (continued es fs)
+
 -- conditions, each with a colon, its value and a comma behind it
 abbrev pub pairs_symbols : Pairs → List Symbol
 pairs_symbols NoPairs = []
@@ -78,6 +84,53 @@ pub choices_symbols-before : (ps : Pairs) (x : Choices) → choices_symbols (bef
 choices_symbols-before NoPairs x = refl
 choices_symbols-before (Pair a b ps) x =
     ap (λ (ks : List Symbol). expr_symbols a ++ Mark Colon ∷ (expr_symbols b ++ Mark Comma ∷ ks)) (choices_symbols-before ps x) ∙ simp append_assoc
+
+-- actuals, each with a comma behind it
+abbrev pub passed : Actuals → List Symbol
+passed NoActual = []
+passed (Given e rest) = expr_symbols e ++ Mark Comma ∷ passed rest
+passed (Omitted rest) = Mark Comma ∷ passed rest
+
+pub passed-given : (es : Actuals) (e : Expr) → passed (and_given es e) ≡ passed es ++ (expr_symbols e ++ Mark Comma ∷ [])
+passed-given NoActual e = refl
+passed-given (Given f es) e =
+    ap (λ (ks : List Symbol). expr_symbols f ++ Mark Comma ∷ ks) (passed-given es e)
+    ∙ sym (append_assoc (expr_symbols f) (Mark Comma ∷ passed es) (expr_symbols e ++ Mark Comma ∷ []))
+passed-given (Omitted es) e = ap (λ (ks : List Symbol). Mark Comma ∷ ks) (passed-given es e)
+
+pub passed-omitted : (es : Actuals) → passed (and_omitted es) ≡ passed es ++ Mark Comma ∷ []
+passed-omitted NoActual = refl
+passed-omitted (Given f es) =
+    ap (λ (ks : List Symbol). expr_symbols f ++ Mark Comma ∷ ks) (passed-omitted es) ∙ sym (append_assoc (expr_symbols f) (Mark Comma ∷ passed es) (Mark Comma ∷ []))
+passed-omitted (Omitted es) = ap (λ (ks : List Symbol). Mark Comma ∷ ks) (passed-omitted es)
+
+further_symbols-given : (es : Actuals) (e : Expr) → further_symbols (and_given es e) ≡ Mark Comma ∷ (passed es ++ (expr_symbols e ++ Mark Close ∷ []))
+further_symbols-given NoActual e = refl
+further_symbols-given (Given f es) e =
+    ap (λ (ks : List Symbol). Mark Comma ∷ (expr_symbols f ++ ks)) (further_symbols-given es e)
+    ∙ ap (λ (ks : List Symbol). Mark Comma ∷ ks) (sym (append_assoc (expr_symbols f) (Mark Comma ∷ passed es) (expr_symbols e ++ Mark Close ∷ [])))
+further_symbols-given (Omitted es) e = ap (λ (ks : List Symbol). Mark Comma ∷ ks) (further_symbols-given es e)
+
+pub actuals_symbols-given : (es : Actuals) (e : Expr) → actuals_symbols (and_given es e) ≡ Mark Open ∷ (passed es ++ (expr_symbols e ++ Mark Close ∷ []))
+actuals_symbols-given NoActual e = refl
+actuals_symbols-given (Given f es) e =
+    ap (λ (ks : List Symbol). Mark Open ∷ (expr_symbols f ++ ks)) (further_symbols-given es e)
+    ∙ ap (λ (ks : List Symbol). Mark Open ∷ ks) (sym (append_assoc (expr_symbols f) (Mark Comma ∷ passed es) (expr_symbols e ++ Mark Close ∷ [])))
+actuals_symbols-given (Omitted es) e = ap (λ (ks : List Symbol). Mark Open ∷ ks) (further_symbols-given es e)
+
+further_symbols-omitted : (es : Actuals) → further_symbols (and_omitted es) ≡ Mark Comma ∷ (passed es ++ Mark Close ∷ [])
+further_symbols-omitted NoActual = refl
+further_symbols-omitted (Given f es) =
+    ap (λ (ks : List Symbol). Mark Comma ∷ (expr_symbols f ++ ks)) (further_symbols-omitted es)
+    ∙ ap (λ (ks : List Symbol). Mark Comma ∷ ks) (sym (append_assoc (expr_symbols f) (Mark Comma ∷ passed es) (Mark Close ∷ [])))
+further_symbols-omitted (Omitted es) = ap (λ (ks : List Symbol). Mark Comma ∷ ks) (further_symbols-omitted es)
+
+pub actuals_symbols-omitted : (es : Actuals) → actuals_symbols (and_omitted es) ≡ Mark Open ∷ (passed es ++ Mark Close ∷ [])
+actuals_symbols-omitted NoActual = refl
+actuals_symbols-omitted (Given f es) =
+    ap (λ (ks : List Symbol). Mark Open ∷ (expr_symbols f ++ ks)) (further_symbols-omitted es)
+    ∙ ap (λ (ks : List Symbol). Mark Open ∷ ks) (sym (append_assoc (expr_symbols f) (Mark Comma ∷ passed es) (Mark Close ∷ [])))
+actuals_symbols-omitted (Omitted es) = ap (λ (ks : List Symbol). Mark Open ∷ ks) (further_symbols-omitted es)
 
 pub scoped-append : (scope : Scope) (xs ys : List Symbol) → scoped scope xs ++ ys ≡ scoped scope (xs ++ ys)
 scoped-append Local xs ys = refl
@@ -172,6 +225,54 @@ choices_width-before (Pair a b ps) x = let h = choices_width-before ps x in omeg
 pub choices_misfits-before : (ps : Pairs) (x : Choices) → choices_misfits (before_choices ps x) ≡ pairs_misfits ps + choices_misfits x
 choices_misfits-before NoPairs x = omega arith
 choices_misfits-before (Pair a b ps) x = let h = choices_misfits-before ps x in omega arith
+
+-- actuals
+further_nesting-given : (es : Actuals) (e : Expr) → further_nesting (and_given es e) ≡ max (further_nesting es) (expr_nesting e)
+further_nesting-given NoActual e = omega arith
+further_nesting-given (Given f es) e = let h = further_nesting-given es e in omega arith
+further_nesting-given (Omitted es) e = further_nesting-given es e
+
+further_nesting-omitted : (es : Actuals) → further_nesting (and_omitted es) ≡ further_nesting es
+further_nesting-omitted NoActual = refl
+further_nesting-omitted (Given f es) = let h = further_nesting-omitted es in omega arith
+further_nesting-omitted (Omitted es) = further_nesting-omitted es
+
+pub nesting-given : (es : Actuals) (e : Expr) →
+    (further_nesting (and_given es e) ≡ max (further_nesting es) (expr_nesting e)) × (actuals_nesting (and_given es e) ≡ max (further_nesting es) (expr_nesting e) + 1)
+nesting-given es e = (further_nesting-given es e, by es)
+  where
+    by : (es : Actuals) → actuals_nesting (and_given es e) ≡ max (further_nesting es) (expr_nesting e) + 1
+    by NoActual = omega arith
+    by (Given f es) = let h = further_nesting-given es e in omega arith
+    by (Omitted es) = let h = further_nesting-given es e in omega arith
+
+pub nesting-omitted : (es : Actuals) → (further_nesting (and_omitted es) ≡ further_nesting es) × (actuals_nesting (and_omitted es) ≡ further_nesting es + 1)
+nesting-omitted es = (further_nesting-omitted es, by es)
+  where
+    by : (es : Actuals) → actuals_nesting (and_omitted es) ≡ further_nesting es + 1
+    by NoActual = omega arith
+    by (Given f es) = let h = further_nesting-omitted es in omega arith
+    by (Omitted es) = let h = further_nesting-omitted es in omega arith
+
+pub width-given : (es : Actuals) (e : Expr) → actuals_width (and_given es e) ≡ max (actuals_width es) (expr_width e)
+width-given NoActual e = omega arith
+width-given (Given f es) e = let h = width-given es e in omega arith
+width-given (Omitted es) e = width-given es e
+
+pub width-omitted : (es : Actuals) → actuals_width (and_omitted es) ≡ actuals_width es
+width-omitted NoActual = refl
+width-omitted (Given f es) = let h = width-omitted es in omega arith
+width-omitted (Omitted es) = width-omitted es
+
+pub misfits-given : (es : Actuals) (e : Expr) → actuals_misfits (and_given es e) ≡ actuals_misfits es + expr_misfits e
+misfits-given NoActual e = omega arith
+misfits-given (Given f es) e = let h = misfits-given es e in omega arith
+misfits-given (Omitted es) e = misfits-given es e
+
+pub misfits-omitted : (es : Actuals) → actuals_misfits (and_omitted es) ≡ actuals_misfits es
+misfits-omitted NoActual = refl
+misfits-omitted (Given f es) = let h = misfits-omitted es in omega arith
+misfits-omitted (Omitted es) = misfits-omitted es
 
 -- ---- what fills the places that are left
 
@@ -324,6 +425,7 @@ abbrev mutual
   outer_before (InList w es) = owner_before w ++ Mark Open ∷ listed es
   outer_before (InOther f v c) = before c ++ Applied (callee.Names f) ∷ Mark Open ∷ (variable_symbols v ++ Mark Comma ∷ [])
   outer_before (InCondition ps c) = before c ++ Applied callee.Select ∷ Mark Open ∷ pairs_symbols ps
+  outer_before (InActuals t es c) = before c ++ Entry t.label ∷ (routine_symbols t.routine ++ Mark Open ∷ passed es)
   outer_before (InChoice ps e c) = before c ++ Applied callee.Select ∷ Mark Open ∷ (pairs_symbols ps ++ (expr_symbols e ++ Mark Colon ∷ []))
 
   pub owner_before : Owner → List Symbol
@@ -348,6 +450,7 @@ abbrev mutual
   outer_after (InOther f v c) = Mark Close ∷ after c
   outer_after (InCondition ps c) = Mark Colon ∷ Constant zero_text ∷ Mark Close ∷ after c
   outer_after (InChoice ps e c) = Mark Close ∷ after c
+  outer_after (InActuals t es c) = Mark Close ∷ after c
 
   pub owner_after : Owner → List Symbol
   owner_after (Subscripts scope word p) = place_after p
@@ -371,6 +474,7 @@ abbrev mutual
   outer_plug (InOther f v c) e = plug c (About f v (More e No))
   outer_plug (InCondition ps c) e = plug c (Select (before_choices ps (Last e zero_expr)))
   outer_plug (InChoice ps a c) e = plug c (Select (before_choices ps (Last a e)))
+  outer_plug (InActuals t es c) e = plug c (Extrinsic t (and_given es e))
 
   pub owner_plug : Owner → Exprs → Phrase
   owner_plug (Subscripts scope word p) es = place_plug p (Var scope word es)
@@ -403,6 +507,10 @@ mutual
   outer_plug_symbols (InChoice ps a c) e =
       plug_symbols c (Select (before_choices ps (Last a e)))
       ∙ ap (λ (ks : List Symbol). before c ++ (Applied callee.Select ∷ Mark Open ∷ (ks ++ after c))) (choices_symbols-before ps (Last a e))
+      ∙ simp append_assoc
+  outer_plug_symbols (InActuals t es c) e =
+      plug_symbols c (Extrinsic t (and_given es e))
+      ∙ ap (λ (ks : List Symbol). before c ++ ((Entry t.label ∷ (routine_symbols t.routine ++ ks)) ++ after c)) (actuals_symbols-given es e)
       ∙ simp append_assoc
 
   pub owner_plug_symbols : (w : Owner) (es : Exprs) → phrase_symbols (owner_plug w es) ≡ owner_before w ++ (list_symbols es ++ owner_after w)

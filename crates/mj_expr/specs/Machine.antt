@@ -13,8 +13,8 @@ use Rattle.mj_ast.specs.declared.function.Function.{Function}
 use Rattle.mj_ast.specs.declared.function.NameFunction.{NameFunction}
 use Rattle.mj_ast.specs.declared.function.Callee.{Callee}
 use Rattle.mj_ast.specs.declared.function.Callee.TheVariants as callee
-use Rattle.mj_ast.specs.Syntax.{Expr, Chain, Tails, Done, Then, Operand, Literal, Intrinsic, Value, Unary, Group, Call, About, Select, Variable, Var, Exprs, No, More, Choices, Last, Before}
-use Rattle.mj_ast.specs.Expressions.{Symbol, Constant, Inherent, Name, Applied, Overlong, Mark, count, subscript_count, least, most, least_subscripts, most_others, levels}
+use Rattle.mj_ast.specs.Syntax.{Expr, Chain, Tails, Done, Then, Operand, Literal, Intrinsic, Value, Unary, Group, Call, About, Select, Extrinsic, Variable, Var, Exprs, No, More, Choices, Last, Before, Target as Entry, Actuals, NoActual, Given, Omitted}
+use Rattle.mj_ast.specs.Expressions.{Symbol, Constant, Inherent, Name, Applied, Entry as EntrySymbol, Overlong, Mark, count, subscript_count, least, most, least_subscripts, most_others, levels}
 
 -- the unary operator of a sign
 abbrev pub unary_of : Sign → Option UnaryOp
@@ -68,11 +68,27 @@ abbrev pub before_choices : Pairs → Choices → Choices
 before_choices NoPairs choices = choices
 before_choices (Pair a b rest) choices = Before a b (before_choices rest choices)
 
+-- with another actual behind
+abbrev pub and_given : Actuals → Expr → Actuals
+and_given NoActual e = Given e NoActual
+and_given (Given f rest) e = Given f (and_given rest e)
+and_given (Omitted rest) e = Omitted (and_given rest e)
+
+-- with another one that is left out
+abbrev pub and_omitted : Actuals → Actuals
+and_omitted NoActual = Omitted NoActual
+and_omitted (Given f rest) = Given f (and_omitted rest)
+and_omitted (Omitted rest) = Omitted (and_omitted rest)
+
+-- where a function begins
+abbrev pub entry_at : Option (List ℕ) → Option (List ℕ) → Entry
+entry_at label routine = record { label = label; routine = routine }
+
 -- ---- what is open
 
 mutual
   -- where an expression stands: alone, in parentheses, in a list behind those before it, behind the variable of a function, as
-  -- a condition of `$SELECT` behind other choices, or as the value of a condition
+  -- a condition of `$SELECT` behind other choices, as the value of a condition, or as an actual behind those before it
   pub data Outer : Type 0 where
     Alone : Outer
     InGroup : (c : Within) → Outer
@@ -80,6 +96,7 @@ mutual
     InOther : (f : NameFunction) (v : Variable) (c : Within) → Outer
     InCondition : (before : Pairs) (c : Within) → Outer
     InChoice : (before : Pairs) (condition : Expr) (c : Within) → Outer
+    InActuals : (t : Entry) (before : Actuals) (c : Within) → Outer
 
   -- what a list stands behind: the name of a variable, whose subscripts it has, or a function, whose arguments
   pub data Owner : Type 0 where
@@ -107,6 +124,7 @@ abbrev mutual
   outer_depth (InOther f v c) = depth_of c + 1
   outer_depth (InCondition before c) = depth_of c + 1
   outer_depth (InChoice before condition c) = depth_of c + 1
+  outer_depth (InActuals t before c) = depth_of c + 1
 
   pub owner_depth : Owner → ℕ
   owner_depth (Subscripts scope word p) = place_depth p
@@ -139,6 +157,10 @@ pub data State : Type 0 where
   Marked : (p : Place) → State
   -- a name was read
   Named : (scope : Scope) (word : List ℕ) (p : Place) → State
+  -- `$$` was read and the label of an entry, if one stands there, and its routine, if one stands there
+  Entering : (label routine : Option (List ℕ)) (c : Within) → State
+  -- the name of the routine is wanted, behind a `^`
+  Routed : (label : Option (List ℕ)) (c : Within) → State
   -- a function was read, behind which a `(` is wanted
   Calling : (callee : Callee) (c : Within) → State
   -- the variable of a function was read
@@ -211,6 +233,7 @@ comma m e (InList w before) =
     else if is_limited w then Long
     else Stuck
 comma m e (InChoice before condition c) = Go (Wanted (Front (InCondition (and_pair before condition e) c)))
+comma m e (InActuals t before c) = Go (Wanted (Front (InActuals t (and_given before e) c)))
 comma m e _ = Stuck
 
 -- the colon behind an expression
@@ -234,12 +257,23 @@ close e (InList w before) = if nat_le (least_of w) (count before + 1) then Go (c
 close e (InOther f v c) = Go (filled (About f v (More e No)) c)
 close e (InCondition before c) = Stuck
 close e (InChoice before condition c) = Go (filled (Select (before_choices before (Last condition e))) c)
+close e (InActuals t before c) = Go (filled (Extrinsic t (and_given before e)) c)
+
+-- a comma or a `)` where an operand is wanted: an actual may be left out
+abbrev pub comma_at : Limits → Within → Next
+comma_at m (Front (InActuals t before c)) = Go (Wanted (Front (InActuals t (and_omitted before) c)))
+comma_at m c = stray_comma m (outer_of c)
+
+abbrev pub close_at : Within → Next
+close_at (Front (InActuals t before c)) = Go (filled (Extrinsic t (and_omitted before)) c)
+close_at c = Stuck
 
 -- where an operand is wanted
 abbrev pub want_other : Limits → Within → Sign → Next
 want_other m c Caret = Go (Marked (AsOperand c))
 want_other m c Open = opens m (depth_of c) (Wanted (Front (InGroup c)))
-want_other m c Comma = stray_comma m (outer_of c)
+want_other m c Comma = comma_at m c
+want_other m c Close = close_at c
 want_other m c _ = Stuck
 
 abbrev pub want_sign : Limits → Within → Sign → Option UnaryOp → Next
@@ -251,6 +285,7 @@ want m c (Constant value) = Go (filled (Literal value) c)
 want m c (Inherent value) = Go (filled (Intrinsic value) c)
 want m c (Name word) = Go (Named Local word (AsOperand c))
 want m c (Applied callee) = opens_call m callee c
+want m c (EntrySymbol label) = Go (Entering label None c)
 want m c (Mark s) = want_sign m c s (unary_of s)
 want m c _ = Stuck
 
@@ -306,6 +341,33 @@ abbrev pub after_name : Limits → Scope → List ℕ → Place → Symbol → N
 after_name m scope word p (Mark Open) = opens m (place_depth p) (Wanted (Front (InList (Subscripts scope word p) No)))
 after_name m scope word p k = on m (placed (Var scope word No) p) k
 
+-- behind an entry: its actuals, or what stands behind a function without them
+abbrev pub after_entry : Limits → Entry → Within → Symbol → Next
+after_entry m t c (Mark Open) = opens m (depth_of c) (Wanted (Front (InActuals t NoActual c)))
+after_entry m t c k = on m (filled (Extrinsic t NoActual) c) k
+
+-- behind `$$` alone: a routine is wanted
+abbrev pub after_dollars : Limits → Within → Symbol → Next
+after_dollars m c (Mark Caret) = Go (Routed None c)
+after_dollars m c (Mark Comma) = stray_comma m (outer_of c)
+after_dollars m c k = Stuck
+
+-- behind a label: a routine too
+abbrev pub after_label : Limits → List ℕ → Within → Symbol → Next
+after_label m l c (Mark Caret) = Go (Routed (Some l) c)
+after_label m l c k = after_entry m (entry_at (Some l) None) c k
+
+abbrev pub enter : Limits → Option (List ℕ) → Option (List ℕ) → Within → Symbol → Next
+enter m None None c k = after_dollars m c k
+enter m (Some l) None c k = after_label m l c k
+enter m label (Some r) c k = after_entry m (entry_at label (Some r)) c k
+
+-- where the name of a routine is wanted
+abbrev pub after_routed : Limits → Option (List ℕ) → Within → Symbol → Next
+after_routed m label c (Name word) = Go (Entering label (Some word) c)
+after_routed m label c (Mark Comma) = stray_comma m (outer_of c)
+after_routed m label c k = Stuck
+
 -- behind a function
 abbrev pub inside : Callee → Within → State
 inside (callee.Texts f) c = Wanted (Front (InList (Arguments f c) No))
@@ -321,6 +383,8 @@ step m (Wanted c) k = want m c k
 step m (Sought p) k = seek p k
 step m (Marked p) k = after_caret m p k
 step m (Named scope word p) k = after_name m scope word p k
+step m (Entering label routine c) k = enter m label routine c k
+step m (Routed label c) k = after_routed m label c k
 step m (Calling callee c) k = after_function m callee c k
 step m (Behind f v c) k = after_variable f v c k
 step m (Held x r o) k = hold m x r o k
@@ -361,6 +425,8 @@ ends _ ks = refused ks
 -- where no step goes on
 abbrev pub finish : State → List Symbol → Outcome
 finish (Named scope word p) ks = ends (placed (Var scope word No) p) ks
+finish (Entering (Some l) routine c) ks = ends (filled (Extrinsic (entry_at (Some l) routine) NoActual) c) ks
+finish (Entering None (Some r) c) ks = ends (filled (Extrinsic (entry_at None (Some r)) NoActual) c) ks
 finish s ks = ends s ks
 
 abbrev pub goes : (State → Outcome) → Outcome → ℕ → Next → Outcome

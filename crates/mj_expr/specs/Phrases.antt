@@ -1,7 +1,7 @@
 -- What is read at the front of the tokens, and what a refusal says.
 use Rattle.std.specs.Prelude.{ℕ, ◌≡◌, ◌+◌, ◌<◌, ◌≤◌, List, [], ◌∷◌, ◌++◌, length}
 use Rattle.mj_ast.specs.declared.sign.Sign.TheVariants.{Comma}
-use Rattle.mj_ast.specs.Tokens.{Token, Word, Called, Special, Signed}
+use Rattle.mj_ast.specs.Tokens.{Token, Word, Called, Special, Invoked, Signed}
 use Rattle.mj_ast.specs.Lines.{Filler}
 use Rattle.mj_ast.specs.Expressions.{Phrases, Spells, NestsWithin, BeginsPhrase, BeginsWithin, symbol, levels_of, name_limit, width_limit}
 use Rattle.mj_expr.specs.declared.stop.ParseError.{ParseError}
@@ -21,6 +21,7 @@ abbrev pub IsShort : Token → Type 0
 IsShort (Word word) = length word ≤ name_limit
 IsShort (Called word) = length word ≤ name_limit
 IsShort (Special word) = length word ≤ name_limit
+IsShort (Invoked word) = length word ≤ name_limit
 IsShort _ = Unit {0}
 
 -- The tokens up to those that are left begin a phrase within the limits and spell none, and with the next one, if there is
@@ -66,6 +67,7 @@ abbrev pub IsOverlong : {T : Type 0} → Phrases T → List Token → Token → 
 IsOverlong P front (Word word) = IsLongWord P front (Word word) word
 IsOverlong P front (Called word) = IsLongWord P front (Called word) word
 IsOverlong P front (Special word) = IsLongWord P front (Special word) word
+IsOverlong P front (Invoked word) = IsLongWord P front (Invoked word) word
 IsOverlong P front (Signed Comma) = IsLastComma P front
 IsOverlong P front k = ⊥
 

@@ -1,9 +1,11 @@
 -- What a function that reads a part of a line returns.
-use Rattle.std.specs.Prelude.{ℕ, ◌≡◌, ◌<◌, ◌≤◌, List, ◌∷◌, length, map, Bool, true, false, Result, Ok, Err, Some, None}
+use Rattle.std.specs.Prelude.{ℕ, ◌≡◌, ◌<◌, ◌≤◌, List, ◌∷◌, length, map, Bool, true, false, Result, Ok, Err, Option, Some, None, option_map}
 use Rattle.mj_ast.specs.declared.sign.Sign.TheVariants.{Caret, Open, Comma, Colon, Close}
 use Rattle.mj_ast.specs.declared.sign.Sign.{Sign}
 use Rattle.mj_oper.specs.declared.op.Op.{Op}
-use Rattle.mj_ast.specs.Expressions.{Symbol, Constant, Inherent, Name, Applied, Mark, symbol, name_limit, width_limit, least, most}
+use Rattle.mj_ast.specs.Expressions.{Symbol, Constant, Inherent, Name, Applied, Entry, Mark, symbol, name_limit, width_limit, least, most}
+use Rattle.std.specs.Borrow.{Bor}
+use Rattle.mj_text.specs.declared.text.TheConstants.{TEXT_LIMIT}
 use Rattle.mj_lex.specs.declared.token.Lexeme.{Lexeme}
 use Rattle.mj_lex.specs.Seen.{tokens_seen}
 use Rattle.mj_expr.specs.Machine.{Owner, Subscripts, Arguments, Limits, State, Phrase, Outcome, Accept, StuckAt, DeepAt, TooLong, run, unary_of, binary_of}
@@ -65,10 +67,20 @@ BeginsNone (Constant value) = ⊥
 BeginsNone (Inherent value) = ⊥
 BeginsNone (Name word) = ⊥
 BeginsNone (Applied callee) = ⊥
+BeginsNone (Entry label) = ⊥
 BeginsNone (Mark Caret) = ⊥
 BeginsNone (Mark Open) = ⊥
 BeginsNone (Mark s) = unary_of s ≡ None
 BeginsNone _ = Unit {0}
+
+-- the label of an entry by reference, if there is one
+abbrev pub label_seen : Option (Bor (List ℕ)) → Option (List ℕ)
+label_seen label = option_map (λ l. l.now) label
+
+-- it is no longer than a text
+abbrev pub IsLabelSize : Option (List ℕ) → Type 0
+IsLabelSize None = Unit {0}
+IsLabelSize (Some l) = length l ≤ TEXT_LIMIT
 
 -- what an operand begins with, by its symbol
 abbrev pub IsHead : Head → Symbol → Type 0
@@ -76,6 +88,7 @@ IsHead (head.Constant text) k = k ≡ Constant text
 IsHead (head.Special v) k = k ≡ Inherent v
 IsHead (head.Name word) k = (k ≡ Name word.now) × (length word.now ≤ 31)
 IsHead (head.Callee callee) k = k ≡ Applied callee
+IsHead (head.Entry label) k = (k ≡ Entry (label_seen label)) × IsLabelSize (label_seen label)
 IsHead head.Caret k = k ≡ Mark Caret
 IsHead head.Open k = k ≡ Mark Open
 IsHead (head.Unary s op) k = (k ≡ Mark s) × (unary_of s ≡ Some op)

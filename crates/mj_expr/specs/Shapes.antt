@@ -1,5 +1,5 @@
 -- What is open around a place, and what may come there, without trees: enough to say where a phrase ends that nests however deep.
-use Rattle.std.specs.Prelude.{◌≡◌, ◌+◌, ◌<◌, nat_lt, nat_le, Bool, true, false, not, ◌&&◌, if◌then◌else◌, List, [], ◌∷◌, ◌++◌, Option, Some, None, Result, Ok, Err, reverse, length}
+use Rattle.std.specs.Prelude.{ℕ, ◌≡◌, ◌+◌, ◌<◌, nat_lt, nat_le, Bool, true, false, not, ◌&&◌, if◌then◌else◌, List, [], ◌∷◌, ◌++◌, Option, Some, None, Result, Ok, Err, reverse, length}
 use Rattle.mj_ast.specs.declared.sign.Sign.{Sign}
 use Rattle.mj_ast.specs.declared.sign.Sign.TheVariants.{Caret, Open, Close, Comma, Colon}
 use Rattle.mj_oper.specs.declared.op.UnaryOp.{UnaryOp}
@@ -7,7 +7,7 @@ use Rattle.mj_oper.specs.declared.op.Op.{Op}
 use Rattle.mj_ast.specs.declared.function.Callee.{Callee}
 use Rattle.mj_ast.specs.declared.function.Callee.TheVariants as callee
 use Rattle.mj_ast.specs.Tokens.{Token}
-use Rattle.mj_ast.specs.Expressions.{Symbol, Constant, Inherent, Name, Applied, Overlong, Mark, Other, count, width_limit, least_subscripts, most_others}
+use Rattle.mj_ast.specs.Expressions.{Symbol, Constant, Inherent, Name, Applied, Entry, Overlong, Mark, Other, count, width_limit, least_subscripts, most_others}
 use Rattle.mj_lex.specs.declared.token.Lexeme.{Lexeme}
 use Rattle.mj_expr.specs.Machine as machine
 use Rattle.mj_expr.specs.Machine.{unary_of, binary_of, Limits, State, run, Phrase, Outcome, Accept, StuckAt, TooLong, refused}
@@ -45,6 +45,7 @@ abbrev mutual
   outer_shape (machine.InOther f v c) = opened_in around.Group (shape_of c)
   outer_shape (machine.InCondition before c) = opened_in around.Condition (shape_of c)
   outer_shape (machine.InChoice before condition c) = opened_in around.Choice (shape_of c)
+  outer_shape (machine.InActuals t before c) = opened_in around.Actuals (shape_of c)
 
   pub owner_shape : machine.Owner → Shape
   owner_shape (machine.Subscripts scope word p) = place_shape p
@@ -65,14 +66,29 @@ state_shape (machine.Wanted c) = shape_of c
 state_shape (machine.Sought p) = place_shape p
 state_shape (machine.Marked p) = place_shape p
 state_shape (machine.Named scope word p) = place_shape p
+state_shape (machine.Entering label routine c) = shape_of c
+state_shape (machine.Routed label c) = shape_of c
 state_shape (machine.Calling f c) = shape_of c
 state_shape (machine.Behind f v c) = opened_in (around.About f) (shape_of c)
 state_shape (machine.Held x r o) = outer_shape o
 state_shape (machine.Got v) = bare_shape around.Target
 
+-- what may come where an operand is wanted: an actual may be left out
+abbrev pub wanted_stage : machine.Within → Stage
+wanted_stage (machine.Front (machine.InActuals t before c)) = stage.Actual
+wanted_stage c = stage.Operand
+
+-- what may come behind `$$`, a label and a routine, as far as these stand there
+abbrev pub entry_stage : Option (List ℕ) → Option (List ℕ) → Stage
+entry_stage None None = stage.Entry
+entry_stage (Some l) None = stage.Label
+entry_stage label (Some r) = stage.Actuals
+
 -- what may come at a state
 abbrev pub stage_of : machine.State → Stage
-stage_of (machine.Wanted c) = stage.Operand
+stage_of (machine.Wanted c) = wanted_stage c
+stage_of (machine.Entering label routine c) = entry_stage label routine
+stage_of (machine.Routed label c) = stage.Routine
 stage_of (machine.Sought p) = stage.Variable
 stage_of (machine.Marked p) = stage.Name
 stage_of (machine.Named scope word p) = stage.Subscripts
@@ -89,6 +105,8 @@ sort_of (Constant value) = sort.Constant
 sort_of (Inherent value) = sort.Constant
 sort_of (Name word) = sort.Name
 sort_of (Applied f) = sort.Callee f
+sort_of (Entry None) = sort.Entry false
+sort_of (Entry (Some l)) = sort.Entry true
 sort_of (Mark s) = sort.Sign s
 sort_of Overlong = sort.Other
 sort_of Other = sort.Other
@@ -106,12 +124,14 @@ comma_turn (around.List k n) =
     else turn.Stuck
 comma_turn (around.About f) = if nat_lt 0 (most_others f) then turn.Goes stage.Operand around.Group else turn.Stuck
 comma_turn around.Choice = turn.Goes stage.Operand around.Condition
+comma_turn around.Actuals = turn.Goes stage.Actual around.Actuals
 comma_turn a = turn.Stuck
 
 abbrev pub close_turn : Around → Turn
 close_turn around.Group = turn.Closes
 close_turn (around.List k n) = if nat_le (least_in k) n then turn.Closes else turn.Stuck
 close_turn around.Choice = turn.Closes
+close_turn around.Actuals = turn.Closes
 close_turn (around.About f) = turn.Closes
 close_turn a = turn.Stuck
 
@@ -154,8 +174,38 @@ abbrev pub operand_turn : Around → Sort → Turn
 operand_turn a sort.Constant = turn.Goes stage.Behind a
 operand_turn a sort.Name = turn.Goes stage.Subscripts a
 operand_turn a (sort.Callee f) = turn.Goes (stage.Arguments f) a
+operand_turn a (sort.Entry true) = turn.Goes stage.Label a
+operand_turn a (sort.Entry false) = turn.Goes stage.Entry a
 operand_turn a (sort.Sign s) = operand_sign a s (unary_of s)
 operand_turn a sort.Other = turn.Stuck
+
+-- where an actual may stand
+abbrev pub actual_turn : Around → Sort → Turn
+actual_turn a (sort.Sign Comma) = turn.Goes stage.Actual a
+actual_turn a (sort.Sign Close) = turn.Closes
+actual_turn a k = operand_turn a k
+
+-- behind an entry
+abbrev pub actuals_turn : Around → Sort → Turn
+actuals_turn a (sort.Sign Open) = turn.Opens stage.Actual around.Actuals
+actuals_turn a k = behind_turn a k
+
+-- behind `$$` alone
+abbrev pub entry_turn : Around → Sort → Turn
+entry_turn a (sort.Sign Caret) = turn.Goes stage.Routine a
+entry_turn a (sort.Sign Comma) = stray_turn a
+entry_turn a k = turn.Stuck
+
+-- behind `$$` and a label
+abbrev pub label_turn : Around → Sort → Turn
+label_turn a (sort.Sign Caret) = turn.Goes stage.Routine a
+label_turn a k = actuals_turn a k
+
+-- where the name of a routine is wanted
+abbrev pub routine_turn : Around → Sort → Turn
+routine_turn a sort.Name = turn.Goes stage.Actuals a
+routine_turn a (sort.Sign Comma) = stray_turn a
+routine_turn a k = turn.Stuck
 
 -- where a variable is wanted
 abbrev pub variable_turn : Around → Sort → Turn
@@ -199,6 +249,11 @@ turn_at stage.Name a k = name_turn a k
 turn_at (stage.Arguments f) a k = arguments_turn f k
 turn_at stage.Subscripts a k = subscripts_turn a k
 turn_at stage.Behind a k = behind_turn a k
+turn_at stage.Actual a k = actual_turn a k
+turn_at stage.Actuals a k = actuals_turn a k
+turn_at stage.Entry a k = entry_turn a k
+turn_at stage.Label a k = label_turn a k
+turn_at stage.Routine a k = routine_turn a k
 
 -- ---- runs of shapes
 
@@ -212,6 +267,8 @@ pub data Passed : Type 0 where
 abbrev pub may_end : Stage → Bool
 may_end stage.Subscripts = true
 may_end stage.Behind = true
+may_end stage.Label = true
+may_end stage.Actuals = true
 may_end s = false
 
 abbrev pub is_last : Around → Bool

@@ -7,6 +7,7 @@ ghost use Rattle.mj_expr.specs.Machine.{Whole, Target, Wanted, Sought, Front, As
 ghost use Rattle.mj_expr.specs.Reads.{symbols_seen, BeginsNone};
 ghost use Rattle.mj_expr.specs.Shapes.{IsEndOf, PassesAs, sort_of as the_sort, stray_turn, comma_turn, close_turn, colon_turn, behind_turn};
 ghost use Rattle.mj_expr.specs.Shapes.{bare_goes as the_bare, operand_turn, variable_turn, name_turn, arguments_turn, subscripts_turn, inside as the_inside};
+ghost use Rattle.mj_expr.specs.Shapes.{actual_turn, actuals_turn, entry_turn, label_turn, routine_turn};
 ghost use Rattle.mj_expr.specs.Shapes.{turn_at, may_end, is_last, ended as the_end, led as the_lead, IsLed, pass, AdvancesFrom, EndsFrom};
 ghost use Rattle.mj_lex.specs.Seen.{token_seen, tokens_seen};
 
@@ -36,6 +37,8 @@ pub(crate) enum Around {
     Condition,
     /// `$SELECT`, in the value of a condition
     Choice,
+    /// the actuals of a function that is written in M
+    Actuals,
 }
 
 /// What may come at a place.
@@ -53,6 +56,16 @@ pub(crate) enum Stage {
     Subscripts,
     /// what follows an operand
     Behind,
+    /// an actual, which may be left out
+    Actual,
+    /// actuals, or what follows an operand
+    Actuals,
+    /// a routine, behind `$$` alone
+    Entry,
+    /// a routine, actuals, or what follows an operand
+    Label,
+    /// the name of a routine
+    Routine,
 }
 
 /// What a token is to a phrase, without what it stands for.
@@ -61,6 +74,8 @@ pub(crate) enum Sort {
     Constant,
     Name,
     Callee(Callee),
+    /// `$$`, with a label or without
+    Entry(bool),
     Sign(Sign),
     Other,
 }
@@ -88,6 +103,9 @@ fn other_sort(token: Token<'_>) -> Sort
         Token::Word(_) => Sort::Other,
         Token::Called(_) => Sort::Other,
         Token::Special(_) => Sort::Other,
+        Token::Invoked(_) => Sort::Other,
+        Token::Numbered(_) => Sort::Other,
+        Token::Dollars => Sort::Other,
         Token::Digits(_) => Sort::Other,
         Token::Quoted(_) => Sort::Other,
         Token::Blank => Sort::Other,
@@ -106,6 +124,7 @@ fn sort_of(alloc: Global, token: Token<'_>) -> Result<Sort, AllocError>
         Head::Special(_) => Ok(Sort::Constant),
         Head::Name(_) => Ok(Sort::Name),
         Head::Callee(callee) => Ok(Sort::Callee(callee)),
+        Head::Entry(label) => Ok(Sort::Entry(label.is_some())),
         Head::Caret => Ok(Sort::Sign(Sign::Caret)),
         Head::Open => Ok(Sort::Sign(Sign::Open)),
         Head::Unary(sign, _) => Ok(Sort::Sign(sign)),
@@ -130,7 +149,8 @@ fn stray(around: Around) -> Turn
         | Around::Group
         | Around::About(_)
         | Around::Condition
-        | Around::Choice => Turn::Stuck,
+        | Around::Choice
+        | Around::Actuals => Turn::Stuck,
     }
 }
 
@@ -156,6 +176,7 @@ fn comma(around: Around) -> Turn
             }
         }
         Around::Choice => Turn::Goes(Stage::Operand, Around::Condition),
+        Around::Actuals => Turn::Goes(Stage::Actual, Around::Actuals),
         Around::Alone | Around::Target | Around::Group | Around::Condition => Turn::Stuck,
     }
 }
@@ -172,7 +193,7 @@ fn close(around: Around) -> Turn
                 Turn::Stuck
             }
         }
-        Around::Group | Around::About(_) | Around::Choice => Turn::Closes,
+        Around::Group | Around::About(_) | Around::Choice | Around::Actuals => Turn::Closes,
         Around::Alone | Around::Target | Around::Condition => Turn::Stuck,
     }
 }
@@ -216,6 +237,8 @@ fn operand(around: Around, sort: Sort) -> Turn
         Sort::Constant => Turn::Goes(Stage::Behind, around),
         Sort::Name => Turn::Goes(Stage::Subscripts, around),
         Sort::Callee(callee) => Turn::Goes(Stage::Arguments(callee), around),
+        Sort::Entry(true) => Turn::Goes(Stage::Label, around),
+        Sort::Entry(false) => Turn::Goes(Stage::Entry, around),
         Sort::Sign(sign) => match unary(sign) {
             Some(_) => Turn::Goes(Stage::Operand, around),
             None => match sign {
@@ -226,6 +249,59 @@ fn operand(around: Around, sort: Sort) -> Turn
             },
         },
         Sort::Other => Turn::Stuck,
+    }
+}
+
+/// Says what a token does where an actual may stand.
+fn actual(around: Around, sort: Sort) -> Turn
+    ensures { result ≡ actual_turn around sort }
+{
+    match sort {
+        Sort::Sign(Sign::Comma) => Turn::Goes(Stage::Actual, around),
+        Sort::Sign(Sign::Close) => Turn::Closes,
+        _ => operand(around, sort),
+    }
+}
+
+/// Says what a token does behind an entry.
+fn actuals(around: Around, sort: Sort) -> Turn
+    ensures { result ≡ actuals_turn around sort }
+{
+    match sort {
+        Sort::Sign(Sign::Open) => Turn::Opens(Stage::Actual, Around::Actuals),
+        _ => behind(around, sort),
+    }
+}
+
+/// Says what a token does behind `$$` alone.
+fn entry(around: Around, sort: Sort) -> Turn
+    ensures { result ≡ entry_turn around sort }
+{
+    match sort {
+        Sort::Sign(Sign::Caret) => Turn::Goes(Stage::Routine, around),
+        Sort::Sign(Sign::Comma) => stray(around),
+        _ => Turn::Stuck,
+    }
+}
+
+/// Says what a token does behind `$$` and a label.
+fn label(around: Around, sort: Sort) -> Turn
+    ensures { result ≡ label_turn around sort }
+{
+    match sort {
+        Sort::Sign(Sign::Caret) => Turn::Goes(Stage::Routine, around),
+        _ => actuals(around, sort),
+    }
+}
+
+/// Says what a token does where the name of a routine is wanted.
+fn routine(around: Around, sort: Sort) -> Turn
+    ensures { result ≡ routine_turn around sort }
+{
+    match sort {
+        Sort::Name => Turn::Goes(Stage::Actuals, around),
+        Sort::Sign(Sign::Comma) => stray(around),
+        _ => Turn::Stuck,
     }
 }
 
@@ -286,7 +362,8 @@ fn bare_goes(around: Around) -> bool
         | Around::Group
         | Around::List(_, _)
         | Around::Condition
-        | Around::Choice => true,
+        | Around::Choice
+        | Around::Actuals => true,
     }
 }
 
@@ -320,6 +397,11 @@ fn turn_of(stage: Stage, around: Around, sort: Sort) -> Turn
         Stage::Arguments(callee) => arguments(callee, sort),
         Stage::Subscripts => subscripts(around, sort),
         Stage::Behind => behind(around, sort),
+        Stage::Actual => actual(around, sort),
+        Stage::Actuals => actuals(around, sort),
+        Stage::Entry => entry(around, sort),
+        Stage::Label => label(around, sort),
+        Stage::Routine => routine(around, sort),
     }
 }
 
@@ -327,8 +409,10 @@ fn turn_of(stage: Stage, around: Around, sort: Sort) -> Turn
 fn is_end(stage: Stage, around: Around) -> bool
     ensures { result ≡ (may_end stage && is_last around) }
 {
-    matches!(stage, Stage::Subscripts | Stage::Behind)
-        && matches!(around, Around::Alone | Around::Target)
+    matches!(
+        stage,
+        Stage::Subscripts | Stage::Behind | Stage::Label | Stage::Actuals
+    ) && matches!(around, Around::Alone | Around::Target)
 }
 
 /// What follows the phrase where no token goes on, or why none ends there.
@@ -392,7 +476,7 @@ fn advanced<'a, 't>(
 }
 
 /// What follows the phrase that is read from this place on.
-#[tactic(auto, using(crate::proofs::Shapes::end_next, crate::proofs::Shapes::end_more))]
+#[tactic(auto, using(crate::proofs::Runs::end_next, crate::proofs::Runs::end_more))]
 fn beyond<'a, 't>(
     alloc: Global,
     tokens: &'t [Lexeme<'a>],

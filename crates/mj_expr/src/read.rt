@@ -1,23 +1,27 @@
 // The parts of expressions, each read from the front of the tokens.
 
-ghost use Rattle.std.specs.Prelude.{◌<◌, ◌≤◌, List, false, length, IfOk};
+ghost use Rattle.std.specs.Prelude.{◌≡◌, ◌<◌, ◌≤◌, ℕ, List, Option, false, length, IfOk};
+ghost use Rattle.std.specs.Option.{is_some};
 ghost use Rattle.mj_ast.specs.declared.expr.Scope.{Scope};
-ghost use Rattle.mj_ast.specs.Trees.{operand_of, expr_of, variable_of, exprs_of, choice_of};
+ghost use Rattle.mj_ast.specs.Trees.{operand_of, expr_of, variable_of, exprs_of, choice_of, actuals_of, option_of};
 ghost use Rattle.mj_expr.specs.Lists.{choices_of};
-ghost use Rattle.mj_expr.specs.Reads.{symbols_seen, HasNoBinary};
+ghost use Rattle.mj_expr.specs.Reads.{symbols_seen, HasNoBinary, label_seen, IsLabelSize};
 ghost use Rattle.mj_expr.specs.Readers.{ReadsOperand, ReadsGroup, ReadsOther, ReadsCall, ReadsAbout, ReadsChoices, ReadsChosen, ReadsOthers, ReadsGlobal};
-ghost use Rattle.mj_expr.specs.Readers.{ReadsNamed, ReadsSought, ReadsExpr, ReadsList};
+ghost use Rattle.mj_expr.specs.Readers.{ReadsNamed, ReadsSought, ReadsExpr, ReadsList, ReadsEntry, ReadsRoutine, ReadsPassed, ReadsActual, ReadsActuals};
+ghost use Rattle.mj_expr.specs.Readers.{IsWhole, IsLeft};
 
 use crate::list::added;
 use crate::stop::ParseError;
 use crate::token::{
     Head, ListKind, behind_binary, behind_caret, behind_close, behind_colon, behind_comma,
-    behind_name, behind_open, fills, front, head_of, is_limited, least, least_subscripts, levels,
-    most, most_others, name_text, refusal,
+    behind_name, behind_open, fills, front, head_of, is_limited, label_text, least,
+    least_subscripts, levels, most, most_others, name_text, refusal,
 };
-use mj_ast::{Callee, Choice, Expr, NameFunction, Operand, Scope, Tail, Variable};
+use mj_ast::{Actual, Callee, Choice, Expr, NameFunction, Operand, Scope, Tail, Target, Variable};
 use mj_lex::Lexeme;
-use std::alloc::Global;
+use mj_text::Text;
+use std::alloc::{AllocError, Global};
+use std::mem::replace;
 
 /// Reads the operand in front and the tokens behind it. `room` is how many levels may be opened, and `full` says that the list
 /// of subscripts that it stands in has no room for another.
@@ -47,6 +51,7 @@ fn operand<'a, 't>(
             }
             call(alloc, callee, rest, room - 1)
         }
+        Head::Entry(label) => extrinsic(alloc, label, rest, room, full),
         Head::Caret => {
             let (variable, rest) = global(alloc, rest, room, full)?;
             Ok((Operand::Variable(variable), rest))
@@ -111,6 +116,142 @@ fn call<'a, 't>(
             let (choice, rest) = choices(alloc, rest, room)?;
             Ok((Operand::Select(Box::new(alloc, choice)?), rest))
         }
+    }
+}
+
+/// Makes a text of the label of an entry, if one stands there.
+fn label_of(alloc: Global, label: Option<&[u8]>) -> Result<Option<Text>, AllocError>
+    requires { IsLabelSize (label_seen label) }
+    ensures { IfOk result (λ l. l ≡ label_seen label.entry) }
+{
+    match label {
+        None => Ok(None),
+        Some(label) => Ok(Some(label_text(alloc, label)?)),
+    }
+}
+
+/// Reads the routine of an entry, if one stands there, and the tokens behind it. Behind `$$` alone one has to.
+fn routine<'a, 't>(
+    alloc: Global,
+    labelled: bool,
+    tokens: &'t [Lexeme<'a>],
+    full: bool,
+) -> Result<(Option<Text>, &'t [Lexeme<'a>]), ParseError>
+    ensures shorter { IfOk result (λ x. length x.1.now ≤ length tokens.now) }
+    ensures whole { IfOk result (λ x. (label : Option (List ℕ)) → is_some label ≡ labelled → IsWhole label x.0 (symbols_seen x.1.now)) }
+    ensures reads { (label : Option (List ℕ)) → is_some label ≡ labelled → ReadsRoutine (λ x. x.0) (λ x. x.1.now) result label full tokens.now }
+{
+    match behind_caret(tokens) {
+        Some(behind) => match behind_name(behind) {
+            Some((word, rest)) => Ok((Some(name_text(alloc, word)?), rest)),
+            None => Err(refusal(behind, full)),
+        },
+        None => {
+            if labelled {
+                Ok((None, tokens))
+            } else {
+                Err(refusal(tokens, full))
+            }
+        }
+    }
+}
+
+/// Reads a function that is written in M, of which `$$` and the label, if one stands there, were read.
+#[cycle(parse)]
+fn extrinsic<'a, 't>(
+    alloc: Global,
+    label: Option<&[u8]>,
+    tokens: &'t [Lexeme<'a>],
+    room: usize,
+    full: bool,
+) -> Result<(Operand, &'t [Lexeme<'a>]), ParseError>
+    requires { IsLabelSize (label_seen label) }
+    ensures shorter { IfOk result (λ x. length x.1.now ≤ length tokens.now) }
+    ensures reads { ReadsEntry (λ x. operand_of x.0) (λ x. x.1.now) result (label_seen label.entry) room full tokens.now }
+{
+    let (routine, rest) = routine(alloc, label.is_some(), tokens, full)?;
+    match passed(alloc, rest, room) {
+        Ok((actuals, rest)) => match label_of(alloc, label) {
+            Ok(label) => Ok((Operand::Extrinsic(Target { label, routine }, actuals), rest)),
+            Err(_) => {
+                drop(routine); // for the proof
+                drop(actuals); // for the proof
+                Err(ParseError::Memory)
+            }
+        },
+        Err(stop) => {
+            drop(routine); // for the proof
+            Err(stop)
+        }
+    }
+}
+
+/// Reads the actuals behind an entry, if some stand there, and the tokens behind them.
+#[cycle(parse)]
+fn passed<'a, 't>(
+    alloc: Global,
+    tokens: &'t [Lexeme<'a>],
+    room: usize,
+) -> Result<(Vec<Actual>, &'t [Lexeme<'a>]), ParseError>
+    ensures shorter { IfOk result (λ x. length x.1.now ≤ length tokens.now) }
+    ensures reads { ReadsPassed (λ x. actuals_of x.0.items) (λ x. x.1.now) result room tokens.now }
+{
+    let Some(behind) = behind_open(tokens) else {
+        return Ok((Vec::new(alloc), tokens));
+    };
+    if room == 0 {
+        return Err(ParseError::Deep(tokens.len()));
+    }
+    actuals(alloc, behind, room - 1)
+}
+
+/// Reads the actuals behind their opening parenthesis, and the tokens behind the closing one.
+#[cycle(parse)]
+fn actuals<'a, 't>(
+    alloc: Global,
+    tokens: &'t [Lexeme<'a>],
+    room: usize,
+) -> Result<(Vec<Actual>, &'t [Lexeme<'a>]), ParseError>
+    ensures shorter { IfOk result (λ x. length x.1.now < length tokens.now) }
+    ensures reads { ReadsActuals (λ x. actuals_of x.0.items) (λ x. x.1.now) result room tokens.now }
+{
+    let (mut last, mut rest) = actual(alloc, tokens, room)?;
+    let mut items = Vec::new(alloc);
+    'commas: while let Some(after) = behind_comma(rest) {
+        let (item, behind) = actual(alloc, after, room)?;
+        let before = replace(&mut last, item);
+        added(&mut items, before)?;
+        rest = behind;
+    }
+    match behind_close(rest) {
+        Some(rest) => {
+            added(&mut items, last)?;
+            Ok((items, rest))
+        }
+        None => Err(refusal(rest, false)),
+    }
+}
+
+/// Reads an actual, which may be left out before a comma or a closing parenthesis, and the tokens behind it.
+#[cycle(parse)]
+fn actual<'a, 't>(
+    alloc: Global,
+    tokens: &'t [Lexeme<'a>],
+    room: usize,
+) -> Result<(Actual, &'t [Lexeme<'a>]), ParseError>
+    ensures shorter { IfOk result (λ x. length x.1.now ≤ length tokens.now) }
+    ensures left { IfOk result (λ x. IsLeft (option_of x.0) (symbols_seen x.1.now)) }
+    ensures reads { ReadsActual (λ x. option_of x.0) (λ x. x.1.now) result room tokens.now }
+{
+    match behind_comma(tokens) {
+        Some(_) => Ok((Actual::Omitted, tokens)),
+        None => match behind_close(tokens) {
+            Some(_) => Ok((Actual::Omitted, tokens)),
+            None => {
+                let (value, rest) = expr(alloc, tokens, room, false)?;
+                Ok((Actual::Given(value), rest))
+            }
+        },
     }
 }
 

@@ -12,6 +12,7 @@ ghost use Rattle.mj_expr.specs.Reads.{symbols_seen, Refuses, IsHead, HasNoBinary
 ghost use Rattle.mj_expr.specs.Reads.{least_in, most_in, limited_in, StartsWith, StartsWithBinary, StartsWithName};
 ghost use Rattle.mj_num.specs.Number.{reading};
 ghost use Rattle.mj_lex.specs.Seen.{token_seen};
+ghost use Rattle.mj_text.specs.declared.text.TheConstants.{TEXT_LIMIT};
 
 use crate::stop::ParseError;
 use mj_ast::{Callee, Function, NameFunction, Sign, Special};
@@ -199,6 +200,8 @@ pub(crate) enum Head<'a> {
     Special(Special),
     Name(&'a [u8]),
     Callee(Callee),
+    /// `$$` and the label of an entry, if one stands there
+    Entry(Option<&'a [u8]>),
     Caret,
     Open,
     Unary(Sign, UnaryOp),
@@ -296,6 +299,19 @@ pub(crate) fn head_of<'a>(alloc: Global, token: &Token<'a>) -> Result<Head<'a>, 
                 None => Ok(Head::Nothing),
             }
         }
+        Token::Invoked(word) => {
+            if word.len() > NAME_LIMIT {
+                return Ok(Head::Nothing);
+            }
+            Ok(Head::Entry(Some(word)))
+        }
+        Token::Numbered(digits) => {
+            if digits.len() > TEXT_LIMIT {
+                return Ok(Head::Nothing);
+            }
+            Ok(Head::Entry(Some(digits)))
+        }
+        Token::Dollars => Ok(Head::Entry(None)),
         Token::Sign(sign) => Ok(sign_head(sign)),
         Token::Special(word) => {
             if word.len() > NAME_LIMIT {
@@ -419,6 +435,17 @@ pub(crate) fn name_text(alloc: Global, word: &[u8]) -> Result<Text, AllocError>
     }
 }
 
+/// Makes a text of the label of an entry.
+pub(crate) fn label_text(alloc: Global, label: &[u8]) -> Result<Text, AllocError>
+    requires { length label.now ≤ TEXT_LIMIT }
+    ensures { IfOk result (λ t. t ≡ label.now) }
+{
+    match Text::from(alloc, label) {
+        Ok(text) => Ok(text),
+        Err(_) => Err(AllocError),
+    }
+}
+
 /// Says why nothing is given where a word stands with which no phrase goes on.
 fn refused_word(word: &[u8], left: usize) -> ParseError
     ensures { result ≡ (if nat_le (length word.now) 31 then Stuck left else Long) }
@@ -438,6 +465,9 @@ fn refused_at(token: Token<'_>, left: usize, full: bool) -> ParseError
         Token::Word(word) => refused_word(word, left),
         Token::Called(word) => refused_word(word, left),
         Token::Special(word) => refused_word(word, left),
+        Token::Invoked(word) => refused_word(word, left),
+        Token::Numbered(_) => ParseError::Stuck(left),
+        Token::Dollars => ParseError::Stuck(left),
         Token::Sign(sign) => refused_sign(sign, left, full),
         Token::Digits(_) => ParseError::Stuck(left),
         Token::Quoted(_) => ParseError::Stuck(left),

@@ -1,5 +1,5 @@
 -- The frames that a job keeps.
-use Rattle.std.specs.Prelude.{ℕ, ◌+◌, ◌≤◌, List, [], ◌∷◌, Option, Some, None, option_map, length, map, reverse}
+use Rattle.std.specs.Prelude.{ℕ, ◌+◌, ◌≤◌, List, [], ◌∷◌, Option, Some, None, Bool, false, option_map, length, map, reverse}
 use Rattle.std.specs.Borrow.{Bor}
 use Rattle.mj_semantics.specs.State.{Place, Frame}
 use Rattle.mj_frames.specs.declared.frame.Place as kept
@@ -26,6 +26,10 @@ innermost frames = elim frames [ [] ↦ None | f ∷ fs ↦ Some f ]
 -- the level of the innermost frame's lines
 abbrev pub level_in : List Frame → ℕ
 level_in frames = elim frames [ [] ↦ 1 | f ∷ fs ↦ f.level ]
+
+-- whether the innermost frame is a function's
+abbrev pub function_in : List Frame → Bool
+function_in frames = elim frames [ [] ↦ false | f ∷ fs ↦ f.function ]
 
 -- no frame's level is more than one above the number of frames up to it
 abbrev pub AreShallow : List Frame → Type 0

@@ -1,9 +1,10 @@
 // The frames of a job.
 
-ghost use Rattle.std.specs.Prelude.{◌≡◌, ◌+◌, ◌-◌, ◌≤◌, [], ◌∷◌, length, drop, option_map, OnOk, OnErr};
+ghost use Rattle.std.specs.Prelude.{◌≡◌, ◌+◌, ◌-◌, ◌≤◌, [], ◌∷◌, length, map, drop, option_map, OnOk, OnErr};
+ghost use Rattle.std.specs.List.{list_any};
 ghost use Rattle.mj_semantics.specs.State.{standing_at};
 ghost use Rattle.mj_frames.specs.Places.{place_in, line_at};
-ghost use Rattle.mj_frames.specs.Frames.{place_of, frame_of, frame_at, frames_of, with_place, innermost, level_in, popped_from};
+ghost use Rattle.mj_frames.specs.Frames.{place_of, frame_of, frame_at, frames_of, with_place, innermost, level_in, function_in, popped_from};
 
 use crate::frame::{Frame, Place};
 use mj_text::Text;
@@ -55,6 +56,24 @@ impl Frames {
             None => 1,
             Some(frame) => frame.level,
         }
+    }
+
+    /// Whether the innermost one is a function's.
+    #[inline(always)]
+    pub fn is_function(&self) -> bool
+        ensures { result ≡ function_in self.now }
+    {
+        match self.frames.last() {
+            None => false,
+            Some(frame) => frame.function,
+        }
+    }
+
+    /// Whether any is a function's.
+    pub fn any_function(&self) -> bool
+        ensures { result ≡ list_any (λ f. f.function) self.now }
+    {
+        any_function(&self.frames)
     }
 
     /// The innermost one.
@@ -125,6 +144,18 @@ impl Frames {
             stand(&mut self.frames, place);
         }
     }
+}
+
+// Whether one of these frames is a function's.
+fn any_function(frames: &[Frame]) -> bool
+    ensures { result ≡ list_any (λ f. f.function) (map frame_of frames.now) }
+{
+    for frame in frames {
+        if frame.function {
+            return true;
+        }
+    }
+    false
 }
 
 // The innermost frame, which lies last, stands at a place, if there is a frame.

@@ -1,9 +1,10 @@
 // FORs, and where frames go on.
 
-ghost use Rattle.std.specs.Prelude.{◌≡◌, false};
+ghost use Rattle.std.specs.Prelude.{◌≡◌, ◌-◌, ◌≤◌, false};
 
 use mj_num::Num;
 use mj_subs::Name;
+use mj_text::Text;
 
 /// The passes of a FOR: one; without end; or by steps, up to an end if there is one.
 #[derive(Clone, Copy, PartialEq, Eq, Debug)]
@@ -23,11 +24,15 @@ pub struct Loop {
     ghost local: { name.global ≡ false },
 }
 
-/// Where a frame goes on once the one above it is over: its unit, by its place, the instruction, and the FORs that it is in, the
-/// innermost last.
+/// Where a frame goes on once the one above it is over: its unit, by its place, the instruction, the FORs that it is in, the innermost
+/// last, the operands of a half-done expression, the topmost last, and whether it waits for the value of a function. Where there are operands,
+/// there is room for one more, so that the value takes no memory.
 #[derive(Drop)]
 pub struct Call {
     pub unit: usize,
     pub pc: usize,
     pub loops: Vec<Loop>,
+    pub operands: Vec<Text>,
+    pub function: bool,
+    ghost room: { operands.len ≤ operands.cap - 1 },
 }

@@ -10,8 +10,8 @@ use Rattle.mj_store.specs.Changes.{followed_by}
 use Rattle.mj_globs.specs.declared.change.Change.{Change}
 use Rattle.mj_globs.specs.declared.change.Change.TheVariants as change
 use Rattle.mj_globs.specs.Changes.{is_to, are_to}
-use Rattle.mj_globs.specs.Stamps.{Stamps, Stamped, stamp_at, Rises, KeepsStamps}
-use Rattle.mj_globs.proofs.Stamping.{rises_same, rises_then}
+use Rattle.mj_globs.specs.Stamps.{Stamps, Stamped, Rises, KeepsStamps}
+use Rattle.mj_globs.proofs.Stamping.{rises_same}
 
 -- what holds where no error came
 pub of_ok : {T E : Type 0} (r : Result T E) (P : Type 0) → OnOk r P → is_err r ≡ false → P
@@ -40,9 +40,6 @@ keeps_next xs i x a b c there is so step n e = step n (apart_at xs i x n there i
 pub keeps_set : (x : Change) (m n : Name) (v : List ℕ) (a b : Stamps) → x ≡ change.Set n v → m ≡ n → KeepsStamps (same_word m) a b → KeepsStamps (is_to x) a b
 keeps_set x m n v a b is same keeps k e = keeps k (ap (λ (w : Name). same_word w k) same ∙ ap (λ (y : Change). is_to y k) (sym is) ∙ e)
 
-pub keeps_kill : (x : Change) (n : Name) (a b : Stamps) → x ≡ change.Kill n → KeepsStamps (same_word n) a b → KeepsStamps (is_to x) a b
-keeps_kill x n a b is keeps k e = keeps k (ap (λ (y : Change). is_to y k) (sym is) ∙ e)
-
 pub keeps_put : (x : Change) (n : Name) (nodes : List (List (List ℕ) × List ℕ)) (a b : Stamps) → x ≡ change.Put n nodes → KeepsStamps (same_word n) a b → KeepsStamps (is_to x) a b
 keeps_put x n nodes a b is keeps k e = keeps k (ap (λ (y : Change). is_to y k) (sym is) ∙ e)
 
@@ -53,13 +50,6 @@ keeps_place n place p a b c is so step k e = step k (ap (λ (w : Name). same_wor
 -- a name that was handed back is the one that was handed over
 pub keeps_returned : (m n : Name) (a b c : Stamps) → m ≡ n → KeepsStamps (same_word n) a b → KeepsStamps (same_word m) b c → KeepsStamps (same_word n) a c
 keeps_returned m n a b c same one two k e = two k (ap (λ (w : Name). same_word w k) same ∙ e) ∙ one k e
-
--- what was done to a copy
-pub rises_copy : (a copy after : Stamped) → copy.content ≡ a.content → copy.stamps ≡ a.stamps → Rises copy after → Rises a after
-rises_copy a copy after content stamps more = rises_then a copy after (rises_same a copy content stamps) more
-
-pub keeps_copy : (f : Name → Bool) (a copy after : Stamps) → copy ≡ a → KeepsStamps f copy after → KeepsStamps f a after
-keeps_copy f a copy after same keeps n e = keeps n e ∙ ap (λ (s : Stamps). stamp_at s n) same
 
 -- a store that isn't touched
 pub rises_itself : (a : Stamped) → Rises a a

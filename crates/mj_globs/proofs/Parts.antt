@@ -18,7 +18,7 @@ use Rattle.mj_store.specs.Changes.{after_set, after_kill, after_put, followed_by
 use Rattle.mj_globs.specs.declared.change.Change.{Change}
 use Rattle.mj_globs.specs.declared.change.Change.TheVariants as change
 use Rattle.mj_globs.specs.Changes.{after_changes}
-use Rattle.mj_globs.specs.Parts.{all_given, all_taken, takes, is_rewritten}
+use Rattle.mj_globs.specs.Parts.{all_given, all_taken, takes, is_kill, is_rewritten}
 use Rattle.mj_globs.proofs.Both.{rises_set, rises_kill, rises_put}
 
 -- ---- the names rise
@@ -149,3 +149,13 @@ in_two old xs alone mid new h by none first then =
       | false ↦ λ q. refl
     ] refl
     ∙ sym (find_changes m old [] xs))
+
+-- where no name goes the texts are all
+given_alone : (old : Content) (xs : List Change) → list_any is_kill xs ≡ false → all_given old xs ≡ after_changes old xs
+given_alone old [] none = refl
+given_alone old (change.Set n v ∷ xs) none = given_alone (after_set old n v) xs none
+given_alone old (change.Kill n ∷ xs) none = absurd cc
+given_alone old (change.Put n more ∷ xs) none = given_alone (after_put old n more) xs none
+
+pub in_one : (old : Content) (xs : List Change) (new : Content) → false ≡ list_any is_kill xs → new ≡ all_given old xs → new ≡ after_changes old xs
+in_one old xs new none is = is ∙ given_alone old xs (sym none)

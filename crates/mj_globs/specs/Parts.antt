@@ -1,5 +1,5 @@
 -- A list of changes in two parts: the texts that it gives, and the names that it takes.
-use Rattle.std.specs.Prelude.{Bool, false, not, nat_eq, List}
+use Rattle.std.specs.Prelude.{Bool, true, false, not, nat_eq, List}
 use Rattle.std.specs.List.{fold}
 use Rattle.std.specs.Option.{is_some}
 use Rattle.mj_subs.specs.Name.{Name}
@@ -31,6 +31,12 @@ abbrev pub takes : Name → Change → Bool
 takes m (change.Set n text) = false
 takes m (change.Kill n) = is_some (rest_of n m)
 takes m (change.Put n nodes) = false
+
+-- whether a change takes names
+abbrev pub is_kill : Change → Bool
+is_kill (change.Set n text) = false
+is_kill (change.Kill n) = true
+is_kill (change.Put n nodes) = false
 
 -- whether a change takes a name at which, or below which, a text stands
 abbrev pub is_rewritten : Content → Change → Bool

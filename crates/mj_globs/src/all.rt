@@ -12,7 +12,7 @@ ghost use Rattle.mj_store.specs.Changes.{after_set, after_put, followed_by};
 ghost use Rattle.mj_tree.specs.Undo.{undone};
 ghost use Rattle.mj_globs.specs.Changes.{after_changes, is_to, are_to};
 ghost use Rattle.mj_globs.specs.Stamps.{Rises, KeepsStamps};
-ghost use Rattle.mj_globs.specs.Parts.{changed_without_name, all_given, all_taken, is_rewritten};
+ghost use Rattle.mj_globs.specs.Parts.{changed_without_name, all_given, all_taken, is_kill, is_rewritten};
 
 use crate::change::Change;
 use crate::globals::Globals;
@@ -27,6 +27,42 @@ type Log = Vec<(Name, Option<Text>)>;
 
 /// Makes the changes in order, all of them or none.
 pub fn make_all(globals: &mut Globals, changes: &[Change]) -> Result<(), AllocError>
+    ensures ok { OnOk result (globals.new.content ≡ after_changes globals.old.content changes.now) }
+    ensures err { OnErr result (globals.new.content ≡ globals.old.content) }
+    ensures stamps { Rises globals.old globals.new }
+    ensures others { OnOk result (KeepsStamps (are_to changes.now) globals.old.stamps globals.new.stamps) }
+{
+    if is_any_kill(changes) {
+        return make_with_kills(globals, changes);
+    }
+    let mut log = Vec::new(globals.allocator());
+    match give_all(globals, changes, &mut log) {
+        Ok(()) => Ok(()),
+        Err(_) => {
+            undo(globals, log);
+            Err(AllocError)
+        }
+    }
+}
+
+// Whether one of the changes takes names.
+fn is_any_kill(changes: &[Change]) -> bool
+    ensures { result ≡ list_any is_kill changes.now }
+{
+    changes.iter().any(|change| is_kill(change))
+}
+
+fn is_kill(change: &Change) -> bool
+    ensures { result ≡ is_kill change.now }
+{
+    match change {
+        Change::Kill(_) => true,
+        Change::Set(_, _) | Change::Put(_, _) => false,
+    }
+}
+
+// Makes changes of which some take names.
+fn make_with_kills(globals: &mut Globals, changes: &[Change]) -> Result<(), AllocError>
     ensures ok { OnOk result (globals.new.content ≡ after_changes globals.old.content changes.now) }
     ensures err { OnErr result (globals.new.content ≡ globals.old.content) }
     ensures stamps { Rises globals.old globals.new }

@@ -47,7 +47,7 @@ nothing_after (inr le) = absurd (omega (arith, le))
 abbrev routines : List Routine
 routines = record {
   name = codes "R";
-  lines = record { label = Some (codes "A"); formals = codes "X" ∷ codes "Y" ∷ []; level = 1; steps = record { condition = None; command = Quit } ∷ [] } ∷ [];
+  lines = record { label = Some (codes "A"); formals = codes "X" ∷ codes "Y" ∷ []; level = 1; steps = record { condition = None; command = Quit None } ∷ [] } ∷ [];
 } ∷ []
 
 abbrev entry : Entry

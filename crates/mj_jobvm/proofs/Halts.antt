@@ -9,11 +9,11 @@ use Rattle.mj_ask.specs.declared.ask.Ask.TheVariants as asks
 use Rattle.mj_ask.specs.declared.ask.SharedAsk.TheVariants as shared_asks
 use Rattle.mj_ask.specs.declared.ask.Reply.{Reply}
 use Rattle.mj_ast.specs.Syntax.{Routine}
-use Rattle.mj_semantics.specs.State.{State, Locals, Place, Words, principal, devices_limit, has_failed, ending_order, is_open, with_device, counted, places, marked, raised, lowered, settled, can_restart, restarted}
+use Rattle.mj_semantics.specs.State.{State, Locals, Place, Words, principal, devices_limit, has_failed, ending_order, is_open, with_device, counted, places, marked, raised, lowered, settled, can_restart, restarted, is_in_function}
 use Rattle.mj_semantics.specs.Outcome.{Outcome, Needs, More, Ended, Handler, Timed, turn, look, change, asking, no_restart, until, restartable, go_back, over, halt, ends, end, fault, steps_limit, ask}
 use Rattle.mj_semantics.specs.Devices.{is_got, has_no_session, obtained, request_device}
 use Rattle.mj_semantics.specs.Sharing.{in_time as test_in_time}
-use Rattle.mj_semantics.specs.Transactions.{levels_limit, kind_of, begin_transaction, in_transaction, is_clash, commit, roll_back, roll_back_for_restart, begin_restart}
+use Rattle.mj_semantics.specs.Transactions.{levels_limit, kind_of, out_of_functions, begin_transaction, in_transaction, is_clash, commit, roll_back, roll_back_for_restart, begin_restart}
 use Rattle.mj_semantics.specs.Job.{Start, opening, start as starts, next}
 use Rattle.mj_semantics.proofs.Depth.{one_answer}
 use Rattle.mj_jobvm.specs.Run.{Log, replies_of, IsTrace, begins, goes_on, HasEnded}
@@ -192,8 +192,11 @@ in_level h s (inr g) e = g
 begun : (restored : Option Words) (serial : Bool) (inner outermost : Timed) → Halts inner → Apart outermost → Halts (begin_transaction restored serial inner outermost)
 begun restored serial inner outermost k l = record { by = λ n h s replies w e. at (nat_eq s.level 0) n h s replies refl w e }
   where
+    asks_one : Timed
+    asks_one = ask (asks.Shared (shared_asks.Begin (kind_of serial))) (λ r. change (marked restored serial) outermost)
+
     outer_one : Timed
-    outer_one = ask (asks.Shared (shared_asks.Begin (kind_of serial))) (λ r. change (marked restored serial) outermost)
+    outer_one = out_of_functions asks_one
 
     one_more : State → Timed
     one_more s = if nat_lt s.level levels_limit then change raised inner else fault faults.Limit
@@ -206,7 +209,8 @@ begun restored serial inner outermost k l = record { by = λ n h s replies w e. 
 
     at : (b : Bool) (n : ℕ) (h : Handler) (s : State) (replies : List Reply) → nat_eq s.level 0 ≡ b → IsReady h s
         → (if b then outer_one else one_more s) n h s replies ≡ Ended → Halted ((if b then outer_one else one_more s) n h s) replies
-    at true n h s replies b w e = (asked _ _ (λ r. is_marked)).by n h s replies w e
+    at true n h s replies b w e =
+        (looked _ (λ t. chosen (is_in_function t) (fault faults.InTransaction) asks_one (faulted faults.InTransaction) (asked _ _ (λ r. is_marked)))).by n h s replies w e
     at false n h s replies b w e = (is_raised s).by n h s replies (in_level h s w b) e
 
 in_it : (t : Timed) → Within t → Halts (in_transaction t)

@@ -9,22 +9,22 @@ use Rattle.mj_semantics.specs.State.{State, popped, column_at, Only, AllBut, new
 use Rattle.mj_ast.specs.declared.function.NameFunction.{NameFunction}
 use Rattle.mj_semantics.specs.Outcome.{Timed, turn, turns, change, end, fault}
 use Rattle.mj_semantics.specs.Accesses.{access, value_told, nodes_told}
-use Rattle.mj_semantics.specs.Evaluation.{read, ev, ev_tails, ev_operand, ev_choices, ev_name, ev_named, ev_all, ev_actuals, ev_local, name_of, named_for, when}
+use Rattle.mj_semantics.specs.Evaluation.{read, ev, ev_tails, ev_operand, ev_choices, ev_name, ev_named, ev_all, ev_actuals, plain_values, ev_local, name_of, named_for, when}
 use Rattle.mj_semantics.specs.Points.{Once, Always, By, Leave, Ways, Point, AtLine, Called, Jumped, Pass, Started, Points}
 use Rattle.mj_semantics.specs.Sharing.{unlock_all}
 use Rattle.mj_semantics.specs.Transactions.{restored_by, listed_by, serial_by}
-use Rattle.mj_semantics.specs.Commands.{store, deeper, for_again, Aim, Whole, Part, ev_destination, ev_destinations, or_empty, renewed, assign_piece, put, put_all, assign_to, assign, assign_all, named, remove, kill, kill_list, kill_all, take_nodes, put_these, put_nodes, merge, merge_all, write, mark_byte, tab_bytes, tab, coded, write_code, arrange, output, output_all, open_all, use_all, close_all, receive, input, read_all, ev_timeout, hang_all, start_all, ev_names, ev_lock_names, lock_list, lock_all, renewal, new_list, new_all, quit_frame, ifs, if_test, if_all, start_transaction, ranges, calls, block, do_all, jumps, obey, obey_all}
+use Rattle.mj_semantics.specs.Commands.{store, deeper, for_again, Aim, Whole, Part, ev_destination, ev_destinations, or_empty, renewed, assign_piece, put, put_all, assign_to, assign, assign_all, named, remove, kill, kill_list, kill_all, take_nodes, put_these, put_nodes, merge, merge_all, write, mark_byte, tab_bytes, tab, coded, write_code, arrange, output, output_all, open_all, use_all, close_all, receive, input, read_all, ev_timeout, hang_all, start_all, ev_names, ev_lock_names, lock_list, lock_all, renewal, new_list, new_all, end_frame, quit_frame, in_function, quit, ifs, if_test, if_all, start_transaction, ranges, calls, block, do_all, jumps, obey, obey_all}
 use Rattle.mj_text.specs.declared.text.TheConstants.{TEXT_LIMIT}
 use Rattle.mj_store.specs.Questions.{Subtree}
 use Rattle.mj_strfn.specs.Functions.{assigned_pieces, set_piece_value}
 use Rattle.mj_ast.specs.declared.routine.FormatMark.{FormatMark}
 use Rattle.mj_oper.specs.Operators.{binary_value, unary_value, truth_value}
-use Rattle.mj_ast.specs.Syntax.{Expr, Chain, Tails, Done, Then, Operand, Literal, Value, Intrinsic, Unary, Group, Call, About, Select, Variable, Var, Exprs, No, More as Another, Choices, Last, Before, Destination, Plain, Pieces, Targets, One, Several, Assignment, Killed, Gone, Spared, Merged, Output, Shown, Format, Coded, Opened, Received, Input, Prompted, Arranged, Into, Called as CalledOf, Jumped as JumpedOf, Started as StartedOf, LockNames, Lone, Together, Locked, Range, Single, Endless, UpTo, Renewed, Fresh, Kept, Command, Set, Write, Halt, Hang, Job, Lock, OpenDevice as OpenOf, UseDevice, CloseDevice, Read, Kill, Merge, If, Else, For, Forever, Do, Goto, Quit, New, Restartable, TStart, TCommit, TRestart, TRollback, Break, LineCommand, Line, Routine}
+use Rattle.mj_ast.specs.Syntax.{Expr, Chain, Tails, Done, Then, Operand, Literal, Value, Intrinsic, Unary, Group, Call, About, Select, Variable, Var, Exprs, No, More as Another, Choices, Last, Before, Extrinsic, Actuals, NoActual, Given, Omitted, as_actuals, Destination, Plain, Pieces, Targets, One, Several, Assignment, Killed, Gone, Spared, Merged, Output, Shown, Format, Coded, Opened, Received, Input, Prompted, Arranged, Into, Called as CalledOf, Jumped as JumpedOf, Started as StartedOf, LockNames, Lone, Together, Locked, Range, Single, Endless, UpTo, Renewed, Fresh, Kept, Command, Set, Write, Halt, Hang, Job, Lock, OpenDevice as OpenOf, UseDevice, CloseDevice, Read, Kill, Merge, If, Else, For, Forever, Do, Goto, Quit, New, Restartable, TStart, TCommit, TRestart, TRollback, Break, LineCommand, Line, Routine}
 use Rattle.mj_ast.specs.declared.expr.Scope.TheVariants.{Local}
 use Rattle.mj_semantics.specs.Functions.{call_value, needed, optional}
 use Rattle.mj_semantics.specs.Lines.{Here, place_at, next_line, line_before, line_at, levels_of, entry_of, entered}
 use Rattle.mj_semantics.specs.Job.{Start, quit_before, obey_line, call, jump, in_pass, points_of, start as starts}
-use Rattle.mj_jobvm.proofs.Rule.{Rule, popped_same, KeepsLeave, KeepsPoint, KeepsWays, turn_keeps, turns_keep, look_keeps, change_keeps, end_keeps, fault_keeps, if_keeps, IsReached, given_keeps, access_keeps, read_keeps, about_keeps, store_keeps, again_keeps, first_keeps, deeper_keeps, hang_keeps, start_job_keeps, unlock_all_keeps, lock_keeps, framed_keeps, quit_keeps}
+use Rattle.mj_jobvm.proofs.Rule.{Rule, popped_same, KeepsLeave, KeepsPoint, KeepsWays, turn_keeps, turns_keep, look_keeps, change_keeps, end_keeps, fault_keeps, if_keeps, IsReached, given_keeps, access_keeps, read_keeps, about_keeps, store_keeps, again_keeps, first_keeps, deeper_keeps, hang_keeps, start_job_keeps, unlock_all_keeps, lock_keeps, ended_frame_keeps, framed_keeps, function_keeps, quit_keeps}
 
 module _ (K Apart : Timed → Type 0) (rule : Rule K Apart) where
   module _ (points : Points) (all : (p : Point) → KeepsPoint K p → IsReached K Apart rule p (points p)) (here : Here) where
@@ -46,6 +46,9 @@ module _ (K Apart : Timed → Type 0) (rule : Rule K Apart) where
       operand_keeps (Call f es) rest k = all_keep es _ (λ vs. turn_keeps K Apart rule _ (given_keeps K Apart rule (call_value f vs) rest k))
       operand_keeps (About f v es) rest k = named_keeps f v _ (λ x. all_keep es _ (λ vs. turn_keeps K Apart rule _ (about_keeps K Apart rule f x (optional 0 vs) rest k)))
       operand_keeps (Select choices) rest k = choices_keep choices rest k
+      operand_keeps (Extrinsic t es) rest k =
+          actuals_keep es _ (λ vs. turn_keeps K Apart rule _ (all (Called true (entry_of here t) (plain_values vs) (λ v. change popped (rest v)))
+          (λ v. change_keeps K Apart rule (rest v) (k v) popped popped_same)))
 
       choices_keep : (x : Choices) (rest : List ℕ → Timed) → ((v : List ℕ) → K (rest v)) → K (ev_choices points here x rest)
       choices_keep (Last c e) rest k =
@@ -67,6 +70,11 @@ module _ (K Apart : Timed → Type 0) (rule : Rule K Apart) where
       all_keep : (es : Exprs) (rest : List (List ℕ) → Timed) → ((vs : List (List ℕ)) → K (rest vs)) → K (ev_all points here es rest)
       all_keep No rest k = k []
       all_keep (Another e es) rest k = ev_keeps e (λ v. ev_all points here es (λ vs. rest (v ∷ vs))) (λ v. all_keep es (λ vs. rest (v ∷ vs)) (λ vs. k (v ∷ vs)))
+
+      actuals_keep : (es : Actuals) (rest : List (Option (List ℕ)) → Timed) → ((vs : List (Option (List ℕ))) → K (rest vs)) → K (ev_actuals points here es rest)
+      actuals_keep NoActual rest k = k []
+      actuals_keep (Given e es) rest k = ev_keeps e _ (λ v. actuals_keep es _ (λ vs. k (Some v ∷ vs)))
+      actuals_keep (Omitted es) rest k = actuals_keep es _ (λ vs. k (None ∷ vs))
 
     when_keeps : (condition : Option Expr) (done skipped : Timed) → K done → K skipped → K (when points here condition done skipped)
     when_keeps None done skipped k l = k
@@ -173,12 +181,7 @@ module _ (K Apart : Timed → Type 0) (rule : Rule K Apart) where
     merge_all_keeps [] rest k = k
     merge_all_keeps (m ∷ list) rest k = merge_keeps m (merge_all points here list rest) (merge_all_keeps list rest k)
 
-    -- Actuals, and the local of a FOR.
-
-    actuals_keep : (es : List (Option Expr)) (rest : List (Option (List ℕ)) → Timed) → ((vs : List (Option (List ℕ))) → K (rest vs)) → K (ev_actuals points here es rest)
-    actuals_keep [] rest k = k []
-    actuals_keep (None ∷ es) rest k = actuals_keep es _ (λ vs. k (None ∷ vs))
-    actuals_keep (Some e ∷ es) rest k = ev_keeps e _ (λ v. actuals_keep es _ (λ vs. k (Some v ∷ vs)))
+    -- The local of a FOR.
 
     local_keeps : (v : Variable) (rest : Name → Timed) → ((x : Name) → K (rest x)) → K (ev_local points here v rest)
     local_keeps (Var scope word es) rest k = all_keep es _ (λ ss. turn_keeps K Apart rule _ (given_keeps K Apart rule (name_of Local word ss) rest k))
@@ -196,7 +199,7 @@ module _ (K Apart : Timed → Type 0) (rule : Rule K Apart) where
     start_all_keeps : (list : List StartedOf) (rest : Timed) → K rest → K (start_all points here list rest)
     start_all_keeps [] rest k = k
     start_all_keeps (s ∷ list) rest k =
-        actuals_keep s.actuals _ (λ vs. timeout_keeps s.timeout _
+        actuals_keep (as_actuals s.actuals) _ (λ vs. timeout_keeps s.timeout _
         (λ t. turn_keeps K Apart rule _ (start_job_keeps K Apart rule (entry_of here s.target) vs t (start_all points here list rest) (start_all_keeps list rest k))))
 
     list_names_keep : (vs : List Variable) (rest : List Name → Timed) → ((xs : List Name) → K (rest xs)) → K (ev_names points here vs rest)
@@ -302,7 +305,7 @@ module _ (K Apart : Timed → Type 0) (rule : Rule K Apart) where
         let later = calls_keep list rest k in
         let leave : Leave = λ v. change popped (calls points here list rest) in
         when_keeps c.condition _ (calls points here list rest)
-        (actuals_keep c.actuals _ (λ vs.
+        (actuals_keep (as_actuals c.actuals) _ (λ vs.
         turn_keeps K Apart rule _ (all (Called false (entry_of here c.target) vs leave) (λ v. change_keeps K Apart rule (calls points here list rest) later popped popped_same)))) later
 
     block_keeps : (rest : Timed) → K rest → K (block points here rest)
@@ -328,6 +331,17 @@ module _ (K Apart : Timed → Type 0) (rule : Rule K Apart) where
     starts_transaction_keeps o rest k =
         names_keep (listed_by o) _ (turn_keeps K Apart rule _ (rule.begun (restored_by o) (serial_by o) rest (turn (points (Started rest))) k (rule.apart_turned _ (all (Started rest) k))))
 
+    value_keeps : (e : Expr) (out : Option Timed) (leave : Leave) → KeepsLeave K leave
+        → K (elim out [ None ↦ in_function (ev points here e (λ v. turn (end_frame (leave v)))) | Some t ↦ fault faults.Quit ])
+    value_keeps e None leave l =
+        function_keeps K Apart rule _ (ev_keeps e _ (λ v. turn_keeps K Apart rule _ (ended_frame_keeps K Apart rule (leave v) (l v))))
+    value_keeps e (Some t) leave l = fault_keeps K Apart rule faults.Quit
+
+    quits_keep : (value : Option Expr) (ways : Ways) → KeepsWays K ways → K (quit points here value ways)
+    quits_keep None ways w =
+        turn_keeps K Apart rule _ (quit_keeps K Apart rule ways.for_quit (quit_frame (ways.leave [])) w.for_quit (framed_keeps K Apart rule (ways.leave []) (w.leave [])))
+    quits_keep (Some e) ways w = turn_keeps K Apart rule _ (value_keeps e ways.for_quit ways.leave w.leave)
+
     obey_keeps : (command : Command) (c : Option Expr) (steps : List LineCommand) (ways : Ways) (rest : Timed) → KeepsWays K ways → K rest → K (obey points here command c steps ways rest)
     obey_keeps (Set list) c steps ways rest w k = when_keeps c _ rest (assign_all_keeps list rest k) k
     obey_keeps (Write list) c steps ways rest w k = when_keeps c _ rest (output_all_keeps list rest k) k
@@ -347,8 +361,7 @@ module _ (K Apart : Timed → Type 0) (rule : Rule K Apart) where
     obey_keeps Forever c steps ways rest w k = turn_keeps K Apart rule _ (all (Pass here Always steps (turn ways.line_end) ways) (turn_keeps K Apart rule ways.line_end w.line_end, w))
     obey_keeps (Do list) c steps ways rest w k = when_keeps c _ rest (do_keeps list rest k) k
     obey_keeps (Goto list) c steps ways rest w k = when_keeps c _ rest (jumps_keep list ways.leave rest w.leave k) k
-    obey_keeps Quit c steps ways rest w k = when_keeps c _ rest
-        (turn_keeps K Apart rule _ (quit_keeps K Apart rule ways.for_quit (quit_frame (ways.leave [])) w.for_quit (framed_keeps K Apart rule (ways.leave []) (w.leave [])))) k
+    obey_keeps (Quit value) c steps ways rest w k = when_keeps c _ rest (quits_keep value ways w) k
     obey_keeps (New list) c steps ways rest w k = when_keeps c _ rest (new_all_keeps list rest k) k
     obey_keeps (TStart a) c steps ways rest w k = when_keeps c _ rest (starts_transaction_keeps a rest k) k
     obey_keeps TCommit c steps ways rest w k =

@@ -19,7 +19,7 @@ use Rattle.mj_ast.specs.declared.routine.ReadMode.{ReadMode}
 use Rattle.mj_ast.specs.declared.routine.LockMode.{LockMode}
 use Rattle.mj_ast.specs.declared.routine.LockMode.TheVariants as mode
 use Rattle.mj_num.specs.Number.{reading, sum_of, canonic_text}
-use Rattle.mj_semantics.specs.State.{State, Words, Frame, principal, wrote, accessed, popped, is_at_mark}
+use Rattle.mj_semantics.specs.State.{State, Words, Frame, principal, wrote, accessed, popped, is_at_mark, is_function}
 use Rattle.mj_ast.specs.declared.function.NameFunction.{NameFunction}
 use Rattle.mj_semantics.specs.Names.{spelled, asks as asks_some, question, function_told}
 use Rattle.mj_semantics.specs.Outcome.{More, Timed, turn, turns, look, change, restartable, end, fault, ask, to_device, need, given}
@@ -29,7 +29,7 @@ use Rattle.mj_semantics.specs.Points.{Loop, Once, Always, By, Leave, Ways, Point
 use Rattle.mj_semantics.specs.Devices.{open_device, use_device, close, read_input}
 use Rattle.mj_semantics.specs.Sharing.{is_limit, in_time as test_in_time, served, out_of_transaction, hang, start_job, unlock_all, take_names, give_names, lock}
 use Rattle.mj_semantics.specs.Transactions.{begin_transaction, commit, roll_back, roll_back_for_restart, begin_restart}
-use Rattle.mj_semantics.specs.Commands.{store, deeper, frames_limit, is_within, stepped, for_again, first, quit_frame}
+use Rattle.mj_semantics.specs.Commands.{store, deeper, frames_limit, is_within, stepped, for_again, first, end_frame, quit_frame, in_function}
 
 -- as many asks were replied to in one state as in another, at as many levels a transaction is, and the same devices are open, of which the same is
 -- the current one
@@ -218,9 +218,15 @@ module _ (K Apart : Timed → Type 0) (rule : Rule K Apart) where
   lock_keeps mode.Plus xs timeout rest k = turn_keeps (take_names xs timeout rest) (take_names_keep xs timeout rest k)
   lock_keeps mode.Minus xs timeout rest k = turn_keeps (give_names xs timeout rest) (give_names_keep xs timeout rest k)
 
-  -- the QUIT of a frame
+  -- the QUIT of a frame, without a value and with one
+  pub ended_frame_keeps : (rest : Timed) → K rest → K (end_frame rest)
+  ended_frame_keeps rest k = look_keeps _ (λ s. if_keeps (is_at_mark s) (fault faults.QuitInTransaction) rest (fault_keeps faults.QuitInTransaction) k)
+
   pub framed_keeps : (rest : Timed) → K rest → K (quit_frame rest)
-  framed_keeps rest k = look_keeps _ (λ s. if_keeps (is_at_mark s) (fault faults.QuitInTransaction) rest (fault_keeps faults.QuitInTransaction) k)
+  framed_keeps rest k = look_keeps _ (λ s. if_keeps (is_function s) (fault faults.Quit) (end_frame rest) (fault_keeps faults.Quit) (ended_frame_keeps rest k))
+
+  pub function_keeps : (rest : Timed) → K rest → K (in_function rest)
+  function_keeps rest k = look_keeps _ (λ s. if_keeps (is_function s) rest (fault faults.Quit) k (fault_keeps faults.Quit))
 
   pub quit_keeps : (quit : Option Timed) (leave : Timed) → ((t : Timed) → quit ≡ Some t → K t) → K leave → K (elim quit [ None ↦ leave | Some t ↦ t ])
   quit_keeps None leave q k = k

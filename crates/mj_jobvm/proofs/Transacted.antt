@@ -7,7 +7,7 @@ use Rattle.mj_ask.specs.declared.ask.Ask.{Ask}
 use Rattle.mj_ask.specs.declared.ask.Ask.TheVariants as asks
 use Rattle.mj_ask.specs.declared.ask.SharedAsk.TheVariants as shared_asks
 use Rattle.mj_ask.specs.declared.ask.Reply.{Reply}
-use Rattle.mj_semantics.specs.State.{State, Words, TransactionMark, marked, raised, lowered, settled, can_restart, is_serial, back_at, restarted}
+use Rattle.mj_semantics.specs.State.{State, Words, TransactionMark, marked, raised, lowered, settled, can_restart, is_serial, back_at, restarted, is_in_function}
 use Rattle.mj_semantics.specs.Outcome.{Timed, turn, look, change, go_back, fault, ask}
 use Rattle.mj_semantics.specs.Transactions.{levels_limit, kind_of, begin_transaction, in_transaction, is_clash, commit, roll_back, roll_back_for_restart, begin_restart}
 use Rattle.mj_jobvm.proofs.Rule.{LeavesDevices}
@@ -40,7 +40,8 @@ module _ (K : Timed → Type 0) (plain : Plain K) where
   pub begins : (restored : Option Words) (serial : Bool) (inner outermost : Timed) → K inner → K outermost → K (begin_transaction restored serial inner outermost)
   begins restored serial inner outermost k l =
       plain.looked _ (λ s. chosen (nat_eq s.level 0) _ (if nat_lt s.level levels_limit then change raised inner else fault faults.Limit)
-      (plain.asked (asks.Shared (shared_asks.Begin (kind_of serial))) _ tt (λ r. plain.changed (marked restored serial) outermost (λ q. (refl, refl, refl)) l))
+      (plain.looked _ (λ t. chosen (is_in_function t) (fault faults.InTransaction) _ (plain.faulted faults.InTransaction)
+      (plain.asked (asks.Shared (shared_asks.Begin (kind_of serial))) _ tt (λ r. plain.changed (marked restored serial) outermost (λ q. (refl, refl, refl)) l))))
       (chosen (nat_lt s.level levels_limit) (change raised inner) (fault faults.Limit) (plain.changed raised inner (λ q. (refl, refl, refl)) k) (plain.faulted faults.Limit)))
 
   in_it : (t : Timed) → K t → K (in_transaction t)

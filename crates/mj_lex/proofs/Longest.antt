@@ -10,7 +10,7 @@ use Rattle.mj_oper.specs.declared.op.TruthOp.{TruthOp}
 use Rattle.mj_oper.specs.declared.op.TruthOp.TheVariants as truth
 use Rattle.mj_ast.specs.declared.sign.Sign.{Sign}
 use Rattle.mj_ast.specs.declared.sign.Sign.TheVariants.{Plus, Minus, Star, Backslash, Hash, Slash, Underscore, Equals, Less, Greater, OpenBracket, CloseBracket, CloseBrackets, Ampersand, Exclamation, Apostrophe, Negated, Question, NegatedQuestion, Caret, Open, Close, Comma, Colon, Dot}
-use Rattle.mj_ast.specs.Tokens.{Token, Word, Called, Special, Digits, Quoted, Signed, Blank, Comment, Unclosed, Stray, Class, AWord, ADollar, ADigit, AQuote, ABlank, AComment, ASign, Nothing, begins_word, continues_word, is_digit, is_blank, truth_bytes, sign_bytes, doubled, class_of, IsSpelledBy, opens, IsBefore, IsLongest, IsTokenisation, Quotation, quotation, behind_quote, with_byte, bracket_front, truth_front, bracket_sign, apostrophe_sign, longest_sign, dollar_word, dollar_front, front_of, first_lexemes, lexemes}
+use Rattle.mj_ast.specs.Tokens.{Token, Word, Called, Special, Invoked, Numbered, Dollars, Digits, Quoted, Signed, Blank, Comment, Unclosed, Stray, Class, AWord, ADollar, ADigit, AQuote, ABlank, AComment, ASign, Nothing, begins_word, continues_word, is_digit, is_blank, truth_bytes, sign_bytes, doubled, class_of, IsSpelledBy, opens, IsBefore, IsLongest, IsTokenisation, Quotation, quotation, behind_quote, with_byte, bracket_front, truth_front, bracket_sign, apostrophe_sign, longest_sign, dollar_word, dollars_front, dollar_front, front_of, first_lexemes, lexemes}
 use Rattle.mj_lex.proofs.Fronts.{front_taken}
 
 -- ---- what a byte begins, and what it is
@@ -108,9 +108,49 @@ quote_front : (b : ℕ) (bs : List ℕ) (q : Quotation) (c : Bool) → b ≡ 34 
 quote_front b bs q true e h = record { spelled = ap (λ (x : ℕ). x ∷ take q.width bs) e ∙ ap (λ (xs : List ℕ). 34 ∷ xs) h; fits = tt }
 quote_front b bs q false e h = record { spelled = ap (λ (x : ℕ). x ∷ take q.width bs) e ∙ ap (λ (xs : List ℕ). 34 ∷ xs) h; fits = tt }
 
-dollar_as : (b c : ℕ) (cs : List ℕ) (p o : Bool) → b ≡ 36 → begins_word c ≡ p → opens (drop (length (take_while continues_word cs)) cs) ≡ o →
-    IsFront b (c ∷ cs) (cond p (cond o (Called (c ∷ take_while continues_word cs)) (Special (c ∷ take_while continues_word cs)), 1 + length (take_while continues_word cs)) (Stray 36, 0))
-dollar_as b c cs true true e f g =
+-- `$$`, a byte, and those behind it that pass
+behind_two : (p : ℕ → Bool) (b c d : ℕ) (ds : List ℕ) → b ≡ 36 → c ≡ 36 → b ∷ take (1 + (1 + length (take_while p ds))) (c ∷ d ∷ ds) ≡ 36 ∷ 36 ∷ d ∷ take_while p ds
+behind_two p b c d ds e g =
+    let n : 1 + (1 + length (take_while p ds)) ≡ suc (suc (length (take_while p ds))) = omega arith in
+    ap (λ (k : ℕ). b ∷ take k (c ∷ d ∷ ds)) n ∙ ap (λ (x : ℕ). x ∷ c ∷ d ∷ take (length (take_while p ds)) ds) e
+    ∙ ap (λ (x : ℕ). 36 ∷ x ∷ d ∷ take (length (take_while p ds)) ds) g ∙ ap (λ (xs : List ℕ). 36 ∷ 36 ∷ d ∷ xs) (front_taken p ds)
+
+-- the token of `$$` by what stands behind it
+abbrev dollars_by : ℕ → List ℕ → Bool → Bool → Token × ℕ
+dollars_by d ds p q =
+    cond p (Invoked (d ∷ take_while continues_word ds), 1 + length (take_while continues_word ds))
+    (cond q (Numbered (d ∷ take_while is_digit ds), 1 + length (take_while is_digit ds)) (Dollars, 0))
+
+dollars_as : (b c d : ℕ) (ds : List ℕ) (p q : Bool) → b ≡ 36 → c ≡ 36 → begins_word d ≡ p → is_digit d ≡ q →
+    IsFront b (c ∷ d ∷ ds) ((dollars_by d ds p q).0, 1 + (dollars_by d ds p q).1)
+dollars_as b c d ds true q e g f h = record {
+  spelled = (behind_two continues_word b c d ds e g, (f, AllPass-from_list_all continues_word (take_while continues_word ds) (while_passes continues_word ds)));
+  fits = tt;
+}
+dollars_as b c d ds false true e g f h =
+    let w = take_while is_digit ds in
+    record {
+      spelled = (
+        behind_two is_digit b c d ds e g,
+        AllPass-from_list_all is_digit (d ∷ w) (and_from (is_digit d) (list_all is_digit w) h (while_passes is_digit ds)),
+      );
+      fits = tt;
+    }
+dollars_as b c d ds false false e g f h = record { spelled = ap (λ (x : ℕ). x ∷ c ∷ []) e ∙ ap (λ (x : ℕ). 36 ∷ x ∷ []) g; fits = tt }
+
+dollars_is : (b c : ℕ) (cs : List ℕ) → b ≡ 36 → c ≡ 36 → IsFront b (c ∷ cs) ((dollars_front cs).0, 1 + (dollars_front cs).1)
+dollars_is b c [] e g = record { spelled = ap (λ (x : ℕ). x ∷ c ∷ []) e ∙ ap (λ (x : ℕ). 36 ∷ x ∷ []) g; fits = tt }
+dollars_is b c (d ∷ ds) e g = dollars_as b c d ds (begins_word d) (is_digit d) e g refl refl
+
+-- the token of a `$` by what stands behind it
+abbrev dollar_by : ℕ → List ℕ → Bool → Bool → Bool → Token × ℕ
+dollar_by c cs p o r =
+    cond p (cond o (Called (c ∷ take_while continues_word cs)) (Special (c ∷ take_while continues_word cs)), 1 + length (take_while continues_word cs))
+    (cond r ((dollars_front cs).0, 1 + (dollars_front cs).1) (Stray 36, 0))
+
+dollar_as : (b c : ℕ) (cs : List ℕ) (p o r : Bool) → b ≡ 36 → begins_word c ≡ p → opens (drop (length (take_while continues_word cs)) cs) ≡ o → (c == 36) ≡ r →
+    IsFront b (c ∷ cs) (dollar_by c cs p o r)
+dollar_as b c cs true true r e f g h =
     let w = take_while continues_word cs in
     let n = one_more (length w) in
     record {
@@ -121,7 +161,7 @@ dollar_as b c cs true true e f g =
       );
       fits = ap (λ (k : ℕ). opens (drop k (c ∷ cs))) n ∙ g;
     }
-dollar_as b c cs true false e f g =
+dollar_as b c cs true false r e f g h =
     let w = take_while continues_word cs in
     let n = one_more (length w) in
     record {
@@ -132,11 +172,12 @@ dollar_as b c cs true false e f g =
       );
       fits = ap (λ (k : ℕ). opens (drop k (c ∷ cs))) n ∙ g;
     }
-dollar_as b c cs false o e f g = record { spelled = (ap (λ (x : ℕ). x ∷ []) e, inr refl); fits = tt }
+dollar_as b c cs false o true e f g h = dollars_is b c cs e (eqb-true c 36 h)
+dollar_as b c cs false o false e f g h = record { spelled = (ap (λ (x : ℕ). x ∷ []) e, inr refl); fits = tt }
 
 dollar_is : (b : ℕ) (bs : List ℕ) → b ≡ 36 → IsFront b bs (dollar_front bs)
 dollar_is b [] e = record { spelled = (ap (λ (x : ℕ). x ∷ []) e, inr refl); fits = tt }
-dollar_is b (c ∷ cs) e = dollar_as b c cs (begins_word c) (opens (drop (length (take_while continues_word cs)) cs)) e refl refl
+dollar_is b (c ∷ cs) e = dollar_as b c cs (begins_word c) (opens (drop (length (take_while continues_word cs)) cs)) (c == 36) e refl refl refl
 
 -- the truth operator at the front is spelled there
 abbrev TruthTaken : List ℕ → Option TruthOp → Type 0
@@ -269,7 +310,27 @@ dollar_reach x xs rest e h =
     let w = take_while continues_word (xs ++ rest) in
     let P : Token × ℕ → Type 0 = λ f. length (36 ∷ x ∷ xs) ≤ 1 + f.1 in
     let i = while_reach continues_word xs rest h in
-    subst P (sym (cond_true (begins_word x) (dollar_word (x ∷ w) (drop (length w) (xs ++ rest)), 1 + length w) (Stray 36, 0) e)) (omega arith)
+    let other : Token × ℕ = cond (x == 36) ((dollars_front (xs ++ rest)).0, 1 + (dollars_front (xs ++ rest)).1) (Stray 36, 0) in
+    subst P (sym (cond_true (begins_word x) (dollar_word (x ∷ w) (drop (length w) (xs ++ rest)), 1 + length w) other e)) (omega arith)
+
+invoked_reach : (x : ℕ) (xs rest : List ℕ) → begins_word x ≡ true → list_all continues_word xs ≡ true → length (36 ∷ 36 ∷ x ∷ xs) ≤ reach (36 ∷ 36 ∷ x ∷ (xs ++ rest))
+invoked_reach x xs rest e h =
+    let ys : List ℕ = xs ++ rest in
+    let w = take_while continues_word ys in
+    let P : Token × ℕ → Type 0 = λ f. length (36 ∷ 36 ∷ x ∷ xs) ≤ 1 + (1 + f.1) in
+    let i = while_reach continues_word xs rest h in
+    let other : Token × ℕ = cond (is_digit x) (Numbered (x ∷ take_while is_digit ys), 1 + length (take_while is_digit ys)) (Dollars, 0) in
+    subst P (sym (cond_true (begins_word x) (Invoked (x ∷ w), 1 + length w) other e)) (omega arith)
+
+numbered_reach : (x : ℕ) (xs rest : List ℕ) → is_digit x ≡ true → list_all is_digit xs ≡ true → length (36 ∷ 36 ∷ x ∷ xs) ≤ reach (36 ∷ 36 ∷ x ∷ (xs ++ rest))
+numbered_reach x xs rest e h =
+    let ys : List ℕ = xs ++ rest in
+    let w = take_while is_digit ys in
+    let P : Token × ℕ → Type 0 = λ f. length (36 ∷ 36 ∷ x ∷ xs) ≤ 1 + (1 + f.1) in
+    let i = while_reach is_digit xs rest h in
+    let word : Token × ℕ = (Invoked (x ∷ take_while continues_word ys), 1 + length (take_while continues_word ys)) in
+    let other : Token × ℕ = cond (is_digit x) (Numbered (x ∷ w), 1 + length w) (Dollars, 0) in
+    subst P (sym (cond_false (begins_word x) word other (digit_begins x e) ∙ cond_true (is_digit x) (Numbered (x ∷ w), 1 + length w) (Dollars, 0) e)) (omega arith)
 
 behind_one : (rest : List ℕ) → 1 ≤ (behind_quote rest).width
 behind_one [] = omega arith
@@ -349,6 +410,13 @@ token_reach (Called []) front rest h = absurd h.1
 token_reach (Called (x ∷ xs)) front rest h = as_spelled front (36 ∷ x ∷ xs) rest h.0 (dollar_reach x xs rest h.1.0 (list_all-from_AllPass continues_word xs h.1.1))
 token_reach (Special []) front rest h = absurd h.1
 token_reach (Special (x ∷ xs)) front rest h = as_spelled front (36 ∷ x ∷ xs) rest h.0 (dollar_reach x xs rest h.1.0 (list_all-from_AllPass continues_word xs h.1.1))
+token_reach (Invoked []) front rest h = absurd h.1
+token_reach (Invoked (x ∷ xs)) front rest h = as_spelled front (36 ∷ 36 ∷ x ∷ xs) rest h.0 (invoked_reach x xs rest h.1.0 (list_all-from_AllPass continues_word xs h.1.1))
+token_reach (Numbered []) front rest h = absurd h.1
+token_reach (Numbered (x ∷ xs)) front rest h =
+    let p = and_parts (is_digit x) (list_all is_digit xs) (list_all-from_AllPass is_digit (x ∷ xs) h.1) in
+    as_spelled front (36 ∷ 36 ∷ x ∷ xs) rest h.0 (numbered_reach x xs rest p.0 p.1)
+token_reach Dollars front rest h = as_spelled front (36 ∷ 36 ∷ []) rest h (omega arith)
 token_reach (Digits []) front rest h = absurd h.1
 token_reach (Digits (x ∷ xs)) front rest h =
     let p = and_parts (is_digit x) (list_all is_digit xs) (list_all-from_AllPass is_digit (x ∷ xs) h.1) in

@@ -9,7 +9,7 @@ use Rattle.mj_oper.specs.declared.op.TruthOp.{TruthOp}
 use Rattle.mj_oper.specs.declared.op.TruthOp.TheVariants as truth
 use Rattle.mj_ast.specs.declared.sign.Sign.{Sign}
 use Rattle.mj_ast.specs.declared.sign.Sign.TheVariants.{Plus, Minus, Star, Backslash, Hash, Slash, Underscore, Equals, Less, Greater, OpenBracket, CloseBracket, CloseBrackets, Ampersand, Exclamation, Apostrophe, Negated, Question, NegatedQuestion, Caret, Open, Close, Comma, Colon, Dot}
-use Rattle.mj_ast.specs.Tokens.{Token, Word, Called, Special, Digits, Quoted, Signed, Blank, Comment, Unclosed, Stray, Class, AWord, ADigit, Nothing, begins_word, continues_word, is_digit, truth_bytes, sign_bytes, doubled, class_of, IsSpelledBy, opens, IsBefore, Lexeme, IsTokenisation, Quotation, quotation, behind_quote, with_byte, quoted_token, dollar_word, front_of}
+use Rattle.mj_ast.specs.Tokens.{Token, Word, Called, Special, Invoked, Numbered, Dollars, Digits, Quoted, Signed, Blank, Comment, Unclosed, Stray, Class, AWord, ADigit, Nothing, begins_word, continues_word, is_digit, truth_bytes, sign_bytes, doubled, class_of, IsSpelledBy, opens, IsBefore, Lexeme, IsTokenisation, Quotation, quotation, behind_quote, with_byte, quoted_token, dollar_word, dollars_front, front_of}
 use Rattle.mj_lex.proofs.Longest.{cond_true, cond_false, digit_begins}
 
 -- ---- a token is told by its slice and by what stands behind it
@@ -44,9 +44,26 @@ dollar_told : (x : ℕ) (xs rest : List ℕ) → begins_word x ≡ true → list
 dollar_told x xs rest e h =
     let w = take_while continues_word xs in
     let f : Token × ℕ → Token = λ q. fitted q.0 rest in
-    ap f (cond_true (begins_word x) (dollar_word (x ∷ w) (drop (length w) xs), 1 + length w) (Stray 36, 0) e)
+    let other : Token × ℕ = cond (x == 36) ((dollars_front xs).0, 1 + (dollars_front xs).1) (Stray 36, 0) in
+    ap f (cond_true (begins_word x) (dollar_word (x ∷ w) (drop (length w) xs), 1 + length w) other e)
     ∙ ap (λ (ys : List ℕ). fitted (dollar_word (x ∷ ys) (drop (length ys) xs)) rest) (while_all continues_word xs h)
     ∙ ap (λ (ys : List ℕ). fitted (dollar_word (x ∷ xs) ys) rest) (drop-length xs)
+
+invoked_told : (x : ℕ) (xs rest : List ℕ) → begins_word x ≡ true → list_all continues_word xs ≡ true → told (36 ∷ 36 ∷ x ∷ xs) rest ≡ Invoked (x ∷ xs)
+invoked_told x xs rest e h =
+    let w = take_while continues_word xs in
+    let f : Token × ℕ → Token = λ q. fitted q.0 rest in
+    let other : Token × ℕ = cond (is_digit x) (Numbered (x ∷ take_while is_digit xs), 1 + length (take_while is_digit xs)) (Dollars, 0) in
+    ap f (cond_true (begins_word x) (Invoked (x ∷ w), 1 + length w) other e) ∙ ap (λ (ys : List ℕ). Invoked (x ∷ ys)) (while_all continues_word xs h)
+
+numbered_told : (x : ℕ) (xs rest : List ℕ) → is_digit x ≡ true → list_all is_digit xs ≡ true → told (36 ∷ 36 ∷ x ∷ xs) rest ≡ Numbered (x ∷ xs)
+numbered_told x xs rest e h =
+    let w = take_while is_digit xs in
+    let f : Token × ℕ → Token = λ q. fitted q.0 rest in
+    let word : Token × ℕ = (Invoked (x ∷ take_while continues_word xs), 1 + length (take_while continues_word xs)) in
+    let other : Token × ℕ = cond (is_digit x) (Numbered (x ∷ w), 1 + length w) (Dollars, 0) in
+    ap f (cond_false (begins_word x) word other (digit_begins x e) ∙ cond_true (is_digit x) (Numbered (x ∷ w), 1 + length w) (Dollars, 0) e)
+    ∙ ap (λ (ys : List ℕ). Numbered (x ∷ ys)) (while_all is_digit xs h)
 
 -- behind doubled bytes a quotation goes on as it does without them
 quoted_through : (content zs : List ℕ) → let q : Quotation = quotation (doubled content ++ zs) in let r : Quotation = quotation zs in (q.closed ≡ r.closed) × (q.content ≡ content ++ r.content)
@@ -128,6 +145,14 @@ token_told (Called (x ∷ xs)) slice rest h b =
 token_told (Special []) slice rest h b = absurd h.1
 token_told (Special (x ∷ xs)) slice rest h b =
     slice_as slice (36 ∷ x ∷ xs) rest _ h.0 (dollar_told x xs rest h.1.0 (list_all-from_AllPass continues_word xs h.1.1) ∙ cond_false (opens rest) (Called (x ∷ xs)) (Special (x ∷ xs)) b)
+token_told (Invoked []) slice rest h b = absurd h.1
+token_told (Invoked (x ∷ xs)) slice rest h b =
+    slice_as slice (36 ∷ 36 ∷ x ∷ xs) rest _ h.0 (invoked_told x xs rest h.1.0 (list_all-from_AllPass continues_word xs h.1.1))
+token_told (Numbered []) slice rest h b = absurd h.1
+token_told (Numbered (x ∷ xs)) slice rest h b =
+    let p = and_parts (is_digit x) (list_all is_digit xs) (list_all-from_AllPass is_digit (x ∷ xs) h.1) in
+    slice_as slice (36 ∷ 36 ∷ x ∷ xs) rest _ h.0 (numbered_told x xs rest p.0 p.1)
+token_told Dollars slice rest h b = slice_as slice (36 ∷ 36 ∷ []) rest _ h refl
 token_told (Digits []) slice rest h b = absurd h.1
 token_told (Digits (x ∷ xs)) slice rest h b =
     let p = and_parts (is_digit x) (list_all is_digit xs) (list_all-from_AllPass is_digit (x ∷ xs) h.1) in

@@ -1,6 +1,6 @@
 -- The tokens that the program keeps, without where their bytes lie.
 use Rattle.std.specs.Prelude.{◌≡◌, ◌+◌, length, drop, ℕ, ◌==◌, Bool, true, false, List, [], ◌∷◌, map}
-use Rattle.mj_ast.specs.Tokens.{Lexeme, Class, AWord, ADollar, ADigit, AQuote, ABlank, AComment, ASign, Nothing, class_of, front_of, Token, Word, Called, Special, Digits, Quoted, Signed, Blank, Comment, Unclosed, Stray}
+use Rattle.mj_ast.specs.Tokens.{Lexeme, Class, AWord, ADollar, ADigit, AQuote, ABlank, AComment, ASign, Nothing, class_of, front_of, Token, Word, Called, Special, Invoked, Numbered, Dollars, Digits, Quoted, Signed, Blank, Comment, Unclosed, Stray}
 use Rattle.mj_lex.specs.declared.front.Class as kept_class
 use Rattle.mj_lex.specs.declared.front.Class.TheVariants as class
 use Rattle.mj_lex.specs.declared.token.Token as kept
@@ -25,6 +25,9 @@ abbrev pub token_seen : kept.Token → Token
 token_seen (token.Word w) = Word w.now
 token_seen (token.Called w) = Called w.now
 token_seen (token.Special w) = Special w.now
+token_seen (token.Invoked w) = Invoked w.now
+token_seen (token.Numbered d) = Numbered d.now
+token_seen token.Dollars = Dollars
 token_seen (token.Digits d) = Digits d.now
 token_seen (token.Quoted q) = Quoted (undoubled q.now)
 token_seen (token.Sign s) = Signed s

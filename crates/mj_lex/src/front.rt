@@ -3,7 +3,7 @@
 ghost use Rattle.std.specs.Prelude.{◌∷◌, ◌≡◌, ◌<◌, ◌≤◌, ◌+◌, List, [], length, take_while, IfSome, OnOk, OnErr, MatchOption, drop};
 ghost use Rattle.mj_ast.specs.Tokens.{Lexeme as Spelled, front_of, lexemes as the_lexemes, IsTokenisation, quotation, quoted_token, class_of};
 ghost use Rattle.mj_ast.specs.Tokens.{is_digit, continues_word, bracket_front, truth_front, apostrophe_sign, longest_sign, begins_word, dollar_word};
-ghost use Rattle.mj_ast.specs.Tokens.{dollar_front};
+ghost use Rattle.mj_ast.specs.Tokens.{dollar_front, dollars_front};
 ghost use Rattle.mj_lex.specs.Seen.{BeginsWith, placed, places_seen, class_seen, token_seen};
 
 use crate::token::{Lexeme, Token};
@@ -197,6 +197,26 @@ fn dollar_token<'a>(word: &'a [u8], rest: &[u8]) -> Token<'a>
     }
 }
 
+/// The token of `$$`, by the bytes behind it, and what follows it.
+fn dollars(bytes: &[u8]) -> (Token<'_>, &[u8])
+    ensures token { token_seen result.0 ≡ (dollars_front bytes.now).0 }
+    ensures rest { result.1.now ≡ drop (dollars_front bytes.now).1 bytes.now }
+    ensures within { length result.1.now ≤ length bytes.now }
+{
+    let Some((byte, behind)) = first(bytes) else {
+        return (Token::Dollars, bytes);
+    };
+    if begins_word_byte(byte) {
+        let n = word_length(behind);
+        (Token::Invoked(&bytes[..n + 1]), &behind[n..])
+    } else if is_digit_byte(byte) {
+        let n = digits_length(behind);
+        (Token::Numbered(&bytes[..n + 1]), &behind[n..])
+    } else {
+        (Token::Dollars, bytes)
+    }
+}
+
 /// The token of a `$`, by the bytes behind it, and what follows it.
 fn dollar(bytes: &[u8]) -> (Token<'_>, &[u8])
     ensures token { token_seen result.0 ≡ (dollar_front bytes.now).0 }
@@ -206,12 +226,15 @@ fn dollar(bytes: &[u8]) -> (Token<'_>, &[u8])
     let Some((byte, behind)) = first(bytes) else {
         return (Token::Stray(b'$'), bytes);
     };
-    if !begins_word_byte(byte) {
-        return (Token::Stray(b'$'), bytes);
+    if begins_word_byte(byte) {
+        let n = word_length(behind);
+        let rest = &behind[n..];
+        (dollar_token(&bytes[..n + 1], rest), rest)
+    } else if byte == b'$' {
+        dollars(behind)
+    } else {
+        (Token::Stray(b'$'), bytes)
     }
-    let n = word_length(behind);
-    let rest = &behind[n..];
-    (dollar_token(&bytes[..n + 1], rest), rest)
 }
 
 /// The token that a first byte begins, and the bytes behind it, where these stand behind the first.

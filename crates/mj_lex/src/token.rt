@@ -20,6 +20,12 @@ pub enum Token<'a> {
     Called(&'a [u8]),
     /// `$` and a word, with anything else behind it
     Special(&'a [u8]),
+    /// `$$` and a word, by the bytes of the word
+    Invoked(&'a [u8]),
+    /// `$$` and digits, by the bytes of the digits
+    Numbered(&'a [u8]),
+    /// `$$` with neither behind it
+    Dollars,
     /// digits
     Digits(&'a [u8]),
     /// a quoted text: the bytes between its quotes, in which each quote is doubled

@@ -7,14 +7,14 @@ use Rattle.mj_ast.specs.declared.keyword.Verb.TheVariants.{Of}
 use Rattle.mj_ast.specs.declared.routine.LockMode.TheVariants.{Whole, Plus as Added, Minus as Taken}
 use Rattle.mj_ast.specs.Syntax.{Expr, Called, Jumped, Started, Command, Set, Write, Halt, Hang, Job, Lock, Kill, Merge, If, Else, For, Forever, Do, Goto, Quit, New, OpenDevice, UseDevice, CloseDevice, Read, TStart, TCommit, TRestart, TRollback, Break}
 use Rattle.mj_ast.specs.Commands.{Part, Put, Named, Label, Text, Place, Control, with_commas, behind_commas, routine_parts, actual_parts, as_called, jumped_parts, started_parts, variable_parts, locked_parts, is_local, is_bare, is_called, is_jumped, is_started, assignment_parts, command_parts, keyword_for, has_items, every, are_targets, is_assignment, is_formed}
-use Rattle.mj_line.specs.Forms.{Mode, Calls, Jumps, Starts, Node, SetTarget, PieceOpens, PieceVariable, PieceComma, PieceText, PieceBehind, SetBehind, SetValue, SetEnd, Writes, Reads, OutputWanted, OutputEnd, MarksEnd, ColumnWanted, CodeWanted, IntoWanted, IntoEnd, IntoTimed, DeviceWanted, DeviceEnd, DeviceColon, DeviceTimed, DeviceWaited, KillWanted, NameWanted, NameBehind, KillEnd, MergeInto, MergeBehind, MergeFrom, MergeEnd, ValueWanted, ValueEnd, ForWanted, ForBehind, RangeWanted, RangeEnd, StepWanted, StepEnd, LimitWanted, LimitEnd, NewWanted, KeptWanted, KeptBehind, NewEnd, EntryWanted, LabelEnd, RoutineWanted, RoutineEnd, ActualWanted, ActualEnd, ActualsEnd, WaitColon, GuardWanted, GuardEnd, LockWanted, LockSigned, LockListed, LockBehind, LockNamed, LockTimed, LockEnd, RestartWanted, RestoredOpens, RestoredWanted, RestoredBehind, RestoredEnd, SerialWanted, SerialInside, SerialBehind, SerialEnd, actuals_at, colon_at, first_node, may_be_bare, PartLeads, PartsFit, IsForm}
+use Rattle.mj_line.specs.Forms.{Mode, Calls, Jumps, Starts, Node, SetTarget, PieceOpens, PieceVariable, PieceComma, PieceText, PieceBehind, SetBehind, SetValue, SetEnd, Writes, Reads, OutputWanted, OutputEnd, MarksEnd, ColumnWanted, CodeWanted, IntoWanted, IntoEnd, IntoTimed, DeviceWanted, DeviceEnd, DeviceColon, DeviceTimed, DeviceWaited, KillWanted, NameWanted, NameBehind, KillEnd, MergeInto, MergeBehind, MergeFrom, MergeEnd, ValueWanted, ValueEnd, ForWanted, ForBehind, RangeWanted, RangeEnd, StepWanted, StepEnd, LimitWanted, LimitEnd, NewWanted, KeptWanted, KeptBehind, NewEnd, EntryWanted, LabelEnd, RoutineWanted, RoutineEnd, ActualWanted, ActualEnd, ActualsEnd, WaitColon, GuardWanted, GuardEnd, LockWanted, LockSigned, LockListed, LockBehind, LockNamed, LockTimed, LockEnd, RestartWanted, RestoredOpens, RestoredWanted, RestoredBehind, RestoredEnd, SerialWanted, SerialInside, SerialBehind, SerialEnd, actuals_at, colon_at, first_node, may_be_bare, PartLeads, PartsFit, IsForm, ResultWanted, ResultEnd}
 use Rattle.mj_line.proofs.Tables.{none_some}
 use Rattle.mj_line.proofs.Restartables.{restart_part, restored_part, restored_behind, restored_end, serial_part, serial_inside, serial_behind, serial_end}
 use Rattle.mj_line.proofs.Restartables as restart
 use Rattle.mj_line.proofs.Formed.{is_speech}
 use Rattle.mj_line.proofs.FormedCalls.{Plainly, entered_parts, as_entered, jumps, starts}
 use Rattle.mj_line.proofs.Shapes.{false_true, both, first_of, second_of, Acted, Shape, at_node, text_node, place_node, text_wrong, place_wrong, local_text, local_place, before, text_zero, text_one, place_zero, assignment_at, next_item, others_guard, guard_acted, comma_others, colon_guard, open_acted, entries_at, timed_comma, timed_colon, naming_one, naming_several, locks_at}
-use Rattle.mj_line.proofs.Trees.{shape_end, target_part, listed_part, opens_part, variable_part, comma_part, text_part, last_part, piece_part, behind_part, listed_behind, value_part, set_part, write_part, read_part, output_end, marks_end, column_part, code_part, star_part, received_end, received_timed, device_part, device_end, device_colon, device_timed, device_waited, kill_part, name_part, name_behind, kill_end, into_part, into_behind, from_part, merge_end, value_list_part, value_list_end, for_part, for_behind, range_part, range_end, step_part, step_end, limit_part, limit_end, new_part, kept_part, kept_behind, new_end}
+use Rattle.mj_line.proofs.Trees.{shape_end, target_part, listed_part, opens_part, variable_part, comma_part, text_part, last_part, piece_part, behind_part, listed_behind, value_part, set_part, write_part, read_part, output_end, marks_end, column_part, code_part, star_part, received_end, received_timed, device_part, device_end, device_colon, device_timed, device_waited, kill_part, name_part, name_behind, kill_end, into_part, into_behind, from_part, merge_end, value_list_part, value_list_end, for_part, for_behind, range_part, range_end, step_part, step_end, limit_part, limit_end, new_part, kept_part, kept_behind, new_end, result_part, result_end}
 
 entry_part : (mode : Mode) (first : Bool) (p : Part) (ps : List Part) (next : Node) → PartLeads (EntryWanted mode first) p next → Shape next ps → Shape (EntryWanted mode first) (p ∷ ps)
 entry_part mode first (Label l) ps next e h =
@@ -206,6 +206,8 @@ shape_part MergeFrom p ps next e h = from_part p ps next e h
 shape_part MergeEnd p ps next e h = merge_end p ps next e h
 shape_part (ValueWanted optional) p ps next e h = value_list_part optional p ps next e h
 shape_part ValueEnd p ps next e h = value_list_end p ps next e h
+shape_part ResultWanted p ps next e h = result_part p ps next e h
+shape_part ResultEnd p ps next e h = result_end p ps next e h
 shape_part ForWanted p ps next e h = for_part p ps next e h
 shape_part ForBehind p ps next e h = for_behind p ps next e h
 shape_part RangeWanted p ps next e h = range_part p ps next e h
@@ -318,7 +320,7 @@ some_bare keyword.Else e = record { command = Else; formed = refl; named = refl;
 some_bare keyword.For e = record { command = Forever; formed = refl; named = refl; parts = refl }
 some_bare keyword.Do e = record { command = Do []; formed = refl; named = refl; parts = refl }
 some_bare keyword.Goto e = false_true e
-some_bare keyword.Quit e = record { command = Quit; formed = refl; named = refl; parts = refl }
+some_bare keyword.Quit e = record { command = Quit None; formed = refl; named = refl; parts = refl }
 some_bare keyword.New e = record { command = New []; formed = refl; named = refl; parts = refl }
 some_bare keyword.Open e = false_true e
 some_bare keyword.Use e = false_true e
@@ -380,7 +382,9 @@ some_made keyword.Goto ps n e h =
       named = refl;
       parts = jumped_with js ∙ ap (λ (cs : List Called). with_commas (entered_parts Jumps) cs) (jumped_back x.0.list x.0.plain) ∙ x.0.are;
     }
-some_made keyword.Quit ps n e h = absurd (none_some n e)
+some_made keyword.Quit ps n e h =
+    let x = at_node ResultWanted n ps e h in
+    record { command = Quit x.0; formed = refl; named = refl; parts = x.1 }
 some_made keyword.New ps n e h =
     let x = at_node (NewWanted true) n ps e h in
     record { command = New x.0; formed = x.2; named = refl; parts = x.1 }

@@ -2,22 +2,23 @@
 use Rattle.std.proofs.Common.{◌≡◌, ℕ, ◌-◌, ◌<◌, ◌==◌, nat_le, List, [], ◌∷◌, ◌++◌, length, refl, ap, ◌∙◌, subst, Bool, true, false, arith, Option, Some, None}
 use Rattle.std.specs.Prelude.{cond}
 use Rattle.std.proofs.lemmas.Bool.Decides.{nat_tests}
-use Rattle.mj_ast.specs.declared.sign.Sign.TheVariants.{Colon, Comma, Open, Close, Dot}
+use Rattle.mj_ast.specs.declared.sign.Sign.TheVariants.{Caret, Colon, Comma, Open, Close, Dot}
 use Rattle.mj_ast.specs.declared.keyword.Verb.{Verb}
 use Rattle.mj_ast.specs.Syntax.{Expr}
-use Rattle.mj_ast.specs.Tokens.{Token, Word, Called, Special, Digits, Quoted, Signed, Blank, Comment, Unclosed, Stray}
+use Rattle.mj_ast.specs.Tokens.{Token, Word, Called, Special, Invoked, Numbered, Dollars, Digits, Quoted, Signed, Blank, Comment, Unclosed, Stray}
 use Rattle.mj_ast.specs.Expressions.{Symbol, Overlong, symbol, name_limit}
 use Rattle.mj_ast.specs.Expressions as grammar
 use Rattle.mj_ast.specs.Commands.{Part, verb_of, bare_of, is_conditional}
 use Rattle.mj_expr.specs.Machine.{Limits}
 use Rattle.mj_expr.specs.Machine as phrase
-use Rattle.mj_expr.proofs.Turns.{IsReached, step_reached, NextReached, IsPlain, CommaAfter, comma_after, plain_easy, comma_level, IsNoLevel, IsEasy, overlong_stuck, step_deep, DeepBy}
+use Rattle.mj_expr.proofs.Turns.{IsReached, step_reached, NextReached, IsPlain, plain_easy, IsEasy, overlong_stuck}
+use Rattle.mj_expr.proofs.Commas.{CommaAfter, comma_after, CommaBehind, comma_behind, caret_easy, comma_level, IsNoLevel, step_deep, DeepBy}
 use Rattle.mj_expr.proofs.Said.{Over as OverLimit}
 use Rattle.mj_line.specs.Forms.{Node, Want, AnExpr, AVar, ALocal, part_at, sort_of, takes, first_node}
 use Rattle.mj_line.specs.Sentences.{Sentence}
 use Rattle.mj_line.specs.Machine.{Rest, Spot, Begin, Over, Worded, Asked, Bare, Args, Goal, Condition, Argument, State, At, In, start, wanted, may_begin, level, inside, behind_phrase, entry, rested, Next, Go, Stuck, Deep, Long, opened, moved, taken, own, begins, on_rested, first, spot_step, behind_step, phrase_step, in_step, entering, step, Labelled, FormalsOpened, FormalWanted, FormalBehind, FormalsEnd, Indented, is_new}
 use Rattle.mj_line.proofs.SpotLeaves.{NextLeads, spot_leads}
-use Rattle.mj_line.proofs.Facts.{spot_long, spot_called, spot_special, behind_long}
+use Rattle.mj_line.proofs.Facts.{spot_long, spot_called, spot_special, spot_invoked, behind_long}
 use Rattle.mj_line.proofs.SpotFacts.{start_long}
 
 -- ---- a spot neither opens a level nor has too long a list
@@ -89,12 +90,14 @@ over_symbol : (k : Token) → OverLimit k → symbol k ≡ Overlong
 over_symbol (Word w) h = long_symbol w (grammar.Name w) h
 over_symbol (Called w) h = long_symbol w (grammar.function_symbol (grammar.callee_of w)) h
 over_symbol (Special w) h = long_symbol w (grammar.special_symbol (grammar.special_of w)) h
+over_symbol (Invoked w) h = long_symbol w (grammar.Entry (Some w)) h
 over_symbol k h = absurd h
 
 over_spot : (p : Spot) (k : Token) → OverLimit k → spot_step p k ≡ Stuck
 over_spot p (Word w) h = spot_long p w h
 over_spot p (Called w) h = spot_called p w h
 over_spot p (Special w) h = spot_special p w
+over_spot p (Invoked w) h = spot_invoked p w
 over_spot p k h = absurd h
 
 in_over : (m : Limits) (g : Goal) (s : phrase.State) (k : Token) → OverLimit k → in_step m g s k ≡ Stuck
@@ -252,6 +255,9 @@ plain_token (Comment t) h = absurd h
 plain_token (Unclosed t) h = absurd h
 plain_token (Called w) h = absurd h
 plain_token (Special w) h = absurd h
+plain_token (Invoked w) h = absurd h
+plain_token (Numbered d) h = absurd h
+plain_token Dollars h = absurd h
 plain_token (Stray b) h = absurd h
 
 -- only the phrase has too long a list
@@ -291,16 +297,17 @@ to_spot m s Stuck h = tt
 to_spot m s Deep h = tt
 to_spot m s Long h = tt
 
-phrase_comma : (m : Limits) (t : State) (g : Goal) (s : phrase.State) (k : Token) (n : phrase.Next) →
-    (in_step m g s (Signed Comma) ≡ Long → step m t (Signed Comma) ≡ Long) → CommaAfter (inside m (level g)) s n → LineComma m t (phrase_step g s k n)
-phrase_comma m t g s k (phrase.Go u) h c = λ e. h (ap (phrase_step g s (Signed Comma)) (c (long_phrase g u (Signed Comma) (phrase.step (inside m (level g)) u (grammar.Mark Comma)) e)))
-phrase_comma m t g s k phrase.Stuck h c = to_spot m t (behind_step g (phrase.finish s []) k) (behind_spot g (phrase.finish s []) k)
-phrase_comma m t g s k phrase.Deep h c = tt
-phrase_comma m t g s k phrase.Long h c = tt
+-- the comma at s, the step at o, which is s or comes behind it
+phrase_comma : (m : Limits) (t : State) (g : Goal) (s o : phrase.State) (k : Token) (n : phrase.Next) →
+    (in_step m g s (Signed Comma) ≡ Long → step m t (Signed Comma) ≡ Long) → CommaAfter (inside m (level g)) s n → LineComma m t (phrase_step g o k n)
+phrase_comma m t g s o k (phrase.Go u) h c = λ e. h (ap (phrase_step g s (Signed Comma)) (c (long_phrase g u (Signed Comma) (phrase.step (inside m (level g)) u (grammar.Mark Comma)) e)))
+phrase_comma m t g s o k phrase.Stuck h c = to_spot m t (behind_step g (phrase.finish o []) k) (behind_spot g (phrase.finish o []) k)
+phrase_comma m t g s o k phrase.Deep h c = tt
+phrase_comma m t g s o k phrase.Long h c = tt
 
 in_comma : (m : Limits) (t : State) (g : Goal) (s : phrase.State) (k : Token) → IsReached s → IsToken k →
     (in_step m g s (Signed Comma) ≡ Long → step m t (Signed Comma) ≡ Long) → LineComma m t (in_step m g s k)
-in_comma m t g s k r i h = phrase_comma m t g s k (phrase.step (inside m (level g)) s (symbol k)) h (comma_after (inside m (level g)) s (symbol k) r (plain_token k i))
+in_comma m t g s k r i h = phrase_comma m t g s s k (phrase.step (inside m (level g)) s (symbol k)) h (comma_after (inside m (level g)) s (symbol k) r (plain_token k i))
 
 want_reached : (w : Want) → IsReached (wanted w)
 want_reached (AnExpr lv next) = tt
@@ -328,8 +335,12 @@ first_comma m t Stuck o h i = i
 first_comma m t Deep o h i = tt
 first_comma m t Long o h i = tt
 
+-- at a spot, none is one too many
+at_comma : (m : Limits) (t : State) (p : Spot) (k : Token) → IsToken k → LineComma m t (step m (At p) k)
+at_comma m t p k h = first_comma m t (spot_step p k) (entering m (entry p) k) (to_spot m t (spot_step p k) (spot_spot p k)) (entering_comma m t (entry p) k h)
+
 pub line_comma : (m : Limits) (s : State) (k : Token) → StateReached s → IsToken k → LineComma m s (step m s k)
-line_comma m (At p) k r h = first_comma m (At p) (spot_step p k) (entering m (entry p) k) (to_spot m (At p) (spot_step p k) (spot_spot p k)) (entering_comma m (At p) (entry p) k h)
+line_comma m (At p) k r h = at_comma m (At p) p k h
 line_comma m (In g s) k r h = in_comma m (In g s) g s k r h (λ e. e)
 
 -- a word or digits go on, or nothing does
@@ -359,6 +370,64 @@ first_simple Long o h i = h
 pub line_easy : (m : Limits) (s : State) (k : Token) → IsToken k → IsSimple (step m s k)
 line_easy m (At p) k h = first_simple (spot_step p k) (entering m (entry p) k) (spot_simple p k) (entering_easy m (entry p) k h)
 line_easy m (In g s) k h = in_easy m g s k h
+
+-- Where a comma behind a `^` and a name is one too many, a comma here is too.
+abbrev pub LineBehind : Limits → State → Next → Type 0
+LineBehind m s (Go t) = LineComma m s (step m t (Word (65 ∷ [])))
+LineBehind m s n = Unit {0}
+
+spot_behind : (m : Limits) (t : State) (n : Next) → ToSpot n → LineBehind m t n
+spot_behind m t (Go (At p)) h = at_comma m t p (Word (65 ∷ [])) tt
+spot_behind m t (Go (In g s)) h = absurd h
+spot_behind m t Stuck h = tt
+spot_behind m t Deep h = tt
+spot_behind m t Long h = tt
+
+phrase_behind : (m : Limits) (t : State) (g : Goal) (s : phrase.State) (n : phrase.Next) →
+    (in_step m g s (Signed Comma) ≡ Long → step m t (Signed Comma) ≡ Long) → CommaBehind (inside m (level g)) s (65 ∷ []) n → LineBehind m t (phrase_step g s (Signed Caret) n)
+phrase_behind m t g s (phrase.Go u) h c = phrase_comma m t g s u (Word (65 ∷ [])) (phrase.step (inside m (level g)) u (grammar.Name (65 ∷ []))) h c
+phrase_behind m t g s phrase.Stuck h c = spot_behind m t (behind_step g (phrase.finish s []) (Signed Caret)) (behind_spot g (phrase.finish s []) (Signed Caret))
+phrase_behind m t g s phrase.Deep h c = tt
+phrase_behind m t g s phrase.Long h c = tt
+
+in_behind : (m : Limits) (t : State) (g : Goal) (s : phrase.State) → IsReached s → (in_step m g s (Signed Comma) ≡ Long → step m t (Signed Comma) ≡ Long) →
+    LineBehind m t (in_step m g s (Signed Caret))
+in_behind m t g s r h = phrase_behind m t g s (phrase.step (inside m (level g)) s (grammar.Mark Caret)) h (comma_behind (inside m (level g)) s (65 ∷ []) r)
+
+begin_behind : (m : Limits) (t : State) (n : Next) (b : Bool) → LineBehind m t n → LineBehind m t (cond b n Stuck)
+begin_behind m t n true h = h
+begin_behind m t n false h = tt
+
+entering_behind : (m : Limits) (t : State) (q : Option Goal) → LineBehind m t (entering m q (Signed Caret))
+entering_behind m t (Some g) =
+    begin_behind m t (in_step m g (start g) (Signed Caret)) (may_begin g (symbol (Signed Caret)))
+    (in_behind m t g (start g) (start_reached g) (λ e. absurd (start_long (inside m (level g)) g (symbol (Signed Comma))
+    (long_phrase g (start g) (Signed Comma) (phrase.step (inside m (level g)) (start g) (symbol (Signed Comma))) e))))
+entering_behind m t None = tt
+
+first_behind : (m : Limits) (t : State) (n o : Next) → LineBehind m t n → LineBehind m t o → LineBehind m t (first n o)
+first_behind m t (Go s) o h i = h
+first_behind m t Stuck o h i = i
+first_behind m t Deep o h i = tt
+first_behind m t Long o h i = tt
+
+pub line_behind : (m : Limits) (s : State) → StateReached s → LineBehind m s (step m s (Signed Caret))
+line_behind m (At p) r =
+    first_behind m (At p) (spot_step p (Signed Caret)) (entering m (entry p) (Signed Caret))
+    (spot_behind m (At p) (spot_step p (Signed Caret)) (spot_spot p (Signed Caret))) (entering_behind m (At p) (entry p))
+line_behind m (In g s) r = in_behind m (In g s) g s r (λ e. e)
+
+-- a `^` goes on, or nothing does
+in_caret : (m : Limits) (g : Goal) (s : phrase.State) → IsSimple (in_step m g s (Signed Caret))
+in_caret m g s = phrase_easy g s (Signed Caret) (phrase.step (inside m (level g)) s (grammar.Mark Caret)) (caret_easy (inside m (level g)) s)
+
+entering_caret : (m : Limits) (q : Option Goal) → IsSimple (entering m q (Signed Caret))
+entering_caret m (Some g) = begin_easy (in_step m g (start g) (Signed Caret)) (may_begin g (symbol (Signed Caret))) (in_caret m g (start g))
+entering_caret m None = tt
+
+pub line_caret : (m : Limits) (s : State) → IsSimple (step m s (Signed Caret))
+line_caret m (At p) = first_simple (spot_step p (Signed Caret)) (entering m (entry p) (Signed Caret)) (spot_simple p (Signed Caret)) (entering_caret m (entry p))
+line_caret m (In g s) = in_caret m g s
 
 -- a comma opens no level
 level_as : (g : Goal) (s : phrase.State) (k : Token) (n : phrase.Next) → IsNoLevel n → phrase_step g s k n ≡ Deep → ⊥

@@ -10,8 +10,8 @@ use Rattle.mj_ast.specs.declared.function.Callee.TheVariants.{Texts}
 use Rattle.mj_ast.specs.declared.keyword.Verb.{Verb}
 use Rattle.mj_ast.specs.declared.expr.Scope.TheVariants.{Local, Global}
 use Rattle.mj_ast.specs.Syntax.{Expr, Variable, Var}
-use Rattle.mj_ast.specs.Tokens.{Token, Word, Digits, Signed, Blank, Comment, Called, Special, Quoted, Unclosed, Stray}
-use Rattle.mj_ast.specs.Expressions.{Symbol, Constant, Inherent, Name, Applied, Overlong, Mark, Other, symbol, expr_symbols, variable_symbols, callee_of}
+use Rattle.mj_ast.specs.Tokens.{Token, Word, Digits, Signed, Blank, Comment, Called, Special, Invoked, Numbered, Dollars, Quoted, Unclosed, Stray}
+use Rattle.mj_ast.specs.Expressions.{Symbol, Constant, Inherent, Name, Applied, Entry, Overlong, Mark, Other, symbol, expr_symbols, variable_symbols, callee_of}
 use Rattle.mj_ast.specs.Commands.{Part, Put, Named, Label, SerialWord, PieceCall, Prompt, Text, Place, Control, is_serial_word, is_local, SpellsPart, SpellsParts, greatest, part_nesting, part_width, verb_of}
 use Rattle.mj_expr.specs.Machine.{Limits}
 use Rattle.mj_expr.specs.Machine as phrase
@@ -36,9 +36,9 @@ Parted (Comment text ∷ ks) = Unit {0}
 Parted ks = ⊥
 
 pub parted_ceases : (K : Kind) (ks : List Token) → Parted ks → Ceases K (map symbol ks)
-parted_ceases AnExpression [] h = (tt, tt)
-parted_ceases AnExpression (Blank ∷ ks) h = (tt, tt)
-parted_ceases AnExpression (Comment text ∷ ks) h = (tt, tt)
+parted_ceases AnExpression [] h = ((tt, tt), tt)
+parted_ceases AnExpression (Blank ∷ ks) h = ((tt, tt), tt)
+parted_ceases AnExpression (Comment text ∷ ks) h = ((tt, tt), tt)
 parted_ceases AVariable [] h = tt
 parted_ceases AVariable (Blank ∷ ks) h = tt
 parted_ceases AVariable (Comment text ∷ ks) h = tt
@@ -48,6 +48,9 @@ parted_ceases K (Signed s ∷ ks) h = absurd h
 parted_ceases K (Quoted q ∷ ks) h = absurd h
 parted_ceases K (Called w ∷ ks) h = absurd h
 parted_ceases K (Special w ∷ ks) h = absurd h
+parted_ceases K (Invoked w ∷ ks) h = absurd h
+parted_ceases K (Numbered d ∷ ks) h = absurd h
+parted_ceases K (Dollars ∷ ks) h = absurd h
 parted_ceases K (Unclosed t ∷ ks) h = absurd h
 parted_ceases K (Stray b ∷ ks) h = absurd h
 
@@ -68,6 +71,9 @@ parted_two (Signed s ∷ ks) h = absurd h
 parted_two (Quoted q ∷ ks) h = absurd h
 parted_two (Called w ∷ ks) h = absurd h
 parted_two (Special w ∷ ks) h = absurd h
+parted_two (Invoked w ∷ ks) h = absurd h
+parted_two (Numbered d ∷ ks) h = absurd h
+parted_two (Dollars ∷ ks) h = absurd h
 parted_two (Unclosed t ∷ ks) h = absurd h
 parted_two (Stray b ∷ ks) h = absurd h
 
@@ -136,6 +142,9 @@ run_rests m p r (Signed s ∷ ks) h i = absurd i
 run_rests m p r (Quoted q ∷ ks) h i = absurd i
 run_rests m p r (Called w ∷ ks) h i = absurd i
 run_rests m p r (Special w ∷ ks) h i = absurd i
+run_rests m p r (Invoked w ∷ ks) h i = absurd i
+run_rests m p r (Numbered d ∷ ks) h i = absurd i
+run_rests m p r (Dollars ∷ ks) h i = absurd i
 run_rests m p r (Unclosed t ∷ ks) h i = absurd i
 run_rests m p r (Stray b ∷ ks) h i = absurd i
 
@@ -168,6 +177,7 @@ refused_accept (Constant v ∷ ks) p r e = cc
 refused_accept (Inherent v ∷ ks) p r e = cc
 refused_accept (Name w ∷ ks) p r e = cc
 refused_accept (Applied f ∷ ks) p r e = cc
+refused_accept (Entry label ∷ ks) p r e = cc
 refused_accept (Mark s ∷ ks) p r e = cc
 refused_accept (Other ∷ ks) p r e = cc
 
@@ -198,6 +208,9 @@ unrested r true (Signed s) g (inl h) = refl
 unrested r true (Quoted q) g (inl h) = refl
 unrested r true (Called w) g (inl h) = refl
 unrested r true (Special w) g (inl h) = refl
+unrested r true (Invoked w) g (inl h) = refl
+unrested r true (Numbered d) g (inl h) = refl
+unrested r true Dollars g (inl h) = refl
 unrested r true (Unclosed x) g (inl h) = refl
 unrested r true (Stray x) g (inl h) = refl
 
@@ -229,9 +242,9 @@ enter_run m o condition k done n w (t ∷ ks) p r e y h =
 
 -- what follows doesn't go on with the phrase
 follows_ceases : (w : Want) (p : Part) (front rest : List Token) → FollowsWant w p → SpellsPart front p → Ceases (want_kind w) (map symbol (front ++ rest))
-follows_ceases (AnExpr lv next) (Put Comma) front rest h s = let P : List Token → Type 0 = λ ks. Ceases AnExpression (map symbol (ks ++ rest)) in subst P (sym s) (tt, refl)
-follows_ceases (AnExpr lv next) (Put Close) front rest h s = let P : List Token → Type 0 = λ ks. Ceases AnExpression (map symbol (ks ++ rest)) in subst P (sym s) (tt, refl)
-follows_ceases (AnExpr lv next) (Put Colon) front rest h s = let P : List Token → Type 0 = λ ks. Ceases AnExpression (map symbol (ks ++ rest)) in subst P (sym s) (tt, refl)
+follows_ceases (AnExpr lv next) (Put Comma) front rest h s = let P : List Token → Type 0 = λ ks. Ceases AnExpression (map symbol (ks ++ rest)) in subst P (sym s) ((tt, tt), refl)
+follows_ceases (AnExpr lv next) (Put Close) front rest h s = let P : List Token → Type 0 = λ ks. Ceases AnExpression (map symbol (ks ++ rest)) in subst P (sym s) ((tt, tt), refl)
+follows_ceases (AnExpr lv next) (Put Colon) front rest h s = let P : List Token → Type 0 = λ ks. Ceases AnExpression (map symbol (ks ++ rest)) in subst P (sym s) ((tt, tt), refl)
 follows_ceases (AVar lv next) (Put Equals) front rest h s = let P : List Token → Type 0 = λ ks. Ceases AVariable (map symbol (ks ++ rest)) in subst P (sym s) tt
 follows_ceases (AVar lv next) (Put Comma) front rest h s = let P : List Token → Type 0 = λ ks. Ceases AVariable (map symbol (ks ++ rest)) in subst P (sym s) tt
 follows_ceases (AVar lv next) (Put Close) front rest h s = let P : List Token → Type 0 = λ ks. Ceases AVariable (map symbol (ks ++ rest)) in subst P (sym s) tt

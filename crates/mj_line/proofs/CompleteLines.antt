@@ -7,7 +7,7 @@ use Rattle.mj_ast.specs.declared.sign.Sign.TheVariants.{Colon, Close, Dot}
 use Rattle.mj_ast.specs.declared.keyword.Keyword.{Keyword}
 use Rattle.mj_ast.specs.declared.keyword.Verb.{Verb}
 use Rattle.mj_ast.specs.Syntax.{Expr}
-use Rattle.mj_ast.specs.Tokens.{Token, Word, Digits, Signed, Blank, Comment, Called, Special, Quoted, Unclosed, Stray}
+use Rattle.mj_ast.specs.Tokens.{Token, Word, Digits, Signed, Blank, Comment, Called, Special, Invoked, Numbered, Dollars, Quoted, Unclosed, Stray}
 use Rattle.mj_ast.specs.Expressions.{Symbol, symbol, expr_nesting, expr_width}
 use Rattle.mj_ast.specs.Commands.{Part, SpellsCondition, SpellsArguments, IsConditional, greatest, part_nesting, part_width, condition_measure, gap_of, comment_gap_of, bare_of, meant}
 use Rattle.mj_ast.specs.Lines.{SpellsEnd, SpellsLabel, comment_gap, SpellsFormals, SpellsDots, comma_names, name_tokens, gap_behind}
@@ -49,6 +49,9 @@ complete_bare m o condition k (Signed s ∷ ks) b h = absurd h
 complete_bare m o condition k (Quoted q ∷ ks) b h = absurd h
 complete_bare m o condition k (Called w ∷ ks) b h = absurd h
 complete_bare m o condition k (Special w ∷ ks) b h = absurd h
+complete_bare m o condition k (Invoked w ∷ ks) b h = absurd h
+complete_bare m o condition k (Numbered d ∷ ks) b h = absurd h
+complete_bare m o condition k (Dollars ∷ ks) b h = absurd h
 complete_bare m o condition k (Unclosed t ∷ ks) b h = absurd h
 complete_bare m o condition k (Stray x ∷ ks) b h = absurd h
 
@@ -277,6 +280,9 @@ head_same m p o c (Signed s ∷ ks) h i j = absurd i
 head_same m p o c (Quoted q ∷ ks) h i j = absurd i
 head_same m p o c (Called w ∷ ks) h i j = absurd i
 head_same m p o c (Special w ∷ ks) h i j = absurd i
+head_same m p o c (Invoked w ∷ ks) h i j = absurd i
+head_same m p o c (Numbered d ∷ ks) h i j = absurd i
+head_same m p o c (Dollars ∷ ks) h i j = absurd i
 head_same m p o c (Unclosed t ∷ ks) h i j = absurd i
 head_same m p o c (Stray b ∷ ks) h i j = absurd i
 

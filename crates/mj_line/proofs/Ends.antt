@@ -2,7 +2,7 @@
 use Rattle.std.proofs.Common.{◌≡◌, ℕ, List, [], ◌∷◌, ◌++◌, length, refl, ap, ◌∙◌, subst, Bool, true, false, nat_le, ◌⊎◌, inl, inr, Option, Some, None}
 use Rattle.std.specs.Prelude.{cond}
 use Rattle.mj_ast.specs.Expressions.{symbol}
-use Rattle.mj_ast.specs.Tokens.{Token, Word, Digits, Quoted, Signed, Blank, Comment, Unclosed, Stray, Called, Special}
+use Rattle.mj_ast.specs.Tokens.{Token, Word, Digits, Quoted, Signed, Blank, Comment, Unclosed, Stray, Called, Special, Invoked, Numbered, Dollars}
 use Rattle.mj_expr.specs.Machine.{Limits}
 use Rattle.mj_expr.specs.Machine as phrase
 use Rattle.mj_ast.specs.Expressions.{symbol}
@@ -117,6 +117,9 @@ halts_as : (m : Limits) (s : State) (k : Token) (ks : List Token) → ((l : Limi
 halts_as m s (Word w) ks f = halts_word m s (Word w) ks (length (Word w ∷ ks)) (nat_le (length w) 31) (nat_le (length w) 31) refl refl f
 halts_as m s (Called w) ks f = halts_word m s (Called w) ks (length (Called w ∷ ks)) (nat_le (length w) 31) (nat_le (length w) 31) refl refl f
 halts_as m s (Special w) ks f = halts_word m s (Special w) ks (length (Special w ∷ ks)) (nat_le (length w) 31) (nat_le (length w) 31) refl refl f
+halts_as m s (Invoked w) ks f = halts_word m s (Invoked w) ks (length (Invoked w ∷ ks)) (nat_le (length w) 31) (nat_le (length w) 31) refl refl f
+halts_as m s (Numbered d) ks f = inr (record { front = []; token = Numbered d; back = ks; end = s; cut = refl; along = refl; stuck = f; gives = refl })
+halts_as m s Dollars ks f = inr (record { front = []; token = Dollars; back = ks; end = s; cut = refl; along = refl; stuck = f; gives = refl })
 halts_as m s (Digits d) ks f = inr (record { front = []; token = Digits d; back = ks; end = s; cut = refl; along = refl; stuck = f; gives = refl })
 halts_as m s (Quoted q) ks f = inr (record { front = []; token = Quoted q; back = ks; end = s; cut = refl; along = refl; stuck = f; gives = refl })
 halts_as m s (Signed z) ks f = inr (record { front = []; token = Signed z; back = ks; end = s; cut = refl; along = refl; stuck = f; gives = refl })

@@ -13,7 +13,7 @@ use Rattle.mj_ast.specs.Tokens.{Token, Word, Called, Digits, Quoted, Signed}
 use Rattle.mj_ast.specs.Expressions.{Constant, Other, symbol, function_symbol, callee_of, Overlong, Mark, Spells, expressions}
 use Rattle.mj_ast.specs.Commands.{Part, Put, Named, Label, SerialWord, PieceCall, Text, Place, Control, SpellsParts, greatest, part_nesting, part_width}
 use Rattle.mj_expr.specs.Machine as phrase
-use Rattle.mj_line.specs.Forms.{Mode, Starts, Node, SetTarget, PieceOpens, PieceVariable, PieceComma, PieceText, PieceBehind, SetBehind, SetValue, SetEnd, Writes, Reads, OutputWanted, OutputEnd, MarksEnd, ColumnWanted, CodeWanted, IntoWanted, IntoEnd, IntoTimed, DeviceWanted, DeviceEnd, DeviceColon, DeviceTimed, DeviceWaited, KillWanted, NameWanted, NameBehind, KillEnd, MergeInto, MergeBehind, MergeFrom, MergeEnd, ValueWanted, ValueEnd, ForWanted, ForBehind, RangeWanted, RangeEnd, StepWanted, StepEnd, LimitWanted, LimitEnd, NewWanted, KeptWanted, KeptBehind, NewEnd, EntryWanted, LabelEnd, RoutineWanted, RoutineEnd, ActualWanted, ActualEnd, ActualsEnd, WaitColon, GuardWanted, GuardEnd, LockWanted, LockSigned, LockListed, LockBehind, LockNamed, LockTimed, LockEnd, RestartWanted, RestoredOpens, RestoredWanted, RestoredBehind, RestoredEnd, SerialWanted, SerialInside, SerialBehind, SerialEnd, Sort, Names, Labels, Want, AnExpr, AVar, ALocal, piece_part, part_of, part_at, sort_of, takes, wants, ends, PartsFit}
+use Rattle.mj_line.specs.Forms.{Mode, Starts, Node, SetTarget, PieceOpens, PieceVariable, PieceComma, PieceText, PieceBehind, SetBehind, SetValue, SetEnd, Writes, Reads, OutputWanted, OutputEnd, MarksEnd, ColumnWanted, CodeWanted, IntoWanted, IntoEnd, IntoTimed, DeviceWanted, DeviceEnd, DeviceColon, DeviceTimed, DeviceWaited, KillWanted, NameWanted, NameBehind, KillEnd, MergeInto, MergeBehind, MergeFrom, MergeEnd, ValueWanted, ValueEnd, ForWanted, ForBehind, RangeWanted, RangeEnd, StepWanted, StepEnd, LimitWanted, LimitEnd, NewWanted, KeptWanted, KeptBehind, NewEnd, EntryWanted, LabelEnd, RoutineWanted, RoutineEnd, ActualWanted, ActualEnd, ActualsEnd, WaitColon, GuardWanted, GuardEnd, LockWanted, LockSigned, LockListed, LockBehind, LockNamed, LockTimed, LockEnd, RestartWanted, RestoredOpens, RestoredWanted, RestoredBehind, RestoredEnd, SerialWanted, SerialInside, SerialBehind, SerialEnd, Sort, Names, Labels, Want, AnExpr, AVar, ALocal, piece_part, part_of, part_at, sort_of, takes, wants, ends, PartsFit, ResultWanted, ResultEnd}
 use Rattle.mj_line.specs.Machine.{wanted}
 use Rattle.mj_line.proofs.Tables.{some_same, Alone, token_goes, token_nesting, token_width, unlabelled}
 
@@ -133,6 +133,7 @@ all_apart m (KillWanted first) t = place_apart m (KillWanted first) 0 KillEnd t 
 all_apart m MergeInto t = place_apart m MergeInto 0 MergeBehind t (λ w. refl) (λ s. inr refl)
 all_apart m MergeFrom t = place_apart m MergeFrom 0 MergeEnd t (λ w. refl) (λ s. inr refl)
 all_apart m (ValueWanted first) t = text_apart m (ValueWanted first) 0 ValueEnd t (λ w. refl) refl (λ s. inr refl)
+all_apart m ResultWanted t = text_apart m ResultWanted 0 ResultEnd t (λ w. refl) refl (λ s. inr refl)
 all_apart m ForWanted t = local_apart m ForWanted ForBehind t (λ w. refl) (λ s. inr refl)
 all_apart m RangeWanted t = text_apart m RangeWanted 0 RangeEnd t (λ w. refl) refl (λ s. inr refl)
 all_apart m StepWanted t = text_apart m StepWanted 0 StepEnd t (λ w. refl) refl (λ s. inr refl)
@@ -322,6 +323,8 @@ finish MergeFrom = from_finish
 finish MergeEnd = at_end MergeEnd refl
 finish (ValueWanted first) = text_before (ValueWanted first) ValueEnd 0 (omega arith) refl (at_end ValueEnd refl)
 finish ValueEnd = at_end ValueEnd refl
+finish ResultWanted = at_end ResultWanted refl
+finish ResultEnd = at_end ResultEnd refl
 finish ForWanted = local_before ForWanted ForBehind refl (sign_before ForBehind RangeWanted Equals refl range_finish)
 finish ForBehind = sign_before ForBehind RangeWanted Equals refl range_finish
 finish RangeWanted = range_finish

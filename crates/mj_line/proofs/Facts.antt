@@ -7,8 +7,8 @@ use Rattle.std.proofs.lemmas.Bool.Decides.{nat_tests}
 use Rattle.mj_ast.specs.declared.sign.Sign.TheVariants.{Comma}
 use Rattle.mj_ast.specs.declared.keyword.Verb.{Verb}
 use Rattle.mj_ast.specs.Syntax.{Expr}
-use Rattle.mj_ast.specs.Tokens.{Token, Word, Digits, Quoted, Signed, Blank, Comment, Unclosed, Stray, Called, Special}
-use Rattle.mj_ast.specs.Expressions.{levels_of, Symbol, Name, Overlong, symbol, function_symbol, callee_of, special_symbol, special_of}
+use Rattle.mj_ast.specs.Tokens.{Token, Word, Digits, Quoted, Signed, Blank, Comment, Unclosed, Stray, Called, Special, Invoked, Numbered, Dollars}
+use Rattle.mj_ast.specs.Expressions.{levels_of, Symbol, Name, Entry, Overlong, symbol, function_symbol, callee_of, special_symbol, special_of}
 use Rattle.mj_ast.specs.Commands.{Part, Named, Label, SerialWord, is_serial_word, verb_of, looked_up, command_words, capital}
 use Rattle.mj_ast.specs.Lines.{Filler}
 use Rattle.mj_expr.specs.Machine.{Limits}
@@ -117,6 +117,11 @@ special_part Names w = refl
 special_part Labels w = refl
 special_part Serials w = refl
 
+invoked_part : (b : Sort) (w : List ℕ) → part_at b (Invoked w) ≡ None
+invoked_part Names w = refl
+invoked_part Labels w = refl
+invoked_part Serials w = refl
+
 own_long : (p : Spot) (w : List ℕ) → 31 < length w → own p (Word w) ≡ Stuck
 own_long Begin w h = ap (λ (b : Bool). cond b (Go (At (Labelled w))) Stuck) (le_false (length w) h)
 own_long (FormalsOpened label) w h = ap (λ (b : Bool). cond b (Go (At (FormalBehind label (w ∷ [])))) Stuck) (long_new [] w (le_false (length w) h))
@@ -145,6 +150,11 @@ own_special Begin w = refl
 own_special (Args l condition k done n) w = ap (taken l condition k done n) (special_part (sort_of n) w)
 own_special p w = refl
 
+own_invoked : (p : Spot) (w : List ℕ) → own p (Invoked w) ≡ Stuck
+own_invoked Begin w = refl
+own_invoked (Args l condition k done n) w = ap (taken l condition k done n) (invoked_part (sort_of n) w)
+own_invoked p w = refl
+
 rested_called : (q : Option Rest) (w : List ℕ) → on_rested q (Called w) ≡ Stuck
 rested_called (Some r) w = refl
 rested_called None w = refl
@@ -153,11 +163,18 @@ rested_special : (q : Option Rest) (w : List ℕ) → on_rested q (Special w) �
 rested_special (Some r) w = refl
 rested_special None w = refl
 
+rested_invoked : (q : Option Rest) (w : List ℕ) → on_rested q (Invoked w) ≡ Stuck
+rested_invoked (Some r) w = refl
+rested_invoked None w = refl
+
 pub spot_called : (p : Spot) (w : List ℕ) → 31 < length w → spot_step p (Called w) ≡ Stuck
 spot_called p w h = ap (λ (n : Next). first n (on_rested (rested p) (Called w))) (own_called p w h) ∙ rested_called (rested p) w
 
 pub spot_special : (p : Spot) (w : List ℕ) → spot_step p (Special w) ≡ Stuck
 spot_special p w = ap (λ (n : Next). first n (on_rested (rested p) (Special w))) (own_special p w) ∙ rested_special (rested p) w
+
+pub spot_invoked : (p : Spot) (w : List ℕ) → spot_step p (Invoked w) ≡ Stuck
+spot_invoked p w = ap (λ (n : Next). first n (on_rested (rested p) (Invoked w))) (own_invoked p w) ∙ rested_invoked (rested p) w
 
 behind_as_stuck : (g : Goal) (o : phrase.Outcome) (k : Token) → ((p : Spot) → spot_step p k ≡ Stuck) → behind_step g o k ≡ Stuck
 behind_as_stuck g (phrase.Accept p r) k h = h (behind_phrase g p)
@@ -174,11 +191,15 @@ refused_called w ks h = ap (λ (b : Bool). cond b (StuckAt (length (Called w ∷
 pub refused_special : (w : List ℕ) (ks : List Token) → 31 < length w → refused (Special w ∷ ks) ≡ TooLong
 refused_special w ks h = ap (λ (b : Bool). cond b (StuckAt (length (Special w ∷ ks))) TooLong) (le_false (length w) h)
 
+pub refused_invoked : (w : List ℕ) (ks : List Token) → 31 < length w → refused (Invoked w ∷ ks) ≡ TooLong
+refused_invoked w ks h = ap (λ (b : Bool). cond b (StuckAt (length (Invoked w ∷ ks))) TooLong) (le_false (length w) h)
+
 -- a `$` word or a word over its limit leads nowhere
 pub behind_long : (g : Goal) (o : phrase.Outcome) (k : Token) → OverLimit k → behind_step g o k ≡ Stuck
 behind_long g o (Word w) h = behind_as_stuck g o (Word w) (λ p. spot_long p w h)
 behind_long g o (Called w) h = behind_as_stuck g o (Called w) (λ p. spot_called p w h)
 behind_long g o (Special w) h = behind_as_stuck g o (Special w) (λ p. spot_special p w)
+behind_long g o (Invoked w) h = behind_as_stuck g o (Invoked w) (λ p. spot_invoked p w)
 behind_long g o k h = absurd h
 
 -- ---- phrases
@@ -314,6 +335,9 @@ refused_at : (s : phrase.State) (k : Token) (ks : List Token) (n : ℕ) → phra
 refused_at s (Word w) ks n e h = refused_word s (Name w) ks (length (Word w ∷ ks)) n (nat_le (length w) 31) e h
 refused_at s (Called w) ks n e h = refused_word s (function_symbol (callee_of w)) ks (length (Called w ∷ ks)) n (nat_le (length w) 31) e h
 refused_at s (Special w) ks n e h = refused_word s (special_symbol (special_of w)) ks (length (Special w ∷ ks)) n (nat_le (length w) 31) e h
+refused_at s (Invoked w) ks n e h = refused_word s (Entry (Some w)) ks (length (Invoked w ∷ ks)) n (nat_le (length w) 31) e h
+refused_at s (Numbered d) ks n e h = ap StuckAt h
+refused_at s Dollars ks n e h = ap StuckAt h
 refused_at s (Digits d) ks n e h = ap StuckAt h
 refused_at s (Quoted q) ks n e h = ap StuckAt h
 refused_at s (Signed z) ks n e h = ap StuckAt h
@@ -356,6 +380,7 @@ long_stuck : (l : Limits) (g : Goal) (o : phrase.Outcome) (k : Token) (ks : List
 long_stuck l g o (Word w) ks h = ap (turn l ks (Word w)) (behind_long g o (Word w) h) ∙ refused_long w ks h
 long_stuck l g o (Called w) ks h = ap (turn l ks (Called w)) (behind_long g o (Called w) h) ∙ refused_called w ks h
 long_stuck l g o (Special w) ks h = ap (turn l ks (Special w)) (behind_long g o (Special w) h) ∙ refused_special w ks h
+long_stuck l g o (Invoked w) ks h = ap (turn l ks (Invoked w)) (behind_long g o (Invoked w) h) ∙ refused_invoked w ks h
 long_stuck l g o k ks h = absurd h
 
 long_on : (l : Limits) (i : Limits) (g : Goal) (s : phrase.State) (k : Token) (ks : List Token) (n : phrase.Next) →

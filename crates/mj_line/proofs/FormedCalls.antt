@@ -13,7 +13,7 @@ use Rattle.mj_ast.specs.declared.routine.ReadMode.TheVariants.{Line, Byte}
 use Rattle.mj_ast.specs.declared.routine.LockMode.TheVariants.{Whole, Plus as Added, Minus as Taken}
 use Rattle.mj_ast.specs.Syntax.{Expr, Variable, Destination, Plain, Pieces, Targets, One, Several, Assignment, Killed, Gone, Spared, Output, Shown, Format, Coded, Input, Prompted, Arranged, Into, Called, Jumped, Started, LockNames, Lone, Together, Locked, Renewed, Fresh, Kept, Restored, Alone, Listed, Everything, Command, Set, Write, Halt, Hang, Job, Lock, Kill, Merge, If, Else, For, Forever, Do, Goto, Quit, New, OpenDevice, UseDevice, CloseDevice, Read, TStart, TCommit, TRestart, TRollback, Break}
 use Rattle.mj_ast.specs.Commands.{Part, Put, Named, Label, SerialWord, PieceCall, Prompt, Text, Place, Control, restored_parts, serial_parts, meant, behind_commas, entry_parts, target_parts, guard_parts, actual_parts, actuals_parts, called_parts, as_called, jumped_parts, wait_parts, started_parts, mode_parts, variable_parts, lock_names_parts, locked_parts, renewed_parts, is_local, is_bare, is_entry, is_called, is_jumped, is_started, are_lock_names, is_locked, is_renewed, destination_parts, targets_parts, assignment_parts, mark_part, column_parts, output_parts, read_mode_parts, input_parts, killed_parts, command_parts, keyword_for, every, is_assignment, has_items, is_there, is_output, is_input, is_killed, is_formed}
-use Rattle.mj_line.specs.Forms.{Mode, Calls, Jumps, Starts, Node, SetTarget, Writes, Reads, OutputWanted, DeviceWanted, DeviceEnd, KillWanted, MergeInto, MergeBehind, MergeFrom, MergeEnd, ValueWanted, ValueEnd, ForWanted, ForBehind, RangeWanted, NewWanted, EntryWanted, LabelEnd, RoutineWanted, RoutineEnd, ActualWanted, ActualEnd, ActualsEnd, WaitColon, GuardWanted, GuardEnd, LockWanted, LockSigned, LockListed, LockBehind, LockNamed, LockTimed, LockEnd, RestartWanted, actuals_at, colon_at, takes, ends, first_node, AVar, wants, PartLeads, PartsFit, IsForm}
+use Rattle.mj_line.specs.Forms.{Mode, Calls, Jumps, Starts, Node, SetTarget, Writes, Reads, OutputWanted, DeviceWanted, DeviceEnd, KillWanted, MergeInto, MergeBehind, MergeFrom, MergeEnd, ValueWanted, ValueEnd, ForWanted, ForBehind, RangeWanted, NewWanted, EntryWanted, LabelEnd, RoutineWanted, RoutineEnd, ActualWanted, ActualEnd, ActualsEnd, WaitColon, GuardWanted, GuardEnd, LockWanted, LockSigned, LockListed, LockBehind, LockNamed, LockTimed, LockEnd, RestartWanted, actuals_at, colon_at, takes, ends, first_node, AVar, wants, PartLeads, PartsFit, IsForm, ResultWanted, ResultEnd}
 use Rattle.mj_line.proofs.Tables.{none_some, some_same}
 use Rattle.mj_line.proofs.Formed.{false_true, first_of, both, second_of, assignment_fits, assignments_fit, output_fits, input_fits, speeches_fit, wait_fits, devices_fit, killed_fits, kills_fit, merges_fit, ifs_fit, range_fits, ranges_fit, renewed_fits, news_fit, serial_fits, restored_fits}
 
@@ -356,7 +356,8 @@ own_form (Goto (x ∷ list)) h =
     (as_form (Of keyword.Goto) (EntryWanted Jumps true) s.0 s.1 (called_parts (as_called x) ++
     behind_commas called_parts (map as_called list)) refl s.2 (first_called Jumps (as_called x) (map as_called list) (jumps_called (x ∷ list) h)
     (jumps_plain (x ∷ list))))
-own_form Quit h = refl
+own_form (Quit None) h = refl
+own_form (Quit (Some e)) h = (ResultWanted, refl, (ResultEnd, refl, refl))
 own_form (New []) h = refl
 own_form (New (x ∷ list)) h =
     let s = renewed_some x (behind_commas renewed_parts list) in

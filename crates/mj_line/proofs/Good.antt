@@ -5,7 +5,7 @@ use Rattle.mj_ast.specs.declared.sign.Sign.TheVariants.{Comma, Colon, Open, Clos
 use Rattle.mj_ast.specs.declared.keyword.Keyword.{Keyword}
 use Rattle.mj_ast.specs.declared.keyword.Verb.{Verb}
 use Rattle.mj_ast.specs.Syntax.{Expr}
-use Rattle.mj_ast.specs.Tokens.{Token, Word, Digits, Quoted, Signed, Blank, Comment, Unclosed, Stray, Called, Special}
+use Rattle.mj_ast.specs.Tokens.{Token, Word, Digits, Quoted, Signed, Blank, Comment, Unclosed, Stray, Called, Special, Invoked, Numbered, Dollars}
 use Rattle.mj_ast.specs.Expressions.{symbol, name_limit, expr_nesting, expr_width}
 use Rattle.mj_ast.specs.Commands.{Part, Text, Place, Control, verb_of, bare_of, meant, is_conditional, greatest, part_nesting, part_width, condition_measure}
 use Rattle.mj_expr.specs.Machine.{Limits}
@@ -195,6 +195,9 @@ on_good m r (Signed s) g = tt
 on_good m r (Unclosed u) g = tt
 on_good m r (Called w) g = tt
 on_good m r (Special w) g = tt
+on_good m r (Invoked w) g = tt
+on_good m r (Numbered d) g = tt
+on_good m r Dollars g = tt
 on_good m r (Stray b) g = tt
 
 on_rested_good : (m : Limits) (q : Option Rest) (k : Token) → RestGood m q → NextGood m (on_rested q k)

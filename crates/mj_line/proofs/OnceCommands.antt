@@ -8,7 +8,7 @@ use Rattle.mj_ast.specs.declared.routine.ReadMode.TheVariants.{Line, Byte}
 use Rattle.mj_ast.specs.declared.routine.Serial.{Serial}
 use Rattle.mj_ast.specs.declared.routine.Serial.TheVariants as serial
 use Rattle.mj_ast.specs.Syntax.{Expr, Variable, Assignment, Killed, Merged, Output, Received, Input, Prompted, Arranged, Into, Opened, OpenDevice, UseDevice, CloseDevice, Read, Command, Called, Jumped, Started, Locked, Range, Single, Endless, UpTo, Renewed, Set, Write, Halt, Hang, Job, Lock, Kill, Merge, If, Else, For, Forever, Do, Goto, Quit, New, Restored, Alone, Listed, Everything, Restartable, TStart, TCommit, TRestart, TRollback, Break}
-use Rattle.mj_ast.specs.Commands.{Part, Put, Named, SerialWord, Prompt, Text, Place, Control, restored_parts, serial_parts, restartable_parts, with_commas, behind_commas, assignment_parts, layout_parts, output_parts, read_mode_parts, input_parts, opened_parts, is_input, name_parts, killed_parts, merged_parts, value_parts, guard_parts, called_parts, as_called, jumped_parts, started_parts, locked_parts, range_parts, renewed_parts, command_parts, keyword_for, has_items, every, is_output, is_formed}
+use Rattle.mj_ast.specs.Commands.{Part, Put, Named, SerialWord, Prompt, Text, Place, Control, restored_parts, serial_parts, restartable_parts, with_commas, behind_commas, assignment_parts, layout_parts, output_parts, read_mode_parts, input_parts, opened_parts, is_input, name_parts, killed_parts, merged_parts, value_parts, guard_parts, called_parts, as_called, jumped_parts, started_parts, locked_parts, range_parts, renewed_parts, command_parts, keyword_for, has_items, every, is_output, is_formed, result_parts}
 use Rattle.mj_line.specs.Forms.{Calls, Jumps, Starts}
 use Rattle.mj_line.proofs.Formed.{first_of}
 use Rattle.mj_line.proofs.FormedCalls.{entered_some, as_entered, locked_some, renewed_some, assignment_some, killed_some, output_some, input_some, IsSome}
@@ -210,9 +210,18 @@ goto_once : (xs : List Jumped) (d : Command) → keyword.Goto ≡ keyword_for d 
 goto_once xs (Goto ys) k e = ap Goto (lists_tell jumped_parts jumped_tells jumped_some xs ys e)
 goto_once xs d k e = absurd (let z : keyword.Goto ≡ keyword_for d = k in cc)
 
-quit_once : (d : Command) → keyword.Quit ≡ keyword_for d → Quit ≡ d
-quit_once Quit k = refl
-quit_once d k = absurd (let z : keyword.Quit ≡ keyword_for d = k in cc)
+text_tells : (x y : Expr) → Text 0 x ∷ [] ≡ Text 0 y ∷ [] → x ≡ y
+text_tells x y e = cc
+
+result_tells : (v w : Option Expr) → result_parts v ≡ result_parts w → v ≡ w
+result_tells None None e = refl
+result_tells None (Some y) e = absurd (let f : [] ≡ Text 0 y ∷ [] = e in cc)
+result_tells (Some x) None e = absurd (let f : Text 0 x ∷ [] ≡ [] = e in cc)
+result_tells (Some x) (Some y) e = ap Some (text_tells x y e)
+
+quit_once : (v : Option Expr) (d : Command) → keyword.Quit ≡ keyword_for d → result_parts v ≡ command_parts d → Quit v ≡ d
+quit_once v (Quit w) k e = ap Quit (result_tells v w e)
+quit_once v d k e = absurd (let z : keyword.Quit ≡ keyword_for d = k in cc)
 
 new_once : (xs : List Renewed) (d : Command) → keyword.New ≡ keyword_for d → with_commas renewed_parts xs ≡ command_parts d → New xs ≡ d
 new_once xs (New ys) k e = ap New (lists_tell renewed_parts renewed_tells renewed_some xs ys e)
@@ -314,7 +323,7 @@ command_once (For v xs) d f k e = for_once v xs d k e
 command_once Forever d f k e = forever_once d k e
 command_once (Do xs) d f k e = do_once xs d k e
 command_once (Goto xs) d f k e = goto_once xs d k e
-command_once Quit d f k e = quit_once d k
+command_once (Quit v) d f k e = quit_once v d k e
 command_once (New xs) d f k e = new_once xs d k e
 command_once (OpenDevice xs) d f k e = open_once xs d k e
 command_once (UseDevice xs) d f k e = use_once xs d k e

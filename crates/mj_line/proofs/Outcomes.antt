@@ -4,7 +4,7 @@ use Rattle.std.specs.Prelude.{cond}
 use Rattle.std.proofs.lemmas.Bool.Decides.{nat_tests}
 use Rattle.mj_ast.specs.declared.sign.Sign.TheVariants.{Comma}
 use Rattle.mj_ast.specs.Syntax.{Line}
-use Rattle.mj_ast.specs.Tokens.{Token, Word, Called, Special, Digits, Quoted, Signed, Blank, Comment, Unclosed, Stray}
+use Rattle.mj_ast.specs.Tokens.{Token, Word, Called, Special, Invoked, Numbered, Dollars, Digits, Quoted, Signed, Blank, Comment, Unclosed, Stray}
 use Rattle.mj_ast.specs.Expressions.{symbol}
 use Rattle.mj_ast.specs.Commands.{greatest, step_nesting, step_width}
 use Rattle.mj_ast.specs.Lines.{SpellsLine, IsLineWithin, plain_line, BeginsLine, BeginsLineWithin, IsOverlong, HasOverlong}
@@ -72,6 +72,9 @@ stuck_left (Comment t ∷ ks) n e = cc
 stuck_left (Unclosed t ∷ ks) n e = cc
 stuck_left (Called w ∷ ks) n e = word_stuck_at (length (Called w ∷ ks)) n (nat_le (length w) 31) e
 stuck_left (Special w ∷ ks) n e = word_stuck_at (length (Special w ∷ ks)) n (nat_le (length w) 31) e
+stuck_left (Invoked w ∷ ks) n e = word_stuck_at (length (Invoked w ∷ ks)) n (nat_le (length w) 31) e
+stuck_left (Numbered d ∷ ks) n e = cc
+stuck_left (Dollars ∷ ks) n e = cc
 stuck_left (Stray b ∷ ks) n e = cc
 
 halts_stuck : (ks : List Token) (n : ℕ) → Halts (limits 64) (At Begin) ks (StuckAt n) → (HasOverlong ks → ⊥) → IsStuckWith ks n
@@ -213,6 +216,9 @@ long_token (Comment t) ks front e = absurd (stuck_toolong _ e)
 long_token (Unclosed t) ks front e = absurd (stuck_toolong _ e)
 long_token (Called w) ks front e = word_long (length (Called w ∷ ks)) w (nat_le (length w) 31) refl e
 long_token (Special w) ks front e = word_long (length (Special w ∷ ks)) w (nat_le (length w) 31) refl e
+long_token (Invoked w) ks front e = word_long (length (Invoked w ∷ ks)) w (nat_le (length w) 31) refl e
+long_token (Numbered d) ks front e = absurd (stuck_toolong _ e)
+long_token Dollars ks front e = absurd (stuck_toolong _ e)
 long_token (Stray b) ks front e = absurd (stuck_toolong _ e)
 
 as_begins : (depth width : ℕ) (ks : List Token) → BeginsLineWithin depth width ks → BeginsLine ks

@@ -252,7 +252,7 @@ refused_left_out = (
   no_label (tokens (codes " W X?1N")),
   (
     record { place = 4; stuck = stuck_at (tokens (codes " W X?1N")) 3 4 refl refl; column_is = refl },
-    inr ((λ h. wrong h.0), inr ((λ h. wrong h.0), inr ((λ h. wrong h.0), inr ((λ h. wrong h), inr ((λ h. wrong h), inl (pattern, refl)))))),
+    inr ((λ h. wrong h.0), inr ((λ h. wrong h.0), inr ((λ h. wrong h), inr ((λ h. wrong h), inl (pattern, refl))))),
   ),
 )
 

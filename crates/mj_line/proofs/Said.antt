@@ -2,12 +2,12 @@
 use Rattle.std.proofs.Common.{◌≡◌, ℕ, zero, suc, ◌+◌, ◌≤◌, ◌<◌, nat_le, max, List, [], ◌∷◌, ◌++◌, length, take, refl, ap, sym, ◌∙◌, subst, Bool, true, false, append_assoc, append-nil, arith, ◌⊎◌, inl, inr, Option, Some, None}
 use Rattle.std.specs.Prelude.{cond}
 use Rattle.std.proofs.lemmas.Bool.Decides.{nat_tests}
-use Rattle.mj_ast.specs.declared.sign.Sign.TheVariants.{Comma}
+use Rattle.mj_ast.specs.declared.sign.Sign.TheVariants.{Caret, Comma}
 use Rattle.mj_ast.specs.Syntax.{Line}
-use Rattle.mj_ast.specs.Tokens.{Token, Word, Called, Special, Digits, Quoted, Signed, Blank, Comment, Unclosed, Stray}
+use Rattle.mj_ast.specs.Tokens.{Token, Word, Called, Special, Invoked, Numbered, Dollars, Digits, Quoted, Signed, Blank, Comment, Unclosed, Stray}
 use Rattle.mj_ast.specs.Expressions.{width_limit}
 use Rattle.mj_ast.specs.Commands.{greatest, step_nesting, step_width}
-use Rattle.mj_ast.specs.Lines.{SpellsLine, IsLineWithin, plain_line, BeginsLine, BeginsLineWithin, Filler, no_filler, digits_filler, word_filler, IsOverlong, HasOverlong}
+use Rattle.mj_ast.specs.Lines.{SpellsLine, IsLineWithin, plain_line, BeginsLine, BeginsLineWithin, Filler, no_filler, digits_filler, word_filler, entry_filler, IsOverlong, HasOverlong}
 use Rattle.mj_expr.specs.Machine.{Limits}
 use Rattle.mj_expr.specs.Machine as phrase
 use Rattle.mj_expr.proofs.Facts.{IsMore}
@@ -21,7 +21,7 @@ use Rattle.mj_line.proofs.SpotFacts.{step_known}
 use Rattle.mj_line.proofs.Ends.{Along, along_leads, along_runs, Whole, Halts, EndsAs, run_ends}
 use Rattle.mj_line.proofs.CompleteLines.{complete_line}
 use Rattle.mj_line.proofs.Spelled.{spelled_sentence, sentence_back, line_within, sentence_within, plain_within, written_within}
-use Rattle.mj_line.proofs.Commas.{over_stuck, StateReached, GoReached, state_reached, line_comma, LineComma, line_easy, IsSimple, line_level}
+use Rattle.mj_line.proofs.Commas.{over_stuck, StateReached, GoReached, state_reached, line_comma, LineComma, line_behind, LineBehind, line_easy, line_caret, IsSimple, line_level}
 
 -- ---- fronts
 
@@ -64,6 +64,9 @@ refused_accept (Comment t ∷ ks) l e = stuck_accept _ l e
 refused_accept (Unclosed t ∷ ks) l e = stuck_accept _ l e
 refused_accept (Called w ∷ ks) l e = word_accept _ l (nat_le (length w) 31) e
 refused_accept (Special w ∷ ks) l e = word_accept _ l (nat_le (length w) 31) e
+refused_accept (Invoked w ∷ ks) l e = word_accept _ l (nat_le (length w) 31) e
+refused_accept (Numbered d ∷ ks) l e = stuck_accept _ l e
+refused_accept (Dollars ∷ ks) l e = stuck_accept _ l e
 refused_accept (Stray b ∷ ks) l e = stuck_accept _ l e
 
 -- what a state that accepts has read
@@ -234,6 +237,10 @@ no_special : (m : Limits) (s : State) (w : List ℕ) (more : List Token) → 31 
 no_special m s w more h (inl g) = go_stuck g.0 (sym (g.1.1 m (record { depth = omega arith; width = omega arith })) ∙ over_stuck m s (Special w) h)
 no_special m s w more h (inr g) = g.1 (ap (λ (b : Bool). cond b (StuckAt (length (Special w ∷ more))) TooLong) (let e : nat_le (length w) 31 ≡ false = grind (arith, nat_tests) in e))
 
+no_invoked : (m : Limits) (s : State) (w : List ℕ) (more : List Token) → 31 < length w → Turns m s (Invoked w) more → ⊥
+no_invoked m s w more h (inl g) = go_stuck g.0 (sym (g.1.1 m (record { depth = omega arith; width = omega arith })) ∙ over_stuck m s (Invoked w) h)
+no_invoked m s w more h (inr g) = g.1 (ap (λ (b : Bool). cond b (StuckAt (length (Invoked w ∷ more))) TooLong) (let e : nat_le (length w) 31 ≡ false = grind (arith, nat_tests) in e))
+
 -- where a comma goes on or halts, it isn't one too many
 not_long : (m l : Limits) (s : State) (k : Token) (more : List Token) → IsMore m l → Turns m s k more → step l s k ≡ Long → ⊥
 not_long m l s k more i (inl g) e = go_long g.0 (sym (g.1.1 l i) ∙ e)
@@ -267,23 +274,46 @@ second m l f s t x Stuck d a g e h j b c =
 second m l f s t x Deep d a g e h j b c = line_level l t e
 second m l f s t x Long d a g e h j b c = j refl
 
--- a word or number before the comma
-one_filler : (m l : Limits) (f : List Token) (s : State) (x : Token) (more : List Token) (n : Next) → IsMore m l → HasRoom l → Along l (At Begin) f s →
-    Turns m s (Signed Comma) more → step l s x ≡ n → IsSimple n → LineComma l s n → Facts l s x (λ j. step j s x) n →
+-- a word or number before the comma, which isn't one too many at o
+one_filler : (m l : Limits) (f : List Token) (o s : State) (x : Token) (more : List Token) (n : Next) → IsMore m l → HasRoom l → Along l (At Begin) f s →
+    Turns m o (Signed Comma) more → step l s x ≡ n → IsSimple n → LineComma l o n → Facts l s x (λ j. step j s x) n →
     BeginsLine (f ++ (x ∷ Signed Comma ∷ [])) → ((depth : ℕ) → BeginsLineWithin depth l.width (f ++ (x ∷ Signed Comma ∷ [])) → ⊥) → ⊥
-one_filler m l f s x more (Go t) i w a g e h j k b c = second m l f s t x (step l t (Signed Comma)) w a k refl (step_known l t (Signed Comma) w) (λ z. not_long m l s (Signed Comma) more i g (j z)) b c
-one_filler m l f s x more Stuck i w a g e h j k b c =
+one_filler m l f o s x more (Go t) i w a g e h j k b c =
+    second m l f s t x (step l t (Signed Comma)) w a k refl (step_known l t (Signed Comma) w) (λ z. not_long m l o (Signed Comma) more i g (j z)) b c
+one_filler m l f o s x more Stuck i w a g e h j k b c =
     let P : List Token → Type 0 = λ zs. BeginsLine zs in
     none_begins l f x s a k (shorter_front (f ++ x ∷ []) (Signed Comma ∷ []) (subst P (sym (append_assoc f (x ∷ []) (Signed Comma ∷ []))) b))
-one_filler m l f s x more Deep i w a g e h j k b c = h
-one_filler m l f s x more Long i w a g e h j k b c = h
+one_filler m l f o s x more Deep i w a g e h j k b c = h
+one_filler m l f o s x more Long i w a g e h j k b c = h
 
-a_filler : (m : Limits) (f : List Token) (s : State) (x : Token) (more : List Token) → HasRoom m → m.width ≡ 31 → Along m (At Begin) f s →
-    Turns m s (Signed Comma) more → IsSimple (step m s x) → LineComma m s (step m s x) →
+a_filler : (m : Limits) (f : List Token) (o s : State) (x : Token) (more : List Token) → HasRoom m → m.width ≡ 31 → Along m (At Begin) f s →
+    Turns m o (Signed Comma) more → IsSimple (step m s x) → LineComma m o (step m s x) →
     BeginsLine (f ++ (x ∷ Signed Comma ∷ [])) → ((depth : ℕ) → BeginsLineWithin depth width_limit (f ++ (x ∷ Signed Comma ∷ [])) → ⊥) → ⊥
-a_filler m f s x more d w a g h j b c =
-    one_filler m m f s x more (step m s x) (record { depth = omega arith; width = omega arith }) d a g refl h j (step_known m s x d) b
+a_filler m f o s x more d w a g h j b c =
+    one_filler m m f o s x more (step m s x) (record { depth = omega arith; width = omega arith }) d a g refl h j (step_known m s x d) b
     (λ i y. c i (record { rest = y.rest; line = y.line; spells = y.spells; within = record { nests = y.within.nests; lists = let z = y.within.lists in omega arith } }))
+
+-- a `^` and a word before it
+along_on : (m : Limits) (f : List Token) (k : Token) (b s t : State) → Along m b f s → Facts m s k (λ l. step l s k) (Go t) → Along m b (f ++ k ∷ []) t
+along_on m [] k b s t a g = let P : State → Type 0 = λ x. Along m x (k ∷ []) t in subst P (sym a) (t, g, refl)
+along_on m (x ∷ xs) k b s t a g = (a.0, a.1, along_on m xs k a.0 s t a.2 g)
+
+two_fillers : (m : Limits) (f : List Token) (s : State) (more : List Token) (n : Next) → HasRoom m → m.width ≡ 31 → Along m (At Begin) f s →
+    Turns m s (Signed Comma) more → IsSimple n → LineBehind m s n → Facts m s (Signed Caret) (λ j. step j s (Signed Caret)) n →
+    BeginsLine (f ++ (Signed Caret ∷ Word (65 ∷ []) ∷ Signed Comma ∷ [])) →
+    ((depth : ℕ) → BeginsLineWithin depth width_limit (f ++ (Signed Caret ∷ Word (65 ∷ []) ∷ Signed Comma ∷ [])) → ⊥) → ⊥
+two_fillers m f s more (Go t) d w a g h j k b c =
+    let B : List Token → Type 0 = λ zs. BeginsLine zs in
+    let W : ℕ → List Token → Type 0 = λ i zs. BeginsLineWithin i width_limit zs in
+    let e = front_at f (Signed Caret) (Word (65 ∷ []) ∷ Signed Comma ∷ []) in
+    a_filler m (f ++ Signed Caret ∷ []) s t (Word (65 ∷ [])) more d w (along_on m f (Signed Caret) (At Begin) s t a k) g
+    (line_easy m t (Word (65 ∷ [])) tt) j (subst B (sym e) b) (λ i y. c i (subst (W i) e y))
+two_fillers m f s more Stuck d w a g h j k b c =
+    let P : List Token → Type 0 = λ zs. BeginsLine zs in
+    let back : List Token = Word (65 ∷ []) ∷ Signed Comma ∷ [] in
+    none_begins m f (Signed Caret) s a k (shorter_front (f ++ Signed Caret ∷ []) back (subst P (sym (front_at f (Signed Caret) back)) b))
+two_fillers m f s more Deep d w a g h j k b c = h
+two_fillers m f s more Long d w a g h j k b c = h
 
 no_comma : (m : Limits) (f : List Token) (s : State) (more fill : List Token) → HasRoom m → m.width ≡ 31 → Along m (At Begin) f s →
     Turns m s (Signed Comma) more → Filler fill → BeginsLine (f ++ (fill ++ Signed Comma ∷ [])) →
@@ -297,15 +327,19 @@ no_comma m f s more _ d w a (inl g) no_filler b c =
 no_comma m f s more _ d w a (inr g) no_filler b c = none_begins m f (Signed Comma) s a g.0 b
 no_comma m f s more _ d w a g digits_filler b c =
     let r = along_reached m f (At Begin) s a tt in
-    a_filler m f s (Digits (48 ∷ [])) more d w a g (line_easy m s (Digits (48 ∷ [])) tt) (line_comma m s (Digits (48 ∷ [])) r tt) b c
+    a_filler m f s s (Digits (48 ∷ [])) more d w a g (line_easy m s (Digits (48 ∷ [])) tt) (line_comma m s (Digits (48 ∷ [])) r tt) b c
 no_comma m f s more _ d w a g word_filler b c =
     let r = along_reached m f (At Begin) s a tt in
-    a_filler m f s (Word (65 ∷ [])) more d w a g (line_easy m s (Word (65 ∷ [])) tt) (line_comma m s (Word (65 ∷ [])) r tt) b c
+    a_filler m f s s (Word (65 ∷ [])) more d w a g (line_easy m s (Word (65 ∷ [])) tt) (line_comma m s (Word (65 ∷ [])) r tt) b c
+no_comma m f s more _ d w a g entry_filler b c =
+    let r = along_reached m f (At Begin) s a tt in
+    two_fillers m f s more (step m s (Signed Caret)) d w a g (line_caret m s) (line_behind m s r) (step_known m s (Signed Caret) d) b c
 
 not_overlong : (m : Limits) (f : List Token) (s : State) (k : Token) (more : List Token) → HasRoom m → m.width ≡ 31 → Along m (At Begin) f s → Turns m s k more → IsOverlong f k → ⊥
 not_overlong m f s (Word w) more d e a g o = no_word m s w more o g
 not_overlong m f s (Called w) more d e a g o = no_called m s w more o g
 not_overlong m f s (Special w) more d e a g o = no_special m s w more o g
+not_overlong m f s (Invoked w) more d e a g o = no_invoked m s w more o g
 not_overlong m f s (Signed Comma) more d e a g o = no_comma m f s more o.filler d e a g o.fills o.begins o.too_long
 not_overlong m f s k more d e a g o = o
 

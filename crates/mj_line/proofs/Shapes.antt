@@ -8,8 +8,8 @@ use Rattle.mj_ast.specs.declared.routine.LockMode.{LockMode}
 use Rattle.mj_ast.specs.declared.routine.Serial.{Serial}
 use Rattle.mj_ast.specs.Syntax.{Expr, Exprs, Variable, Destination, Plain, Pieces, Targets, One, Several, Assignment, Killed, Spared, Merged, Layout, Format, Arranged, Opened, Called, Locked, LockNames, Lone, Together, Range, Renewed, Kept, Restartable}
 use Rattle.mj_ast.specs.Expressions.{count}
-use Rattle.mj_ast.specs.Commands.{Part, Put, Named, SerialWord, PieceCall, Text, serial_parts, restartable_parts, Place, Control, with_commas, behind_commas, value_parts, routine_parts, entry_parts, guard_parts, actual_parts, actuals_parts, mode_parts, variable_parts, lock_names_parts, locked_parts, range_parts, renewed_parts, is_local, is_bare, is_entry, is_called, are_lock_names, is_locked, is_renewed, more_parts, destination_parts, targets_parts, assignment_parts, mark_part, column_parts, layout_parts, wait_parts, opened_parts, name_parts, killed_parts, merged_parts, has_items, every, is_destination, are_targets, is_assignment, is_there, is_layout, is_killed}
-use Rattle.mj_line.specs.Forms.{Mode, Calls, Jumps, Starts, colon_at, is_optional, Node, SetTarget, PieceOpens, PieceVariable, PieceComma, PieceText, PieceBehind, SetBehind, SetValue, SetEnd, Talk, Writes, Reads, OutputWanted, OutputEnd, MarksEnd, ColumnWanted, CodeWanted, IntoWanted, IntoEnd, IntoTimed, DeviceWanted, DeviceEnd, DeviceColon, DeviceTimed, DeviceWaited, KillWanted, NameWanted, NameBehind, KillEnd, MergeInto, MergeBehind, MergeFrom, MergeEnd, ValueWanted, ValueEnd, ForWanted, ForBehind, RangeWanted, RangeEnd, StepWanted, StepEnd, LimitWanted, LimitEnd, NewWanted, KeptWanted, KeptBehind, NewEnd, EntryWanted, LabelEnd, RoutineWanted, RoutineEnd, ActualWanted, ActualEnd, ActualsEnd, WaitColon, GuardWanted, GuardEnd, LockWanted, LockSigned, LockListed, LockBehind, LockNamed, LockTimed, LockEnd, RestartWanted, RestoredOpens, RestoredWanted, RestoredBehind, RestoredEnd, SerialWanted, SerialInside, SerialBehind, SerialEnd, AnExpr, AVar, ALocal}
+use Rattle.mj_ast.specs.Commands.{Part, Put, Named, SerialWord, PieceCall, Text, serial_parts, restartable_parts, Place, Control, with_commas, behind_commas, value_parts, routine_parts, entry_parts, guard_parts, actual_parts, actuals_parts, mode_parts, variable_parts, lock_names_parts, locked_parts, range_parts, renewed_parts, is_local, is_bare, is_entry, is_called, are_lock_names, is_locked, is_renewed, more_parts, destination_parts, targets_parts, assignment_parts, mark_part, column_parts, layout_parts, wait_parts, opened_parts, name_parts, killed_parts, merged_parts, has_items, every, is_destination, are_targets, is_assignment, is_there, is_layout, is_killed, result_parts}
+use Rattle.mj_line.specs.Forms.{Mode, Calls, Jumps, Starts, colon_at, is_optional, Node, SetTarget, PieceOpens, PieceVariable, PieceComma, PieceText, PieceBehind, SetBehind, SetValue, SetEnd, Talk, Writes, Reads, OutputWanted, OutputEnd, MarksEnd, ColumnWanted, CodeWanted, IntoWanted, IntoEnd, IntoTimed, DeviceWanted, DeviceEnd, DeviceColon, DeviceTimed, DeviceWaited, KillWanted, NameWanted, NameBehind, KillEnd, MergeInto, MergeBehind, MergeFrom, MergeEnd, ValueWanted, ValueEnd, ForWanted, ForBehind, RangeWanted, RangeEnd, StepWanted, StepEnd, LimitWanted, LimitEnd, NewWanted, KeptWanted, KeptBehind, NewEnd, EntryWanted, LabelEnd, RoutineWanted, RoutineEnd, ActualWanted, ActualEnd, ActualsEnd, WaitColon, GuardWanted, GuardEnd, LockWanted, LockSigned, LockListed, LockBehind, LockNamed, LockTimed, LockEnd, RestartWanted, RestoredOpens, RestoredWanted, RestoredBehind, RestoredEnd, SerialWanted, SerialInside, SerialBehind, SerialEnd, AnExpr, AVar, ALocal, ResultWanted, ResultEnd}
 use Rattle.mj_line.proofs.Tables.{some_same}
 use Rattle.mj_line.proofs.Formed.{Speech, speech_parts, is_speech}
 use Rattle.mj_line.proofs.FormedCalls.{Plainly, PlainOne, entered_parts, guards_of, entered_cut, bare_guard, locked_cut, three}
@@ -143,6 +143,8 @@ Shape MergeFrom ps = (v : Variable) × (xs : List Merged) × (Place 0 v ∷ behi
 Shape MergeEnd ps = (xs : List Merged) × (behind_commas merged_parts xs ≡ ps)
 Shape (ValueWanted optional) ps = (xs : List Expr) × (with_commas value_parts xs ≡ ps) × (optional ≡ false → has_items xs ≡ true)
 Shape ValueEnd ps = (xs : List Expr) × (behind_commas value_parts xs ≡ ps)
+Shape ResultWanted ps = (v : Option Expr) × (result_parts v ≡ ps)
+Shape ResultEnd ps = [] ≡ ps
 Shape ForWanted ps = (ps ≡ []) ⊎ ((v : Variable) × (x : Range) × (xs : List Range) × (Control v ∷ Put Equals ∷ with_commas range_parts (x ∷ xs) ≡ ps) × (is_local v ≡ true))
 Shape ForBehind ps = (x : Range) × (xs : List Range) × (Put Equals ∷ with_commas range_parts (x ∷ xs) ≡ ps)
 Shape RangeWanted ps = (x : Range) × (xs : List Range) × (with_commas range_parts (x ∷ xs) ≡ ps)

@@ -6,7 +6,7 @@ use Rattle.mj_ast.specs.declared.sign.Sign.TheVariants.{Caret, Open}
 use Rattle.mj_ast.specs.declared.keyword.Verb.{Verb}
 use Rattle.mj_ast.specs.Syntax.{Expr}
 use Rattle.mj_ast.specs.Tokens.{Token}
-use Rattle.mj_ast.specs.Expressions.{Symbol, Constant, Inherent, Name, Applied, Overlong, Mark, symbol, Other}
+use Rattle.mj_ast.specs.Expressions.{Symbol, Constant, Inherent, Name, Applied, Entry, Overlong, Mark, symbol, Other}
 use Rattle.mj_ast.specs.Commands.{Part}
 use Rattle.mj_oper.specs.declared.op.UnaryOp.{UnaryOp}
 use Rattle.mj_expr.specs.Machine.{Limits}
@@ -50,6 +50,7 @@ wanted_long m (Constant v) e = go_long _ e
 wanted_long m (Inherent v) e = go_long _ e
 wanted_long m (Name w) e = go_long _ e
 wanted_long m (Applied f) e = opens_long _ _ e
+wanted_long m (Entry label) e = go_long _ e
 wanted_long m Overlong e = stuck_long e
 wanted_long m (Mark s) e = unary_long m s (phrase.unary_of s) e
 wanted_long m Other e = stuck_long e

@@ -5,7 +5,7 @@ use Rattle.std.proofs.lemmas.Bool.Decides.{nat_tests}
 use Rattle.mj_ast.specs.declared.sign.Sign.TheVariants.{Comma, Colon, Open, Close, Dot}
 use Rattle.mj_ast.specs.declared.keyword.Verb.{Verb}
 use Rattle.mj_ast.specs.Syntax.{Expr}
-use Rattle.mj_ast.specs.Tokens.{Token, Word, Digits, Quoted, Signed, Blank, Comment, Unclosed, Stray, Called, Special}
+use Rattle.mj_ast.specs.Tokens.{Token, Word, Digits, Quoted, Signed, Blank, Comment, Unclosed, Stray, Called, Special, Invoked, Numbered, Dollars}
 use Rattle.mj_ast.specs.Expressions.{name_limit}
 use Rattle.mj_ast.specs.Commands.{Part, verb_of, bare_of, meant, SpellsParts, SpellsArguments, is_conditional, gap_of, comment_gap_of}
 use Rattle.mj_ast.specs.Lines.{SpellsLabel}
@@ -192,6 +192,9 @@ on_leads r (Signed s) = tt
 on_leads r (Unclosed u) = tt
 on_leads r (Called w) = tt
 on_leads r (Special w) = tt
+on_leads r (Invoked w) = tt
+on_leads r (Numbered d) = tt
+on_leads r Dollars = tt
 on_leads r (Stray b) = tt
 
 -- where a command may end, what follows it may follow

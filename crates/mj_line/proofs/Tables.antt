@@ -13,7 +13,7 @@ use Rattle.mj_ast.specs.Syntax.{Expr}
 use Rattle.mj_ast.specs.Tokens.{Token, Word, Called, Digits, Quoted, Signed}
 use Rattle.mj_ast.specs.Expressions.{callee_of}
 use Rattle.mj_ast.specs.Commands.{bare_of, meant, is_conditional, IsConditional, Part, Put, Named, Label, SerialWord, PieceCall, Prompt, Text, Place, Control, is_serial_word, SpellsPart, part_nesting, part_width}
-use Rattle.mj_line.specs.Forms.{Mode, Node, SetTarget, PieceVariable, PieceComma, PieceText, PieceBehind, SetBehind, SetValue, SetEnd, Talk, Writes, Reads, OutputWanted, OutputEnd, ColumnWanted, CodeWanted, IntoWanted, IntoEnd, IntoTimed, DeviceWanted, DeviceEnd, DeviceTimed, DeviceWaited, KillWanted, KillEnd, MergeInto, MergeBehind, MergeFrom, MergeEnd, ValueWanted, ValueEnd, ForWanted, ForBehind, RangeWanted, RangeEnd, StepWanted, StepEnd, LimitWanted, LimitEnd, EntryWanted, ActualWanted, ActualEnd, GuardWanted, GuardEnd, LockWanted, LockSigned, LockListed, LockBehind, LockNamed, LockTimed, LockEnd, SerialWanted, SerialInside, Sort, Names, Labels, Serials, Want, AnExpr, AVar, ALocal, next_of, piece_part, part_of, part_at, sort_of, takes, wants, ends, first_node, may_be_bare, PartLeads}
+use Rattle.mj_line.specs.Forms.{Mode, Node, SetTarget, PieceVariable, PieceComma, PieceText, PieceBehind, SetBehind, SetValue, SetEnd, Talk, Writes, Reads, OutputWanted, OutputEnd, ColumnWanted, CodeWanted, IntoWanted, IntoEnd, IntoTimed, DeviceWanted, DeviceEnd, DeviceTimed, DeviceWaited, KillWanted, KillEnd, MergeInto, MergeBehind, MergeFrom, MergeEnd, ValueWanted, ValueEnd, ForWanted, ForBehind, RangeWanted, RangeEnd, StepWanted, StepEnd, LimitWanted, LimitEnd, EntryWanted, ActualWanted, ActualEnd, GuardWanted, GuardEnd, LockWanted, LockSigned, LockListed, LockBehind, LockNamed, LockTimed, LockEnd, SerialWanted, SerialInside, Sort, Names, Labels, Serials, Want, AnExpr, AVar, ALocal, next_of, piece_part, part_of, part_at, sort_of, takes, wants, ends, first_node, may_be_bare, PartLeads, ResultWanted, ResultEnd}
 use Rattle.mj_line.specs.Machine.{level_of}
 
 pub none_some : {A : Type 0} (x : A) → None ≡ Some x → ⊥
@@ -45,6 +45,7 @@ all_small (KillWanted first) = omega arith
 all_small MergeInto = omega arith
 all_small MergeFrom = omega arith
 all_small (ValueWanted first) = omega arith
+all_small ResultWanted = omega arith
 all_small ForWanted = omega arith
 all_small RangeWanted = omega arith
 all_small StepWanted = omega arith
@@ -188,6 +189,7 @@ all_bare (Of keyword.Use) = λ e. e
 all_bare (Of keyword.Close) = λ e. e
 all_bare (Of keyword.Read) = λ e. e
 all_bare (Of keyword.TStart) = λ e. refl
+all_bare (Of keyword.Quit) = λ e. refl
 all_bare HaltOrHang = λ e. refl
 all_bare k = refl
 
@@ -278,6 +280,7 @@ all_unlabelled (KillWanted first) = inl refl
 all_unlabelled MergeInto = inl refl
 all_unlabelled MergeFrom = inl refl
 all_unlabelled (ValueWanted first) = inl refl
+all_unlabelled ResultWanted = inl refl
 all_unlabelled ForWanted = inl refl
 all_unlabelled RangeWanted = inl refl
 all_unlabelled StepWanted = inl refl
@@ -382,6 +385,10 @@ if_follows (Put Comma) m e = tt
 if_follows (Control v) m e = absurd (none_some _ e.0)
 if_follows p m e = absurd (none_some _ e)
 
+result_follows : (p : Part) (m : Node) → PartLeads ResultEnd p m → FollowsText p
+result_follows (Control v) m e = absurd (none_some _ e.0)
+result_follows p m e = absurd (none_some _ e)
+
 for_follows : (p : Part) (m : Node) → PartLeads ForBehind p m → FollowsPlace p
 for_follows (Put Equals) m e = tt
 for_follows (Control v) m e = absurd (none_some _ e.0)
@@ -453,6 +460,7 @@ all_followed (KillWanted first) = λ p m e. kill_follows p m e
 all_followed MergeInto = λ p m e. into_follows p m e
 all_followed MergeFrom = λ p m e. from_follows p m e
 all_followed (ValueWanted first) = λ p m e. if_follows p m e
+all_followed ResultWanted = λ p m e. result_follows p m e
 all_followed ForWanted = λ p m e. for_follows p m e
 all_followed RangeWanted = λ p m e. range_follows p m e
 all_followed StepWanted = λ p m e. step_follows p m e
@@ -491,6 +499,7 @@ all_shut (KillWanted first) = refl
 all_shut MergeInto = refl
 all_shut MergeFrom = refl
 all_shut (ValueWanted first) = refl
+all_shut ResultWanted = refl
 all_shut ForWanted = refl
 all_shut RangeWanted = refl
 all_shut StepWanted = refl
@@ -524,6 +533,7 @@ all_ends (Of keyword.If) = λ e. refl
 all_ends (Of keyword.For) = λ e. refl
 all_ends (Of keyword.Do) = λ e. refl
 all_ends (Of keyword.Goto) = λ e. e
+all_ends (Of keyword.Quit) = λ e. refl
 all_ends (Of keyword.New) = λ e. refl
 all_ends (Of keyword.Open) = λ e. e
 all_ends (Of keyword.Use) = λ e. e

@@ -6,7 +6,7 @@ use Rattle.mj_ast.specs.declared.routine.ReadMode.TheVariants.{Line, Byte}
 use Rattle.mj_ast.specs.declared.routine.Serial.TheVariants as serial
 use Rattle.mj_ast.specs.Syntax.{Expr, No, More, Gone, Spared, Shown, Coded, Prompted, Into, Opened, Range, Single, Endless, UpTo, Fresh, Kept}
 use Rattle.mj_ast.specs.Commands.{Part, Put, Named, PieceCall, Prompt, Text, Place, Control, with_commas, behind_commas, value_parts, guard_parts, range_parts, renewed_parts, more_parts, targets_parts, assignment_parts, mark_part, column_parts, wait_parts, opened_parts, name_parts, killed_parts, merged_parts, every, are_targets, is_assignment}
-use Rattle.mj_line.specs.Forms.{Node, SetTarget, PieceOpens, PieceVariable, PieceComma, PieceText, PieceBehind, SetBehind, SetValue, SetEnd, Talk, Writes, Reads, OutputWanted, OutputEnd, MarksEnd, ColumnWanted, CodeWanted, IntoWanted, IntoEnd, IntoTimed, DeviceWanted, DeviceEnd, DeviceColon, DeviceTimed, DeviceWaited, KillWanted, NameWanted, NameBehind, KillEnd, MergeInto, MergeBehind, MergeFrom, MergeEnd, ValueWanted, ValueEnd, ForWanted, ForBehind, RangeWanted, RangeEnd, StepWanted, StepEnd, LimitWanted, LimitEnd, NewWanted, KeptWanted, KeptBehind, NewEnd, EntryWanted, LabelEnd, RoutineEnd, ActualsEnd, GuardEnd, LockWanted, LockNamed, LockEnd, RestartWanted, RestoredEnd, SerialEnd, ends, PartLeads}
+use Rattle.mj_line.specs.Forms.{Node, SetTarget, PieceOpens, PieceVariable, PieceComma, PieceText, PieceBehind, SetBehind, SetValue, SetEnd, Talk, Writes, Reads, OutputWanted, OutputEnd, MarksEnd, ColumnWanted, CodeWanted, IntoWanted, IntoEnd, IntoTimed, DeviceWanted, DeviceEnd, DeviceColon, DeviceTimed, DeviceWaited, KillWanted, NameWanted, NameBehind, KillEnd, MergeInto, MergeBehind, MergeFrom, MergeEnd, ValueWanted, ValueEnd, ForWanted, ForBehind, RangeWanted, RangeEnd, StepWanted, StepEnd, LimitWanted, LimitEnd, NewWanted, KeptWanted, KeptBehind, NewEnd, EntryWanted, LabelEnd, RoutineEnd, ActualsEnd, GuardEnd, LockWanted, LockNamed, LockEnd, RestartWanted, RestoredEnd, SerialEnd, ends, PartLeads, ResultWanted, ResultEnd}
 use Rattle.mj_line.proofs.Tables.{none_some}
 use Rattle.mj_line.proofs.Formed.{speech_parts, is_speech}
 use Rattle.mj_line.proofs.Shapes.{true_false, false_true, both, limit_parts, step_parts, Shape, at_node, text_node, place_node, local_node, text_wrong, place_wrong, local_text, local_place, text_local, place_of_local, before, text_zero, text_one, place_zero, place_one, piece_aims, plain_aims, several_aims, more_aims, format_at, assignment_at, next_kill, spared_at, next_item, kept_at, plain_none, none_others, others_guard, guard_acted, timed_none}
@@ -25,6 +25,8 @@ shape_end KillEnd f = ([], refl, refl)
 shape_end MergeEnd f = ([], refl)
 shape_end (ValueWanted optional) f = ([], refl, λ e. true_false (sym f ∙ e))
 shape_end ValueEnd f = ([], refl)
+shape_end ResultWanted f = (None, refl)
+shape_end ResultEnd f = refl
 shape_end ForWanted f = inl refl
 shape_end RangeEnd f = (None, [], refl)
 shape_end StepEnd f = (None, [], refl)
@@ -380,6 +382,16 @@ value_list_end (Put Comma) ps next e h =
     (x.0, next_item value_parts ps x.0 x.1 (x.2 refl))
 value_list_end (Control v) ps next e h = absurd (none_some _ e.0)
 value_list_end p ps next e h = absurd (none_some _ e)
+
+pub result_part : (p : Part) (ps : List Part) (next : Node) → PartLeads ResultWanted p next → Shape next ps → Shape ResultWanted (p ∷ ps)
+result_part (Text l v) ps next e h = let x = text_node 0 l ResultEnd next ps e h in (Some v, text_zero l v [] ps x.1 x.0)
+result_part (Place l x) ps next e h = absurd (place_wrong e)
+result_part (Control v) ps next e h = absurd (local_text e.0)
+result_part p ps next e h = absurd (none_some _ e)
+
+pub result_end : (p : Part) (ps : List Part) (next : Node) → PartLeads ResultEnd p next → Shape next ps → Shape ResultEnd (p ∷ ps)
+result_end (Control v) ps next e h = absurd (none_some _ e.0)
+result_end p ps next e h = absurd (none_some _ e)
 
 pub for_part : (p : Part) (ps : List Part) (next : Node) → PartLeads ForWanted p next → Shape next ps → Shape ForWanted (p ∷ ps)
 for_part (Control v) ps next e h =

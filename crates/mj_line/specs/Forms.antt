@@ -69,6 +69,9 @@ pub data Node : Type 0 where
   -- expressions: the first is wanted, which may be missing, or one that may not; it was read
   ValueWanted : (optional : Bool) → Node
   ValueEnd : Node
+  -- QUIT: its value is wanted, which may be missing; it was read
+  ResultWanted : Node
+  ResultEnd : Node
   -- FOR: its local is wanted; it was read; the first expression of a range is wanted, and was read; its step; its end
   ForWanted : Node
   ForBehind : Node
@@ -295,6 +298,7 @@ wants (KillWanted first) = Some (AVar 0 KillEnd)
 wants MergeInto = Some (AVar 0 MergeBehind)
 wants MergeFrom = Some (AVar 0 MergeEnd)
 wants (ValueWanted optional) = Some (AnExpr 0 ValueEnd)
+wants ResultWanted = Some (AnExpr 0 ResultEnd)
 wants ForWanted = Some (ALocal ForBehind)
 wants RangeWanted = Some (AnExpr 0 RangeEnd)
 wants StepWanted = Some (AnExpr 0 StepEnd)
@@ -326,6 +330,8 @@ ends KillEnd = true
 ends MergeEnd = true
 ends (ValueWanted optional) = optional
 ends ValueEnd = true
+ends ResultWanted = true
+ends ResultEnd = true
 ends ForWanted = true
 ends RangeEnd = true
 ends StepEnd = true
@@ -362,7 +368,7 @@ first_node (Of keyword.Else) = None
 first_node (Of keyword.For) = Some ForWanted
 first_node (Of keyword.Do) = Some (EntryWanted Calls true)
 first_node (Of keyword.Goto) = Some (EntryWanted Jumps true)
-first_node (Of keyword.Quit) = None
+first_node (Of keyword.Quit) = Some ResultWanted
 first_node (Of keyword.New) = Some (NewWanted true)
 first_node (Of keyword.Open) = Some DeviceWanted
 first_node (Of keyword.Use) = Some (ValueWanted false)

@@ -5,7 +5,7 @@ use Rattle.std.specs.List.{list_any}
 use Rattle.mj_ast.specs.declared.keyword.Keyword.{Keyword}
 use Rattle.mj_ast.specs.declared.keyword.Verb.{Verb}
 use Rattle.mj_ast.specs.Syntax.{Expr}
-use Rattle.mj_ast.specs.Tokens.{Token, Word, Called, Special, Digits, Signed, Blank, Comment}
+use Rattle.mj_ast.specs.Tokens.{Token, Word, Called, Special, Invoked, Digits, Signed, Blank, Comment}
 use Rattle.mj_ast.specs.Expressions.{Symbol, Mark, symbol, name_limit}
 use Rattle.mj_ast.specs.Commands.{Part, Text, Place, Control, verb_of, bare_of, meant, is_conditional}
 use Rattle.mj_expr.specs.Machine as phrase
@@ -294,6 +294,7 @@ refused [] = StuckAt 0
 refused (Word w ∷ ks) = if nat_le (length w) name_limit then StuckAt (length (Word w ∷ ks)) else TooLong
 refused (Called w ∷ ks) = if nat_le (length w) name_limit then StuckAt (length (Called w ∷ ks)) else TooLong
 refused (Special w ∷ ks) = if nat_le (length w) name_limit then StuckAt (length (Special w ∷ ks)) else TooLong
+refused (Invoked w ∷ ks) = if nat_le (length w) name_limit then StuckAt (length (Invoked w ∷ ks)) else TooLong
 refused (k ∷ ks) = StuckAt (length (k ∷ ks))
 
 -- where the tokens end

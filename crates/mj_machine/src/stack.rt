@@ -52,6 +52,7 @@ pub fn pop(stack: &mut Vec<Text>) -> Text
     requires { 1 ≤ length stack.old.items }
     ensures value { result ≡ top (reverse stack.old.items) }
     ensures left { reverse stack.new.items ≡ below (reverse stack.old.items) }
+    ensures room { stack.new.cap ≡ stack.old.cap }
 {
     match stack.pop() {
         Some(top) => top,

@@ -16,17 +16,19 @@ use Rattle.mj_semantics.specs.Evaluation.{name_of, named_for}
 use Rattle.mj_semantics.specs.Sharing.{is_limit, in_time, served, take_names, give_names}
 use Rattle.mj_semantics.specs.Devices.{is_got, has_no_session, request_device, end_session}
 use Rattle.mj_semantics.specs.Commands.{mark_byte}
-use Rattle.mj_semantics.proofs.Words.{Stays, spent, same, Back, Keeps, turned, looked, changed, chosen, ended, faulted, is_given, asked, told_of, to_its_device, restarts, reads, is_about, stores, renews, removes, takes_nodes, puts_nodes, quits_frame, goes_deeper, writes, tabs, writes_code, tests, goes_again, begins as first_keeps, reads_two, hangs, starts_job, unlocks_all, uses, reads_input, begins_transaction, commits, rolls_back, gives_back, begins_again}
+use Rattle.mj_semantics.proofs.Words.{Stays, spent, same, Back, Keeps, turned, looked, changed, chosen, ended, faulted, is_given, asked, told_of, to_its_device, restarts, reads, is_about, stores, renews, removes, takes_nodes, puts_nodes, quits_frame, ends_frame, in_its_function, goes_deeper, writes, tabs, writes_code, tests, goes_again, begins as first_keeps, reads_two, hangs, starts_job, unlocks_all, uses, reads_input, begins_transaction, commits, rolls_back, gives_back, begins_again}
 use Rattle.mj_pcode.specs.declared.instr.Span.{Span}
 use Rattle.mj_pcode.specs.declared.instr.Span.TheVariants as span
 use Rattle.mj_pcode.specs.declared.instr.LineStart.{LineStart}
 use Rattle.mj_pcode.specs.declared.instr.Wait.{Wait}
 use Rattle.mj_pcode.specs.declared.instr.Wait.TheVariants.{Ever, Timed as Limited}
 use Rattle.mj_pcode.specs.declared.instr.Instr.{Instr}
-use Rattle.mj_pcode.specs.declared.instr.Instr.TheVariants.{Line, Push, PushSpecial, Load, Unary, Binary, CallFunction, CheckName, Store, SetPiece, Discard, Kill, KillExcept, MergeTake, MergePut, Write, WriteFormat, WriteTab, WriteByte, JumpUnless, Jump, SelectFails, Halt, CheckNumber, Hang, StartJob, UnlockAll, Lock, Unlock, OpenDevice, BeginSession, UseDevice, EndSession, GiveUpFailedDevice, GiveUpDevice, Read, CheckNamed, CallNameFunction, SetTest, JumpUnlessTest, JumpIfTest, ForOpen, ForForever, ForBegin, ForAgain, ForClose, Do, DoBlock, Goto, Quit, New, NewExcept, StartTransaction, MarkRestart, Commit, RollBackForRestart, BeginRestart, RollBack}
+use Rattle.mj_pcode.specs.declared.instr.Instr.TheVariants.{Line, Push, PushSpecial, Load, Unary, Binary, CallFunction, CheckName, Store, SetPiece, Discard, Kill, KillExcept, MergeTake, MergePut, Write, WriteFormat, WriteTab, WriteByte, JumpUnless, Jump, SelectFails, Halt, CheckNumber, Hang, StartJob, UnlockAll, Lock, Unlock, OpenDevice, BeginSession, UseDevice, EndSession, GiveUpFailedDevice, GiveUpDevice, Read, CheckNamed, CallNameFunction, SetTest, JumpUnlessTest, JumpIfTest, ForOpen, ForForever, ForBegin, ForAgain, ForClose, Do, DoBlock, Goto, Quit, Invoke, CheckFunction, FailQuit, GiveValue, New, NewExcept, StartTransaction, MarkRestart, Commit, RollBackForRestart, BeginRestart, RollBack}
 use Rattle.mj_pcode.specs.declared.instr.Unit.{Unit}
 use Rattle.mj_pcode.specs.Found.{Found, found, start_of, levels_in}
-use Rattle.mj_pcode.specs.Context.{Once, Always, By, Loop, Call as Suspended, Context, passes_of, nameless, in_loops, outer, suspended, resumed, at_unit}
+use Rattle.mj_ast.specs.Trees.{target_of}
+use Rattle.mj_semantics.specs.Lines.{entry_in}
+use Rattle.mj_pcode.specs.Context.{Once, Always, By, Loop, Call as Suspended, Context, passes_of, nameless, in_loops, outer, suspended, resumed, at_unit, awaiting}
 use Rattle.mj_pcode.specs.Machine.{Stack, Next, top, below, operands, returns, quits, place_in, tallies, comes_to, spread, given_count, wait_size, waits, counts, names_on, calls, jumps, blocks, with_passes, for_begins, for_passes, restored_of, act, act_in, exec}
 use Rattle.mj_pcode.specs.Laws.{IsDeepEnough, HandsOnAtMost}
 
@@ -183,6 +185,12 @@ module _ (more b : ℕ) (f g : Next) (keeps : KeepsNext more b f g) where
     acts_keep (DoBlock k) = block_keeps u k c (pc + 1)
     acts_keep (Goto entry) = jumps_keep (found units entry) c.calls
     acts_keep Quit = quits_keep c.calls
+    acts_keep (Invoke target shape) =
+        calls_keep true (found units (entry_in u.name (target_of target))) (spread shape (operands (given_count shape) stack))
+        (awaiting c (pc + 1) (drop (given_count shape) stack))
+    acts_keep CheckFunction = in_its_function (keeps c (pc + 1) stack)
+    acts_keep FailQuit = faulted
+    acts_keep GiveValue = ends_frame (returns_keep c.calls (top stack))
     acts_keep (New words) = changed {c = newed (Only words)} (keeps c (pc + 1) stack)
     acts_keep (NewExcept words) = changed {c = newed (AllBut words)} (keeps c (pc + 1) stack)
     acts_keep (StartTransaction r serial) = begins_transaction (restored_of r) serial (keeps c (pc + 2) stack) (keeps c (pc + 1) stack)

@@ -1,10 +1,13 @@
 // What an entry names among units.
 
 ghost use Rattle.std.specs.Prelude.{◌≡◌, ◌≤◌, length, option_map, slice_get, Some, IfSome};
+ghost use Rattle.mj_ast.specs.Trees.{target_of};
+ghost use Rattle.mj_semantics.specs.Lines as lines;
 ghost use Rattle.mj_pcode.specs.Found as finding;
 
 use crate::instr::{Head, Unit};
 use mj_ask::Entry;
+use mj_ast::Target as Named;
 use mj_text::Text;
 
 /// A line that was found: the place of its unit among all, the unit, its number, and what is known of it.
@@ -23,9 +26,32 @@ pub fn find_line<'a>(units: &'a [Unit], entry: &Entry) -> Option<Target<'a>>
     ensures there { IfSome result (λ t. slice_get units.now t.at ≡ Some t.unit.now) }
     ensures within { IfSome result (λ t. t.line ≤ length t.unit.now.heads.items) }
 {
+    find_in(units, &entry.routine, &entry.label)
+}
+
+/// The line where a function begins that a target names, in this unit's routine where it names none.
+pub fn find_target<'a>(units: &'a [Unit], unit: &Unit, target: &Named) -> Option<Target<'a>>
+    ensures which { option_map (λ t. record { at = t.at; unit = t.unit.now; line = t.line; head = t.head.now }) result
+        ≡ finding.found units.now (lines.entry_in unit.now.name (target_of target.now)) }
+    ensures there { IfSome result (λ t. slice_get units.now t.at ≡ Some t.unit.now) }
+    ensures within { IfSome result (λ t. t.line ≤ length t.unit.now.heads.items) }
+{
+    match &target.routine {
+        None => find_in(units, &unit.name, &target.label),
+        Some(routine) => find_in(units, routine, &target.label),
+    }
+}
+
+// The line with a label in the first unit with a name, or its first line where there is no label.
+fn find_in<'a>(units: &'a [Unit], routine: &Text, label: &Option<Text>) -> Option<Target<'a>>
+    ensures which { option_map (λ t. record { at = t.at; unit = t.unit.now; line = t.line; head = t.head.now }) result
+        ≡ finding.found units.now (record { label = label.now; routine = routine.now }) }
+    ensures there { IfSome result (λ t. slice_get units.now t.at ≡ Some t.unit.now) }
+    ensures within { IfSome result (λ t. t.line ≤ length t.unit.now.heads.items) }
+{
     for (at, unit) in units.iter().enumerate() {
-        if unit.name == entry.routine {
-            return line_at(at, unit, line_in(unit, &entry.label));
+        if unit.name == *routine {
+            return line_at(at, unit, line_in(unit, label));
         }
     }
     None

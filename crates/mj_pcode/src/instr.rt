@@ -6,7 +6,7 @@ use crate::references::References;
 use crate::shape::Shape;
 use crate::words::Words;
 use mj_ask::Entry;
-use mj_ast::{Function, NameFunction, ReadMode, Scope, Special};
+use mj_ast::{Function, NameFunction, ReadMode, Scope, Special, Target};
 use mj_oper::{Op, UnaryOp};
 use mj_text::Text;
 
@@ -172,8 +172,17 @@ pub enum Instr {
     DoBlock(u32),
     /// goes on at the line that the entry names
     Goto(Entry),
-    /// the frame is over
+    /// the frame is over, which is no function's
     Quit,
+    /// takes the actuals that are given off, and goes on in a new frame, a function's, at the line that the target names, in this routine where it
+    /// names none. The operands below wait for its value
+    Invoke(Target, Shape),
+    /// looks whether the frame is a function's
+    CheckFunction,
+    /// a QUIT with a value stands in a FOR
+    FailQuit,
+    /// takes a value off, and the frame is over, which is a function's and gives it
+    GiveValue,
     /// the locals of these names are saved, and have no value any more
     New(Words),
     /// all locals but those of these names are saved, and have no value any more

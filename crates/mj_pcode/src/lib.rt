@@ -12,7 +12,7 @@ mod references;
 mod shape;
 mod words;
 
-pub use find::{Target, find_line};
+pub use find::{Target, find_line, find_target};
 pub use instr::{Depth, Head, Instr, LineStart, Reference, Restores, Span, Unit, Wait};
 pub use labels::Labels;
 pub use laws::{deep_enough, hands_on_at_most};

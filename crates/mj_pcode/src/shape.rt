@@ -38,6 +38,13 @@ impl Shape {
         Ok(())
     }
 
+    /// No actual is left.
+    pub fn clear(&mut self)
+        ensures { self.new ≡ [] }
+    {
+        self.given.clear();
+    }
+
     /// Which are given, in order.
     pub fn as_slice(&self) -> &[bool]
         ensures { result.now ≡ self.now }

@@ -1,9 +1,9 @@
 -- Where the tokens of a line stand.
 use Rattle.std.proofs.Common.{◌≡◌, ℕ, zero, suc, ◌+◌, ◌≤◌, ◌<◌, List, [], ◌∷◌, length, take, drop, get_or, map, refl, ap, sym, ◌∙◌, Bool, true, false, arith, inl, inr, ◌⊎◌}
-use Rattle.std.specs.Prelude.{cond, take_while}
+use Rattle.std.specs.Prelude.{cond, take_while, ◌==◌}
 use Rattle.std.specs.List.{prefix_len}
 use Rattle.std.proofs.lemmas.List.{length-drop, length-take}
-use Rattle.mj_ast.specs.Tokens.{Token, Quoted, Unclosed, Lexeme, Class, AWord, ADigit, AQuote, ABlank, AComment, ASign, Nothing, class_of, front_of, quotation, is_digit, first_lexemes, lexemes, tokens, bytes_of, column, Called, Special, Stray, ADollar, begins_word, continues_word, opens, dollar_front}
+use Rattle.mj_ast.specs.Tokens.{Token, Quoted, Unclosed, Lexeme, Class, AWord, ADigit, AQuote, ABlank, AComment, ASign, Nothing, class_of, front_of, quotation, is_digit, first_lexemes, lexemes, tokens, bytes_of, column, Called, Special, Invoked, Numbered, Dollars, Stray, ADollar, begins_word, continues_word, opens, dollars_front, dollar_front}
 use Rattle.mj_lex.specs.Seen.{tokens_seen, token_seen, placed, places_seen}
 use Rattle.mj_lex.specs.declared.token.Lexeme as kept
 use Rattle.mj_lex.specs.declared.token.Token.TheVariants as kept_token
@@ -40,14 +40,30 @@ quote_short : (b : Bool) (q : List ℕ) (ks : List Token) → IsLabelShort (cond
 quote_short true q ks = tt
 quote_short false q ks = tt
 
-dollar_as : (b d : Bool) (w : List ℕ) (n : ℕ) (ks : List Token) → let front : Token × ℕ = cond b (cond d (Called w) (Special w), n) (Stray 36, 0) in IsLabelShort (front.0 ∷ ks)
-dollar_as true true w n ks = tt
-dollar_as true false w n ks = tt
-dollar_as false d w n ks = tt
+dollars_as : (p q : Bool) (w d : List ℕ) (n m : ℕ) (ks : List Token) → let front : Token × ℕ = cond p (Invoked w, n) (cond q (Numbered d, m) (Dollars, 0)) in IsLabelShort (front.0 ∷ ks)
+dollars_as true q w d n m ks = tt
+dollars_as false true w d n m ks = tt
+dollars_as false false w d n m ks = tt
+
+dollars_short : (bs : List ℕ) (ks : List Token) → IsLabelShort ((dollars_front bs).0 ∷ ks)
+dollars_short [] ks = tt
+dollars_short (b ∷ bs) ks =
+    let w = take_while continues_word bs in
+    let d = take_while is_digit bs in
+    dollars_as (begins_word b) (is_digit b) (b ∷ w) (b ∷ d) (1 + length w) (1 + length d) ks
+
+dollar_as : (b d r : Bool) (w : List ℕ) (n : ℕ) (f : Token × ℕ) (ks : List Token) → IsLabelShort (f.0 ∷ ks)
+    → let front : Token × ℕ = cond b (cond d (Called w) (Special w), n) (cond r (f.0, 1 + f.1) (Stray 36, 0)) in IsLabelShort (front.0 ∷ ks)
+dollar_as true true r w n f ks h = tt
+dollar_as true false r w n f ks h = tt
+dollar_as false d true w n f ks h = h
+dollar_as false d false w n f ks h = tt
 
 dollar_short : (bs : List ℕ) (ks : List Token) → IsLabelShort ((dollar_front bs).0 ∷ ks)
 dollar_short [] ks = tt
-dollar_short (b ∷ bs) ks = let w = take_while continues_word bs in dollar_as (begins_word b) (opens (drop (length w) bs)) (b ∷ w) (1 + length w) ks
+dollar_short (b ∷ bs) ks =
+    let w = take_while continues_word bs in
+    dollar_as (begins_word b) (opens (drop (length w) bs)) (b == 36) (b ∷ w) (1 + length w) (dollars_front bs) ks (dollars_short bs ks)
 
 front_short : (c : Class) (b : ℕ) (bs : List ℕ) (ks : List Token) → length (b ∷ bs) ≤ 8192 → IsLabelShort ((front_of c b bs).0 ∷ ks)
 front_short AWord b bs ks h = tt

@@ -94,10 +94,7 @@ one_first (r ∷ rs) front t behind c d (inr h) (inl i) = absurd (h.0 i.0)
 one_first (r ∷ rs) front t behind c d (inr h) (inr i) = one_first rs front t behind c d h.1 i.1
 
 one_named : (front : List Token) (t : Token) (behind : List Token) (c d : Option Construct) → IsNamed front t behind c → IsNamed front t behind d → c ≡ d
-one_named front t behind c d (inl h) (inl i) = h.1 ∙ sym i.1
-one_named front t behind c d (inl h) (inr i) = absurd (i.0 h.0)
-one_named front t behind c d (inr h) (inl i) = absurd (h.0 i.0)
-one_named front t behind c d (inr h) (inr i) = one_first rows front t behind c d h.1 i.1
+one_named front t behind c d h i = one_first rows front t behind c d h i
 
 one_name : (front behind : List Token) (c d : Option Construct) → IsNamedIn front behind c → IsNamedIn front behind d → c ≡ d
 one_name front [] c d h i = h ∙ sym i

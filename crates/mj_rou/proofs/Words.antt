@@ -9,8 +9,8 @@ use Rattle.mj_ast.specs.declared.sign.Sign.TheVariants.{Colon, Open, Close}
 use Rattle.mj_ast.specs.declared.function.Callee.{Callee}
 use Rattle.mj_ast.specs.declared.function.Special.{Special as SpecialVariable}
 use Rattle.mj_ast.specs.Syntax.{Expr, Command, Set, Write, Halt, Hang, Job, Lock, Kill, Merge, If, Else, For, Forever, Do, Goto, Quit, New, OpenDevice, UseDevice, CloseDevice, Read, TStart, TCommit, TRestart, TRollback, Break, LineCommand, Line, Routine}
-use Rattle.mj_ast.specs.Tokens.{Token, Word, Called, Special, Digits, Quoted, Signed, Blank, Comment, Unclosed, Stray, AreDigits, IsWord, IsSpelledBy, Lexeme, IsTokenisation, lexemes, tokens}
-use Rattle.mj_ast.specs.Expressions.{Symbol, Name, Overlong, Constant, Other, symbol, constant_of, function_symbol, special_symbol, callee_of, special_of, expr_symbols, variable_symbols}
+use Rattle.mj_ast.specs.Tokens.{Token, Word, Called, Special, Invoked, Numbered, Dollars, Digits, Quoted, Signed, Blank, Comment, Unclosed, Stray, AreDigits, IsWord, IsSpelledBy, Lexeme, IsTokenisation, lexemes, tokens}
+use Rattle.mj_ast.specs.Expressions.{Symbol, Name, Entry, Overlong, Constant, Other, symbol, constant_of, function_symbol, special_symbol, callee_of, special_of, expr_symbols, variable_symbols}
 use Rattle.mj_ast.specs.Commands.{Part, Put, Named, Label, SerialWord, PieceCall, Prompt, Text, Place, Control, with_commas, behind_commas, target_parts, guard_parts, wait_parts, actuals_parts, called_parts, started_parts, command_parts, plain_actuals, plain_called, plain_started, plain, plain_step, SpellsPart, SpellsParts, SpellsCondition, SpellsArguments, SpellsStep, gap_of, comment_gap_of, greatest}
 use Rattle.mj_ast.specs.Lines.{SpellsSteps, SpellsLabel, comma_names, name_tokens, SpellsFormals, SpellsWritten, SpellsLine}
 use Rattle.mj_ast.specs.Routines.{IsName, lines_of}
@@ -24,6 +24,8 @@ use Rattle.mj_rou.specs.Read.{AreRead, IsRoutineRead}
 abbrev Lexed : Token → Type 0
 Lexed (Word w) = IsWord w
 Lexed (Digits d) = AreDigits d
+Lexed (Invoked w) = IsWord w
+Lexed (Numbered d) = AreDigits d
 Lexed _ = Unit {0}
 
 lexed : (t : Token) (slice : List ℕ) → IsSpelledBy t slice → Lexed t
@@ -31,6 +33,9 @@ lexed (Word w) slice h = h.1
 lexed (Digits d) slice h = h.1
 lexed (Called w) slice h = tt
 lexed (Special w) slice h = tt
+lexed (Invoked w) slice h = h.1
+lexed (Numbered d) slice h = h.1
+lexed Dollars slice h = tt
 lexed (Quoted q) slice h = tt
 lexed (Signed s) slice h = tt
 lexed Blank slice h = tt
@@ -63,6 +68,14 @@ named : (w : List ℕ) (b : Bool) → nat_le (length w) 31 ≡ b → IsWord w �
 named w true e h = record { spelled = h; short = grind (arith, nat_tests) }
 named w false e h = tt
 
+invoked_worded : (w : List ℕ) (b : Bool) → nat_le (length w) 31 ≡ b → IsWord w → IsWorded (cond b (Entry (Some w)) Overlong)
+invoked_worded w true e h = inl (record { spelled = h; short = grind (arith, nat_tests) })
+invoked_worded w false e h = tt
+
+numbered_worded : (d : List ℕ) (b : Bool) → nat_le (length d) TEXT_LIMIT ≡ b → AreDigits d → IsWorded (cond b (Entry (Some d)) Other)
+numbered_worded d true e h = inr (h, grind (arith, nat_tests))
+numbered_worded d false e h = tt
+
 function_worded : (b : Bool) (f : Option Callee) → IsWorded (cond b (function_symbol f) Overlong)
 function_worded true None = tt
 function_worded true (Some f) = tt
@@ -85,6 +98,9 @@ symbol_worded : (t : Token) → Lexed t → IsWorded (symbol t)
 symbol_worded (Word w) h = named w (nat_le (length w) 31) refl h
 symbol_worded (Called w) h = function_worded (nat_le (length w) 31) (callee_of w)
 symbol_worded (Special w) h = special_worded (nat_le (length w) 31) (special_of w)
+symbol_worded (Invoked w) h = invoked_worded w (nat_le (length w) 31) refl h
+symbol_worded (Numbered d) h = numbered_worded d (nat_le (length d) TEXT_LIMIT) refl h
+symbol_worded Dollars h = tt
 symbol_worded (Digits d) h = constant_worded (reading d)
 symbol_worded (Quoted q) h = quoted_worded (nat_le (length q) TEXT_LIMIT) q
 symbol_worded (Signed s) h = tt
@@ -215,7 +231,7 @@ plain_worded Else h = h
 plain_worded (For v list) h = h
 plain_worded Forever h = h
 plain_worded (Goto list) h = h
-plain_worded Quit h = h
+plain_worded (Quit value) h = h
 plain_worded (New list) h = h
 plain_worded (OpenDevice list) h = h
 plain_worded (UseDevice list) h = h

@@ -3,7 +3,7 @@ use Rattle.std.specs.Prelude.{ℕ, ◌⊎◌, ◌≤◌, List, [], ◌∷◌, le
 use Rattle.mj_text.specs.declared.text.TheConstants.{TEXT_LIMIT}
 use Rattle.mj_ast.specs.Syntax.{Expr, Variable, LineCommand, Line, Routine}
 use Rattle.mj_ast.specs.Tokens.{AreDigits}
-use Rattle.mj_ast.specs.Expressions.{Symbol, Name, expr_symbols, variable_symbols}
+use Rattle.mj_ast.specs.Expressions.{Symbol, Name, Entry, expr_symbols, variable_symbols}
 use Rattle.mj_ast.specs.Commands.{Part, Named, Label, Text, Place, Control, command_parts}
 use Rattle.mj_ast.specs.Routines.{IsName}
 
@@ -12,9 +12,14 @@ abbrev pub Each : {A : Type 0} → (A → Type 0) → List A → Type 0
 Each P [] = Unit {0}
 Each P (x ∷ xs) = P x × Each P xs
 
--- a name among the symbols of a phrase is a word
+-- the label of an entry: a word, or digits, no more than a text holds
+abbrev pub IsLabel : List ℕ → Type 0
+IsLabel label = IsName label ⊎ (AreDigits label × (length label ≤ TEXT_LIMIT))
+
+-- a name among the symbols of a phrase is a word, and so is the label of a function, where it isn't digits
 abbrev pub IsWorded : Symbol → Type 0
 IsWorded (Name word) = IsName word
+IsWorded (Entry (Some label)) = IsLabel label
 IsWorded _ = Unit {0}
 
 -- each name in the expression is one
@@ -24,10 +29,6 @@ IsExprWorded e = Each IsWorded (expr_symbols e)
 -- and each in the variable
 abbrev pub IsVariableWorded : Variable → Type 0
 IsVariableWorded v = Each IsWorded (variable_symbols v)
-
--- the label of an entry: a word, or digits, no more than a text holds
-abbrev pub IsLabel : List ℕ → Type 0
-IsLabel label = IsName label ⊎ (AreDigits label × (length label ≤ TEXT_LIMIT))
 
 -- each name in the part of a command is a word
 abbrev pub IsPartWorded : Part → Type 0

@@ -21,7 +21,7 @@ use Rattle.mj_semantics.proofs.Talk.{asks, says, says_with, says_within, says_de
 --  GOTO A:0,B:1,C / A WRITE "x" / B WRITE "b" QUIT / C WRITE "x"
 goto_takes_the_first_true_one : says (line (cmd (Goto (go_if (text "0") (here "A") ∷ go_if (text "1") (here "B") ∷ go (here "C") ∷ [])) ∷ []) ∷
     at "A" (write (text "x" ∷ []) ∷ []) ∷
-    at "B" (write (text "b" ∷ []) ∷ cmd Quit ∷ []) ∷
+    at "B" (write (text "b" ∷ []) ∷ cmd (Quit None) ∷ []) ∷
     at "C" (write (text "x" ∷ []) ∷ []) ∷ [])
     ≡ Some (codes "b")
 unfolding digits
@@ -36,24 +36,24 @@ goto_tests_the_one_that_it_takes = refl
 
 --  GOTO B:0 WRITE "a" /  QUIT / B WRITE "x"
 goto_goes_on_where_none_is_true : says (line (cmd (Goto (go_if (text "0") (here "B") ∷ [])) ∷ write (text "a" ∷ []) ∷ []) ∷
-    line (cmd Quit ∷ []) ∷
+    line (cmd (Quit None) ∷ []) ∷
     at "B" (write (text "x" ∷ []) ∷ []) ∷ [])
     ≡ Some (codes "a")
 unfolding digits
 goto_goes_on_where_none_is_true = refl
 
 --  SET X=1 DO A WRITE X QUIT / A NEW X SET X=2 GOTO B /  WRITE "x" / B WRITE X QUIT
-goto_keeps_its_frame : says (line (assign (let_be "X" (text "1") ∷ []) ∷ cmd (Do (do_it (here "A") [] ∷ [])) ∷ write (get "X" ∷ []) ∷ cmd Quit ∷ []) ∷
+goto_keeps_its_frame : says (line (assign (let_be "X" (text "1") ∷ []) ∷ cmd (Do (do_it (here "A") [] ∷ [])) ∷ write (get "X" ∷ []) ∷ cmd (Quit None) ∷ []) ∷
     at "A" (cmd (New (Fresh (codes "X") ∷ [])) ∷ assign (let_be "X" (text "2") ∷ []) ∷ cmd (Goto (go (here "B") ∷ [])) ∷ []) ∷
     line (write (text "x" ∷ []) ∷ []) ∷
-    at "B" (write (get "X" ∷ []) ∷ cmd Quit ∷ []) ∷ [])
+    at "B" (write (get "X" ∷ []) ∷ cmd (Quit None) ∷ []) ∷ [])
     ≡ Some (codes "21")
 unfolding digits
 goto_keeps_its_frame = refl
 
 --  DO  WRITE "e" QUIT /  . SET I=0 / A . SET I=I+1 GOTO A:I<3 /  . GOTO B /  . . WRITE "x" /  . WRITE "x" / B . WRITE I
 -- forwards over a deeper line, and back to its own
-goto_in_a_block : says (line (cmd (Do []) ∷ write (text "e" ∷ []) ∷ cmd Quit ∷ []) ∷
+goto_in_a_block : says (line (cmd (Do []) ∷ write (text "e" ∷ []) ∷ cmd (Quit None) ∷ []) ∷
     deep 2 (assign (let_be "I" (text "0") ∷ []) ∷ []) ∷
     deep_at 2 "A" (assign (let_be "I" (Chain (Value (local (codes "I"))) (Then Add (Literal (codes "1")) Done)) ∷ [])
     ∷ cmd (Goto (go_if (Chain (Value (local (codes "I"))) (Then (Is Less) (Literal (codes "3")) Done)) (here "A") ∷ [])) ∷ []) ∷
@@ -112,7 +112,7 @@ goto_into_a_block = refl
 -- a label alone is then one of that routine
 goto_another_routine : says_with ((
   "R",
-  (line (cmd (Do (do_it (here "A") [] ∷ [])) ∷ write (text "c" ∷ []) ∷ cmd Quit ∷ []) ∷
+  (line (cmd (Do (do_it (here "A") [] ∷ [])) ∷ write (text "c" ∷ []) ∷ cmd (Quit None) ∷ []) ∷
       at "A" (cmd (Goto (go (there "B" "Q") ∷ [])) ∷ []) ∷
       at "B" (write (text "x" ∷ []) ∷ []) ∷ []),
 ) ∷ (
@@ -129,7 +129,7 @@ goto_another_routine = refl
 -- R:  DO A WRITE "b" QUIT / A GOTO ^Q; Q:  WRITE "q"
 goto_a_routine : says_with ((
   "R",
-  (line (cmd (Do (do_it (here "A") [] ∷ [])) ∷ write (text "b" ∷ []) ∷ cmd Quit ∷ []) ∷
+  (line (cmd (Do (do_it (here "A") [] ∷ [])) ∷ write (text "b" ∷ []) ∷ cmd (Quit None) ∷ []) ∷
       at "A" (cmd (Goto (go (top "Q") ∷ [])) ∷ []) ∷ []),
 ) ∷
     ("Q", (line (write (text "q" ∷ []) ∷ []) ∷ [])) ∷ [])
@@ -165,9 +165,9 @@ goto_no_line = refl
 do_each_in_order : says_with ((
   "R",
   (line (cmd (Do (do_if (text "0") (here "B") [] ∷ do_it (here "A") [] ∷ do_it (top "Q") [] ∷ do_it (there "B" "Q") [] ∷ [])) ∷ write (text "e" ∷ []) ∷ []) ∷
-      line (cmd Quit ∷ []) ∷
+      line (cmd (Quit None) ∷ []) ∷
       at "A" (write (text "a" ∷ []) ∷ []) ∷
-      line (cmd Quit ∷ []) ∷
+      line (cmd (Quit None) ∷ []) ∷
       at "B" (write (text "x" ∷ []) ∷ []) ∷ []),
 ) ∷ (
   "Q",
@@ -181,15 +181,15 @@ do_each_in_order = refl
 -- R:  DO ^Q(5) QUIT; Q: Q(X) WRITE X
 -- its first line has the formals
 do_a_routine_with_values : says_with (
-    ("R", (line (cmd (Do (do_it (top "Q") (Some (text "5") ∷ []) ∷ [])) ∷ cmd Quit ∷ []) ∷ [])) ∷
+    ("R", (line (cmd (Do (do_it (top "Q") (Some (text "5") ∷ []) ∷ [])) ∷ cmd (Quit None) ∷ []) ∷ [])) ∷
     ("Q", (with "Q" (codes "X" ∷ []) (write (get "X" ∷ []) ∷ []) ∷ [])) ∷ [])
     ≡ Some (codes "5")
 unfolding digits
 do_a_routine_with_values = refl
 
 --  DO 01 QUIT / 1 WRITE "x" QUIT / 01 WRITE "b"
-labels_are_texts : says (line (cmd (Do (do_it (here "01") [] ∷ [])) ∷ cmd Quit ∷ []) ∷
-    at "1" (write (text "x" ∷ []) ∷ cmd Quit ∷ []) ∷
+labels_are_texts : says (line (cmd (Do (do_it (here "01") [] ∷ [])) ∷ cmd (Quit None) ∷ []) ∷
+    at "1" (write (text "x" ∷ []) ∷ cmd (Quit None) ∷ []) ∷
     at "01" (write (text "b" ∷ []) ∷ []) ∷ [])
     ≡ Some (codes "b")
 unfolding digits
@@ -235,7 +235,7 @@ unfolding digits
 values_come_before_the_line = refl
 
 --  DO A(Y):0 WRITE "a" QUIT / A(X) WRITE "x"
-a_condition_comes_before_values : says (line (cmd (Do (do_if (text "0") (here "A") (Some (get "Y") ∷ []) ∷ [])) ∷ write (text "a" ∷ []) ∷ cmd Quit ∷ []) ∷
+a_condition_comes_before_values : says (line (cmd (Do (do_if (text "0") (here "A") (Some (get "Y") ∷ []) ∷ [])) ∷ write (text "a" ∷ []) ∷ cmd (Quit None) ∷ []) ∷
     with "A" (codes "X" ∷ []) (write (text "x" ∷ []) ∷ []) ∷ [])
     ≡ Some (codes "a")
 unfolding digits
@@ -243,22 +243,22 @@ a_condition_comes_before_values = refl
 
 --  SET X=1 DO A(5,X,X+1) WRITE X QUIT / A(X,Y,Z) WRITE X,Y,Z SET X=9
 values_are_those_of_the_caller : says (line (assign (let_be "X" (text "1") ∷ []) ∷ cmd (Do (do_it (here "A")
-    (Some (text "5") ∷ Some (get "X") ∷ Some (Chain (Value (local (codes "X"))) (Then Add (Literal (codes "1")) Done)) ∷ []) ∷ [])) ∷ write (get "X" ∷ []) ∷ cmd Quit ∷ []) ∷
+    (Some (text "5") ∷ Some (get "X") ∷ Some (Chain (Value (local (codes "X"))) (Then Add (Literal (codes "1")) Done)) ∷ []) ∷ [])) ∷ write (get "X" ∷ []) ∷ cmd (Quit None) ∷ []) ∷
     with "A" (codes "X" ∷ codes "Y" ∷ codes "Z" ∷ []) (write (get "X" ∷ get "Y" ∷ get "Z" ∷ []) ∷ assign (let_be "X" (text "9") ∷ []) ∷ []) ∷ [])
     ≡ Some (codes "5121")
 unfolding digits
 values_are_those_of_the_caller = refl
 
 --  DO A(1,2) QUIT / A(X) QUIT
-too_many_values : says (line (cmd (Do (do_it (here "A") (Some (text "1") ∷ Some (text "2") ∷ []) ∷ [])) ∷ cmd Quit ∷ []) ∷
-    with "A" (codes "X" ∷ []) (cmd Quit ∷ []) ∷ [])
+too_many_values : says (line (cmd (Do (do_it (here "A") (Some (text "1") ∷ Some (text "2") ∷ []) ∷ [])) ∷ cmd (Quit None) ∷ []) ∷
+    with "A" (codes "X" ∷ []) (cmd (Quit None) ∷ []) ∷ [])
     ≡ Some (codes "F22 PARAMS R:1" ++ 10 ∷ [])
 unfolding digits
 too_many_values = refl
 
 --  DO A(,) QUIT / A(X) QUIT
-left_out_values_count : says (line (cmd (Do (do_it (here "A") (None ∷ None ∷ []) ∷ [])) ∷ cmd Quit ∷ []) ∷
-    with "A" (codes "X" ∷ []) (cmd Quit ∷ []) ∷ [])
+left_out_values_count : says (line (cmd (Do (do_it (here "A") (None ∷ None ∷ []) ∷ [])) ∷ cmd (Quit None) ∷ []) ∷
+    with "A" (codes "X" ∷ []) (cmd (Quit None) ∷ []) ∷ [])
     ≡ Some (codes "F22 PARAMS R:1" ++ 10 ∷ [])
 unfolding digits
 left_out_values_count = refl
@@ -271,7 +271,7 @@ unfolding digits
 a_level_comes_before_values = refl
 
 --  SET X=1 DO A(,3) WRITE X QUIT / A(X,Y) WRITE Y,$DATA(X)
-a_value_left_out : says (line (assign (let_be "X" (text "1") ∷ []) ∷ cmd (Do (do_it (here "A") (None ∷ Some (text "3") ∷ []) ∷ [])) ∷ write (get "X" ∷ []) ∷ cmd Quit ∷ []) ∷
+a_value_left_out : says (line (assign (let_be "X" (text "1") ∷ []) ∷ cmd (Do (do_it (here "A") (None ∷ Some (text "3") ∷ []) ∷ [])) ∷ write (get "X" ∷ []) ∷ cmd (Quit None) ∷ []) ∷
     with "A" (codes "X" ∷ codes "Y" ∷ []) (write (get "Y" ∷ data_of (local (codes "X")) ∷ []) ∷ []) ∷ [])
     ≡ Some (codes "301")
 unfolding digits
@@ -279,7 +279,7 @@ a_value_left_out = refl
 
 --  SET X=1,X(1)=2 DO A,A() WRITE X,X(1) QUIT / A(X) WRITE $DATA(X),$DATA(X(1)) SET X(2)=3
 formals_without_values : says (line (assign (let_be "X" (text "1") ∷ set (to (local_at (codes "X") (text "1"))) (text "2") ∷ [])
-    ∷ cmd (Do (do_it (here "A") [] ∷ do_it (here "A") [] ∷ [])) ∷ write (get "X" ∷ one (Value (local_at (codes "X") (text "1"))) ∷ []) ∷ cmd Quit ∷ []) ∷
+    ∷ cmd (Do (do_it (here "A") [] ∷ do_it (here "A") [] ∷ [])) ∷ write (get "X" ∷ one (Value (local_at (codes "X") (text "1"))) ∷ []) ∷ cmd (Quit None) ∷ []) ∷
     with "A" (codes "X" ∷ []) (write (data_of (local (codes "X")) ∷ data_of (local_at (codes "X") (text "1")) ∷ []) ∷ assign (set (to (local_at (codes "X") (text "2"))) (text "3") ∷ []) ∷ []) ∷ [])
     ≡ Some (codes "000012")
 unfolding digits
@@ -297,7 +297,7 @@ formals_met_otherwise = refl
 
 --  DO A /  QUIT / A WRITE "a" /  WRITE Y
 a_fault_has_the_line_of_its_frame : says (line (cmd (Do (do_it (here "A") [] ∷ [])) ∷ []) ∷
-    line (cmd Quit ∷ []) ∷
+    line (cmd (Quit None) ∷ []) ∷
     at "A" (write (text "a" ∷ []) ∷ []) ∷
     line (write (get "Y" ∷ []) ∷ []) ∷ [])
     ≡ Some (codes "a" ++ 10 ∷ codes "F1 UNDEF R:4" ++ 10 ∷ [])
@@ -306,9 +306,9 @@ a_fault_has_the_line_of_its_frame = refl
 
 --  DO A WRITE Y /  QUIT / A WRITE "a" /  QUIT
 a_frame_gives_its_line_back : says (line (cmd (Do (do_it (here "A") [] ∷ [])) ∷ write (get "Y" ∷ []) ∷ []) ∷
-    line (cmd Quit ∷ []) ∷
+    line (cmd (Quit None) ∷ []) ∷
     at "A" (write (text "a" ∷ []) ∷ []) ∷
-    line (cmd Quit ∷ []) ∷ [])
+    line (cmd (Quit None) ∷ []) ∷ [])
     ≡ Some (codes "a" ++ 10 ∷ codes "F1 UNDEF R:1" ++ 10 ∷ [])
 unfolding digits
 a_frame_gives_its_line_back = refl
@@ -316,15 +316,15 @@ a_frame_gives_its_line_back = refl
 -- NEW, which is undone at the end of its frame.
 
 --  SET X=1 DO A WRITE X QUIT / A NEW X SET X=2 WRITE X QUIT
-new : says (line (assign (let_be "X" (text "1") ∷ []) ∷ cmd (Do (do_it (here "A") [] ∷ [])) ∷ write (get "X" ∷ []) ∷ cmd Quit ∷ []) ∷
-    at "A" (cmd (New (Fresh (codes "X") ∷ [])) ∷ assign (let_be "X" (text "2") ∷ []) ∷ write (get "X" ∷ []) ∷ cmd Quit ∷ []) ∷ [])
+new : says (line (assign (let_be "X" (text "1") ∷ []) ∷ cmd (Do (do_it (here "A") [] ∷ [])) ∷ write (get "X" ∷ []) ∷ cmd (Quit None) ∷ []) ∷
+    at "A" (cmd (New (Fresh (codes "X") ∷ [])) ∷ assign (let_be "X" (text "2") ∷ []) ∷ write (get "X" ∷ []) ∷ cmd (Quit None) ∷ []) ∷ [])
     ≡ Some (codes "21")
 unfolding digits
 new = refl
 
 --  SET X=1,X(1)=2 DO A WRITE X,X(1),$DATA(X(2)) QUIT / A NEW X WRITE $DATA(X) SET X(2)=3
 new_with_what_is_below : says (line (assign (let_be "X" (text "1") ∷ set (to (local_at (codes "X") (text "1"))) (text "2") ∷ [])
-    ∷ cmd (Do (do_it (here "A") [] ∷ [])) ∷ write (get "X" ∷ one (Value (local_at (codes "X") (text "1"))) ∷ data_of (local_at (codes "X") (text "2")) ∷ []) ∷ cmd Quit ∷ []) ∷
+    ∷ cmd (Do (do_it (here "A") [] ∷ [])) ∷ write (get "X" ∷ one (Value (local_at (codes "X") (text "1"))) ∷ data_of (local_at (codes "X") (text "2")) ∷ []) ∷ cmd (Quit None) ∷ []) ∷
     at "A" (cmd (New (Fresh (codes "X") ∷ [])) ∷ write (data_of (local (codes "X")) ∷ []) ∷ assign (set (to (local_at (codes "X") (text "2"))) (text "3") ∷ []) ∷ []) ∷ [])
     ≡ Some (codes "0120")
 unfolding digits
@@ -340,7 +340,7 @@ new_in_a_block = refl
 
 --  SET X=1 DO A WRITE X QUIT / A NEW X SET X=2 DO  WRITE X /  . SET Y=3
 -- the end of a block undoes no NEW of the frame around it
-new_around_a_block : says (line (assign (let_be "X" (text "1") ∷ []) ∷ cmd (Do (do_it (here "A") [] ∷ [])) ∷ write (get "X" ∷ []) ∷ cmd Quit ∷ []) ∷
+new_around_a_block : says (line (assign (let_be "X" (text "1") ∷ []) ∷ cmd (Do (do_it (here "A") [] ∷ [])) ∷ write (get "X" ∷ []) ∷ cmd (Quit None) ∷ []) ∷
     at "A" (cmd (New (Fresh (codes "X") ∷ [])) ∷ assign (let_be "X" (text "2") ∷ []) ∷ cmd (Do []) ∷ write (get "X" ∷ []) ∷ []) ∷
     deep 2 (assign (let_be "Y" (text "3") ∷ []) ∷ []) ∷ [])
     ≡ Some (codes "21")
@@ -348,16 +348,16 @@ unfolding digits
 new_around_a_block = refl
 
 --  SET X=1 DO A WRITE X QUIT / A NEW X SET X=2 DO B WRITE X QUIT / B NEW X SET X=3
-new_around_a_frame : says (line (assign (let_be "X" (text "1") ∷ []) ∷ cmd (Do (do_it (here "A") [] ∷ [])) ∷ write (get "X" ∷ []) ∷ cmd Quit ∷ []) ∷
-    at "A" (cmd (New (Fresh (codes "X") ∷ [])) ∷ assign (let_be "X" (text "2") ∷ []) ∷ cmd (Do (do_it (here "B") [] ∷ [])) ∷ write (get "X" ∷ []) ∷ cmd Quit ∷ []) ∷
+new_around_a_frame : says (line (assign (let_be "X" (text "1") ∷ []) ∷ cmd (Do (do_it (here "A") [] ∷ [])) ∷ write (get "X" ∷ []) ∷ cmd (Quit None) ∷ []) ∷
+    at "A" (cmd (New (Fresh (codes "X") ∷ [])) ∷ assign (let_be "X" (text "2") ∷ []) ∷ cmd (Do (do_it (here "B") [] ∷ [])) ∷ write (get "X" ∷ []) ∷ cmd (Quit None) ∷ []) ∷
     at "B" (cmd (New (Fresh (codes "X") ∷ [])) ∷ assign (let_be "X" (text "3") ∷ []) ∷ []) ∷ [])
     ≡ Some (codes "21")
 unfolding digits
 new_around_a_frame = refl
 
 --  SET X=1 DO A WRITE X QUIT / A DO B SET X=5 QUIT / B NEW X SET X=3
-new_is_undone_once : says (line (assign (let_be "X" (text "1") ∷ []) ∷ cmd (Do (do_it (here "A") [] ∷ [])) ∷ write (get "X" ∷ []) ∷ cmd Quit ∷ []) ∷
-    at "A" (cmd (Do (do_it (here "B") [] ∷ [])) ∷ assign (let_be "X" (text "5") ∷ []) ∷ cmd Quit ∷ []) ∷
+new_is_undone_once : says (line (assign (let_be "X" (text "1") ∷ []) ∷ cmd (Do (do_it (here "A") [] ∷ [])) ∷ write (get "X" ∷ []) ∷ cmd (Quit None) ∷ []) ∷
+    at "A" (cmd (Do (do_it (here "B") [] ∷ [])) ∷ assign (let_be "X" (text "5") ∷ []) ∷ cmd (Quit None) ∷ []) ∷
     at "B" (cmd (New (Fresh (codes "X") ∷ [])) ∷ assign (let_be "X" (text "3") ∷ []) ∷ []) ∷ [])
     ≡ Some (codes "5")
 unfolding digits
@@ -365,7 +365,7 @@ new_is_undone_once = refl
 
 --  SET X=1 DO A WRITE X QUIT / A NEW X SET X=2 NEW X SET X=3
 -- the newest is undone first
-new_twice : says (line (assign (let_be "X" (text "1") ∷ []) ∷ cmd (Do (do_it (here "A") [] ∷ [])) ∷ write (get "X" ∷ []) ∷ cmd Quit ∷ []) ∷
+new_twice : says (line (assign (let_be "X" (text "1") ∷ []) ∷ cmd (Do (do_it (here "A") [] ∷ [])) ∷ write (get "X" ∷ []) ∷ cmd (Quit None) ∷ []) ∷
     at "A" (cmd (New (Fresh (codes "X") ∷ [])) ∷ assign (let_be "X" (text "2") ∷ []) ∷ cmd (New (Fresh (codes "X") ∷ [])) ∷ assign (let_be "X" (text "3") ∷ []) ∷ []) ∷ [])
     ≡ Some (codes "1")
 unfolding digits
@@ -374,7 +374,7 @@ new_twice = refl
 --  SET X=1,Y=2 DO A WRITE X,Y,$DATA(Z) QUIT / A NEW (X) WRITE X,$DATA(Y) SET X=3,Y=4,Z=5
 -- those of the list keep what they have
 new_all_but_some : says (line
-    (assign (let_be "X" (text "1") ∷ let_be "Y" (text "2") ∷ []) ∷ cmd (Do (do_it (here "A") [] ∷ [])) ∷ write (get "X" ∷ get "Y" ∷ data_of (local (codes "Z")) ∷ []) ∷ cmd Quit ∷ []) ∷
+    (assign (let_be "X" (text "1") ∷ let_be "Y" (text "2") ∷ []) ∷ cmd (Do (do_it (here "A") [] ∷ [])) ∷ write (get "X" ∷ get "Y" ∷ data_of (local (codes "Z")) ∷ []) ∷ cmd (Quit None) ∷ []) ∷
     at "A" (cmd (New (Kept (codes "X" ∷ []) ∷ []))
     ∷ write (get "X" ∷ data_of (local (codes "Y")) ∷ []) ∷ assign (let_be "X" (text "3") ∷ let_be "Y" (text "4") ∷ let_be "Z" (text "5") ∷ []) ∷ []) ∷ [])
     ≡ Some (codes "10320")
@@ -383,7 +383,7 @@ new_all_but_some = refl
 
 --  SET X=1,Y=1 DO A WRITE X,Y,$DATA(Z) QUIT / A NEW X SET X=2 NEW (Y) SET X=3,Y=3,Z=4
 new_after_new : says (line
-    (assign (let_be "X" (text "1") ∷ let_be "Y" (text "1") ∷ []) ∷ cmd (Do (do_it (here "A") [] ∷ [])) ∷ write (get "X" ∷ get "Y" ∷ data_of (local (codes "Z")) ∷ []) ∷ cmd Quit ∷ []) ∷
+    (assign (let_be "X" (text "1") ∷ let_be "Y" (text "1") ∷ []) ∷ cmd (Do (do_it (here "A") [] ∷ [])) ∷ write (get "X" ∷ get "Y" ∷ data_of (local (codes "Z")) ∷ []) ∷ cmd (Quit None) ∷ []) ∷
     at "A" (cmd (New (Fresh (codes "X") ∷ []))
     ∷ assign (let_be "X" (text "2") ∷ []) ∷ cmd (New (Kept (codes "Y" ∷ []) ∷ [])) ∷ assign (let_be "X" (text "3") ∷ let_be "Y" (text "3") ∷ let_be "Z" (text "4") ∷ []) ∷ []) ∷ [])
     ≡ Some (codes "130")
@@ -392,21 +392,21 @@ new_after_new = refl
 
 --  SET X=1,Y=2 DO A WRITE X,Y,$DATA(Z) QUIT / A NEW  WRITE $DATA(X) SET X=3,Z=1
 new_all : says (line
-    (assign (let_be "X" (text "1") ∷ let_be "Y" (text "2") ∷ []) ∷ cmd (Do (do_it (here "A") [] ∷ [])) ∷ write (get "X" ∷ get "Y" ∷ data_of (local (codes "Z")) ∷ []) ∷ cmd Quit ∷ []) ∷
+    (assign (let_be "X" (text "1") ∷ let_be "Y" (text "2") ∷ []) ∷ cmd (Do (do_it (here "A") [] ∷ [])) ∷ write (get "X" ∷ get "Y" ∷ data_of (local (codes "Z")) ∷ []) ∷ cmd (Quit None) ∷ []) ∷
     at "A" (cmd (New []) ∷ write (data_of (local (codes "X")) ∷ []) ∷ assign (let_be "X" (text "3") ∷ let_be "Z" (text "1") ∷ []) ∷ []) ∷ [])
     ≡ Some (codes "0120")
 unfolding digits
 new_all = refl
 
 --  SET X=1 DO A(2) WRITE X QUIT / A(X) NEW X SET X=3
-new_of_a_formal : says (line (assign (let_be "X" (text "1") ∷ []) ∷ cmd (Do (do_it (here "A") (Some (text "2") ∷ []) ∷ [])) ∷ write (get "X" ∷ []) ∷ cmd Quit ∷ []) ∷
+new_of_a_formal : says (line (assign (let_be "X" (text "1") ∷ []) ∷ cmd (Do (do_it (here "A") (Some (text "2") ∷ []) ∷ [])) ∷ write (get "X" ∷ []) ∷ cmd (Quit None) ∷ []) ∷
     with "A" (codes "X" ∷ []) (cmd (New (Fresh (codes "X") ∷ [])) ∷ assign (let_be "X" (text "3") ∷ []) ∷ []) ∷ [])
     ≡ Some (codes "1")
 unfolding digits
 new_of_a_formal = refl
 
 --  SET X=1 DO A WRITE X QUIT / A FOR I=1:1:2 NEW X SET X=2 GOTO B / B WRITE X
-new_left_by_a_goto : says (line (assign (let_be "X" (text "1") ∷ []) ∷ cmd (Do (do_it (here "A") [] ∷ [])) ∷ write (get "X" ∷ []) ∷ cmd Quit ∷ []) ∷
+new_left_by_a_goto : says (line (assign (let_be "X" (text "1") ∷ []) ∷ cmd (Do (do_it (here "A") [] ∷ [])) ∷ write (get "X" ∷ []) ∷ cmd (Quit None) ∷ []) ∷
     at "A" (cmd (For (local (codes "I")) (UpTo (text "1") (text "1") (text "2") ∷ [])) ∷ cmd (New (Fresh (codes "X") ∷ [])) ∷ assign (let_be "X" (text "2") ∷ [])
     ∷ cmd (Goto (go (here "B") ∷ [])) ∷ []) ∷
     at "B" (write (get "X" ∷ []) ∷ []) ∷ [])
@@ -422,7 +422,7 @@ new_in_a_for = refl
 
 --  FOR I=1:1:3 DO A(I) WRITE I /  QUIT / A(I) WRITE I SET I=9
 for_over_a_frame : says (line (cmd (For (local (codes "I")) (UpTo (text "1") (text "1") (text "3") ∷ [])) ∷ cmd (Do (do_it (here "A") (Some (get "I") ∷ []) ∷ [])) ∷ write (get "I" ∷ []) ∷ []) ∷
-    line (cmd Quit ∷ []) ∷
+    line (cmd (Quit None) ∷ []) ∷
     with "A" (codes "I" ∷ []) (write (get "I" ∷ []) ∷ assign (let_be "I" (text "9") ∷ []) ∷ []) ∷ [])
     ≡ Some (codes "112233")
 unfolding digits
@@ -431,22 +431,22 @@ for_over_a_frame = refl
 -- QUIT.
 
 --  WRITE 1 QUIT /  WRITE 2
-quit_of_the_first_frame : says (line (write (text "1" ∷ []) ∷ cmd Quit ∷ []) ∷
+quit_of_the_first_frame : says (line (write (text "1" ∷ []) ∷ cmd (Quit None) ∷ []) ∷
     line (write (text "2" ∷ []) ∷ []) ∷ [])
     ≡ Some (codes "1")
 unfolding digits
 quit_of_the_first_frame = refl
 
 --  DO A WRITE "b" QUIT / A WRITE 1 QUIT:0  WRITE 2 QUIT:1  WRITE 3
-quit_where_a_condition_holds : says (line (cmd (Do (do_it (here "A") [] ∷ [])) ∷ write (text "b" ∷ []) ∷ cmd Quit ∷ []) ∷
-    at "A" (write (text "1" ∷ []) ∷ cmd_if (text "0") Quit ∷ write (text "2" ∷ []) ∷ cmd_if (text "1") Quit ∷ write (text "3" ∷ []) ∷ []) ∷ [])
+quit_where_a_condition_holds : says (line (cmd (Do (do_it (here "A") [] ∷ [])) ∷ write (text "b" ∷ []) ∷ cmd (Quit None) ∷ []) ∷
+    at "A" (write (text "1" ∷ []) ∷ cmd_if (text "0") (Quit None) ∷ write (text "2" ∷ []) ∷ cmd_if (text "1") (Quit None) ∷ write (text "3" ∷ []) ∷ []) ∷ [])
     ≡ Some (codes "12b")
 unfolding digits
 quit_where_a_condition_holds = refl
 
 --  DO A WRITE "x" /  QUIT / A FOR I=1:1:2 WRITE I HALT
 halt_in_a_frame : says (line (cmd (Do (do_it (here "A") [] ∷ [])) ∷ write (text "x" ∷ []) ∷ []) ∷
-    line (cmd Quit ∷ []) ∷
+    line (cmd (Quit None) ∷ []) ∷
     at "A" (cmd (For (local (codes "I")) (UpTo (text "1") (text "1") (text "2") ∷ [])) ∷ write (get "I" ∷ []) ∷ cmd Halt ∷ []) ∷ [])
     ≡ Some (codes "1")
 unfolding digits
@@ -510,7 +510,7 @@ halt_leaves_frames = refl
 --  SET X=1 NEW X QUIT
 -- the QUIT of the first frame is a HALT
 quit_of_the_first_frame_undoes_nothing : stands (
-    line (assign (let_be "X" (text "1") ∷ []) ∷ cmd (New (Fresh (codes "X") ∷ [])) ∷ cmd Quit ∷ []) ∷ []) 1
+    line (assign (let_be "X" (text "1") ∷ []) ∷ cmd (New (Fresh (codes "X") ∷ [])) ∷ cmd (Quit None) ∷ []) ∷ []) 1
     ≡ Needs (ask.Device (codes "0") device_asks.End) [] (spot 1 ∷ [])
 quit_of_the_first_frame_undoes_nothing = refl
 
@@ -582,19 +582,19 @@ turns_of_a_for = refl
 
 --  DO A(5) QUIT / A(X,Y) QUIT
 -- the literal; the call; a formal with a value, and one without; two QUITs
-turns_of_a_call : turns (line (cmd (Do (do_it (here "A") (Some (text "5") ∷ []) ∷ [])) ∷ cmd Quit ∷ []) ∷ with "A" (codes "X" ∷ codes "Y" ∷ []) (cmd Quit ∷ []) ∷ []) 10
+turns_of_a_call : turns (line (cmd (Do (do_it (here "A") (Some (text "5") ∷ []) ∷ [])) ∷ cmd (Quit None) ∷ []) ∷ with "A" (codes "X" ∷ codes "Y" ∷ []) (cmd (Quit None) ∷ []) ∷ []) 10
     ≡ (More, Needs (ask.Device (codes "0") device_asks.End) [] (spot 1 ∷ []))
 unfolding digits
 turns_of_a_call = refl
 
 -- A(X,Y) QUIT
 -- the formals of the line where the job starts; the QUIT
-turns_of_the_first_call : turns (with "A" (codes "X" ∷ codes "Y" ∷ []) (cmd Quit ∷ []) ∷ []) 6 ≡ (More, Needs (ask.Device (codes "0") device_asks.End) [] (spot 1 ∷ []))
+turns_of_the_first_call : turns (with "A" (codes "X" ∷ codes "Y" ∷ []) (cmd (Quit None) ∷ []) ∷ []) 6 ≡ (More, Needs (ask.Device (codes "0") device_asks.End) [] (spot 1 ∷ []))
 unfolding digits
 turns_of_the_first_call = refl
 
 --  / A(X,Y) QUIT
 -- a line that is come to takes none for its formals; the QUIT
-turns_of_a_line_with_formals : turns (line [] ∷ with "A" (codes "X" ∷ codes "Y" ∷ []) (cmd Quit ∷ []) ∷ []) 5 ≡ (More, Needs (ask.Device (codes "0") device_asks.End) [] (spot 2 ∷ []))
+turns_of_a_line_with_formals : turns (line [] ∷ with "A" (codes "X" ∷ codes "Y" ∷ []) (cmd (Quit None) ∷ []) ∷ []) 5 ≡ (More, Needs (ask.Device (codes "0") device_asks.End) [] (spot 2 ∷ []))
 unfolding digits
 turns_of_a_line_with_formals = refl

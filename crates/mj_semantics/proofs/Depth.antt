@@ -10,17 +10,18 @@ use Rattle.mj_ask.specs.declared.entry.Entry.{Entry}
 use Rattle.mj_ast.specs.declared.expr.Scope.TheVariants.{Local}
 use Rattle.mj_ast.specs.declared.routine.FormatMark.{FormatMark}
 use Rattle.mj_ast.specs.declared.function.NameFunction.{NameFunction}
-use Rattle.mj_ast.specs.Syntax.{Expr, Chain, Tails, Done, Then, Operand, Literal, Value, Intrinsic, Unary, Group, Call, About, Select, Variable, Var, Exprs, No, More as Another, Choices, Last, Before, Destination, Plain, Pieces, Targets, One, Several, Assignment, Killed, Gone, Spared, Merged, Output, Shown, Format, Coded, Called as Calling, Jumped as Jumping, Started as Starting, LockNames, Lone, Together, Locked, Opened, Received, Input, Prompted, Arranged, Into, Range, Single, Endless, UpTo, Command, Set, Write, Halt, Hang, Job, Lock, OpenDevice, UseDevice, CloseDevice, Read, Kill, Merge, If, Else, For, Forever, Do, Goto, Quit, New, Restartable, TStart, TCommit, TRestart, TRollback, Break, LineCommand, Line, Routine}
+use Rattle.mj_ast.specs.Syntax.{Expr, Chain, Tails, Done, Then, Operand, Literal, Value, Intrinsic, Unary, Group, Call, About, Select, Variable, Var, Exprs, No, More as Another, Choices, Last, Before, Extrinsic, Actuals, NoActual, Given, Omitted, as_actuals, Destination, Plain, Pieces, Targets, One, Several, Assignment, Killed, Gone, Spared, Merged, Output, Shown, Format, Coded, Called as Calling, Jumped as Jumping, Started as Starting, LockNames, Lone, Together, Locked, Opened, Received, Input, Prompted, Arranged, Into, Range, Single, Endless, UpTo, Command, Set, Write, Halt, Hang, Job, Lock, OpenDevice, UseDevice, CloseDevice, Read, Kill, Merge, If, Else, For, Forever, Do, Goto, Quit, New, Restartable, TStart, TCommit, TRestart, TRollback, Break, LineCommand, Line, Routine}
 use Rattle.mj_semantics.specs.State.{State, principal, level_of, special_value, set_test, kill_except, passed, popped, pushed, at_place, may_go}
-use Rattle.mj_semantics.specs.Outcome.{Outcome, More, Handler, Timed, no_restart, turn}
+use Rattle.mj_semantics.specs.Outcome.{Outcome, More, Handler, Timed, no_restart, turn, fault}
+use Rattle.mj_text.specs.declared.fault.Fault.TheVariants.{Quit as WrongQuit}
 use Rattle.mj_semantics.specs.Lines.{Here, place_at, next_line, line_before, line_at, levels_of, entered, entry_of}
 use Rattle.mj_semantics.specs.Points.{Leave, Ways, Loop, Point, AtLine, Called, Jumped, Pass, Started, Points}
 use Rattle.mj_semantics.specs.Functions.{call_value, optional}
 use Rattle.mj_semantics.specs.Evaluation.{name_of, named_for, ev, ev_tails, ev_operand, ev_choices, ev_name, ev_named, ev_all, ev_actuals, ev_local, when}
-use Rattle.mj_semantics.specs.Commands.{Aim, Whole, Part, mark_byte, quit_frame, ev_destination, ev_destinations, assign_to, assign_all, kill, kill_list, kill_all, merge, merge_all, arrange, output, output_all, ev_timeout, hang_all, start_all, ev_names, ev_lock_names, lock_list, lock_all, open_all, use_all, close_all, receive, input, read_all, ifs, ranges, calls, block, jumps, do_all, if_all, start_transaction, obey, obey_all}
+use Rattle.mj_semantics.specs.Commands.{Aim, Whole, Part, mark_byte, end_frame, quit_frame, in_function, quit, ev_destination, ev_destinations, assign_to, assign_all, kill, kill_list, kill_all, merge, merge_all, arrange, output, output_all, ev_timeout, hang_all, start_all, ev_names, ev_lock_names, lock_list, lock_all, open_all, use_all, close_all, receive, input, read_all, ifs, ranges, calls, block, jumps, do_all, if_all, start_transaction, obey, obey_all}
 use Rattle.mj_semantics.specs.Transactions.{restored_by, listed_by, serial_by}
 use Rattle.mj_semantics.specs.Job.{quit_before, obey_line, call, jump, in_pass, at_point, points_of, Start, start, opening, run, next}
-use Rattle.mj_semantics.proofs.Words.{Stays, spent, same, Back, Keeps, none_back, less, no_turns, turned, a_turn, some_turns, looked, changed, chosen, ended, faulted, is_given, to_its_device, restarts, reads, is_about, stores, puts, puts_all, removes, names_keep, takes_nodes, puts_nodes, news_all, quits_frame, goes_deeper, writes, tabs, writes_code, tests, goes_again, begins, reads_two, hangs, starts_job, unlocks_all, locks, opens, uses, closes, reads_input, begins_transaction, commits, rolls_back, gives_back, begins_again}
+use Rattle.mj_semantics.proofs.Words.{Stays, spent, same, Back, Keeps, none_back, less, no_turns, turned, a_turn, some_turns, looked, changed, chosen, ended, faulted, is_given, to_its_device, restarts, reads, is_about, stores, puts, puts_all, removes, names_keep, takes_nodes, puts_nodes, news_all, ends_frame, quits_frame, in_its_function, goes_deeper, writes, tabs, writes_code, tests, goes_again, begins, reads_two, hangs, starts_job, unlocks_all, locks, opens, uses, closes, reads_input, begins_transaction, commits, rolls_back, gives_back, begins_again}
 
 data KeepsQuit (more b : ℕ) : Option Timed → Option Timed → Type 0 where
   no_for : KeepsQuit more b None None
@@ -76,6 +77,7 @@ module _ (more b : ℕ) (P Q : Points) (keeps : KeepsPoints more b P Q) (here : 
     operand_keeps (Call f es) l = all_keep es (λ vs. a_turn (is_given (call_value f vs) l))
     operand_keeps (About f v es) l = named_keeps f v (λ x. all_keep es (λ vs. a_turn (is_about f x (optional 0 vs) l)))
     operand_keeps (Select choices) l = choices_keep choices l
+    operand_keeps (Extrinsic t es) l = actuals_keep es (λ vs. turned (keeps.by (called (λ v. less (changed {c = popped} (l v))))))
 
     choices_keep : (x : Choices) {f g : List ℕ → Timed} → ((v : List ℕ) → Keeps more (suc b) (f v) (g v)) → Keeps more (suc b) (ev_choices P here x f) (ev_choices Q here x g)
     choices_keep (Last c e) l = evaluates c (λ v. a_turn (is_given (truth_value v) (λ t. chosen t (evaluates e (λ w. a_turn (l w))) (a_turn faulted))))
@@ -91,11 +93,11 @@ module _ (more b : ℕ) (P Q : Points) (keeps : KeepsPoints more b P Q) (here : 
     all_keep No l = l []
     all_keep (Another e es) l = evaluates e (λ v. all_keep es (λ vs. l (v ∷ vs)))
 
-  actuals_keep : (es : List (Option Expr)) {f g : List (Option (List ℕ)) → Timed} → ((vs : List (Option (List ℕ))) → Keeps more (suc b) (f vs) (g vs))
-      → Keeps more (suc b) (ev_actuals P here es f) (ev_actuals Q here es g)
-  actuals_keep [] l = l []
-  actuals_keep (None ∷ es) l = actuals_keep es (λ vs. l (None ∷ vs))
-  actuals_keep (Some e ∷ es) l = evaluates e (λ v. actuals_keep es (λ vs. l (Some v ∷ vs)))
+    actuals_keep : (es : Actuals) {f g : List (Option (List ℕ)) → Timed} → ((vs : List (Option (List ℕ))) → Keeps more (suc b) (f vs) (g vs))
+        → Keeps more (suc b) (ev_actuals P here es f) (ev_actuals Q here es g)
+    actuals_keep NoActual l = l []
+    actuals_keep (Given e es) l = evaluates e (λ v. actuals_keep es (λ vs. l (Some v ∷ vs)))
+    actuals_keep (Omitted es) l = actuals_keep es (λ vs. l (None ∷ vs))
 
   local_keeps : (v : Variable) {f g : Name → Timed} → ((x : Name) → Keeps more (suc b) (f x) (g x)) → Keeps more (suc b) (ev_local P here v f) (ev_local Q here v g)
   local_keeps (Var scope word es) l = all_keep es (λ ss. a_turn (is_given (name_of Local word ss) l))
@@ -166,7 +168,7 @@ module _ (more b : ℕ) (P Q : Points) (keeps : KeepsPoints more b P Q) (here : 
   starts_all : (list : List Starting) {f g : Timed} → Keeps more (suc b) f g → Keeps more (suc b) (start_all P here list f) (start_all Q here list g)
   starts_all [] l = l
   starts_all (s ∷ list) l =
-      actuals_keep s.actuals (λ vs. timeout_keeps s.timeout (λ t. a_turn (starts_job (entry_of here s.target) vs t (starts_all list l))))
+      actuals_keep (as_actuals s.actuals) (λ vs. timeout_keeps s.timeout (λ t. a_turn (starts_job (entry_of here s.target) vs t (starts_all list l))))
 
   names_of_keep : (vs : List Variable) {f g : List Name → Timed} → ((xs : List Name) → Keeps more (suc b) (f xs) (g xs)) → Keeps more (suc b) (ev_names P here vs f) (ev_names Q here vs g)
   names_of_keep [] l = l []
@@ -229,7 +231,7 @@ module _ (more b : ℕ) (P Q : Points) (keeps : KeepsPoints more b P Q) (here : 
   calls_keep : (list : List Calling) {f g : Timed} → Keeps more (suc b) f g → Keeps more (suc b) (calls P here list f) (calls Q here list g)
   calls_keep [] l = l
   calls_keep (c ∷ list) l =
-      where_so c.condition (actuals_keep c.actuals (λ vs. turned (keeps.by (called (λ v. less (changed {c = popped} (calls_keep list l))))))) (calls_keep list l)
+      where_so c.condition (actuals_keep (as_actuals c.actuals) (λ vs. turned (keeps.by (called (λ v. less (changed {c = popped} (calls_keep list l))))))) (calls_keep list l)
 
   block_keeps : {f g : Timed} → Keeps more (suc b) f g → Keeps more (suc b) (block P here f) (block Q here g)
   block_keeps l =
@@ -248,6 +250,16 @@ module _ (more b : ℕ) (P Q : Points) (keeps : KeepsPoints more b P Q) (here : 
       → Keeps more (suc b) (elim f [ None ↦ quit_frame (l []) | Some out ↦ out ]) (elim g [ None ↦ quit_frame (m []) | Some out ↦ out ])
   quit_keeps no_for l = quits_frame (l [])
   quit_keeps (a_for k) l = k
+
+  value_keeps : (e : Expr) {l m : Leave} {f g : Option Timed} → KeepsQuit more (suc b) f g → KeepsLeave more (suc b) l m
+      → Keeps more (suc b) (elim f [ None ↦ in_function (ev P here e (λ v. turn (end_frame (l v)))) | Some out ↦ fault WrongQuit ])
+      (elim g [ None ↦ in_function (ev Q here e (λ v. turn (end_frame (m v)))) | Some out ↦ fault WrongQuit ])
+  value_keeps e no_for l = in_its_function (evaluates e (λ v. a_turn (ends_frame (l v))))
+  value_keeps e (a_for k) l = faulted
+
+  quits : (o : Option Expr) {w v : Ways} → KeepsWays more (suc b) w v → Keeps more (suc b) (quit P here o w) (quit Q here o v)
+  quits None w = a_turn (quit_keeps w.for_quit w.leave)
+  quits (Some e) w = a_turn (value_keeps e w.for_quit w.leave)
 
   starts_transaction : (a : Option Restartable) {f g : Timed} → Keeps more (suc b) f g → Keeps more (suc b) (start_transaction P here a f) (start_transaction Q here a g)
   starts_transaction a l =
@@ -273,7 +285,7 @@ module _ (more b : ℕ) (P Q : Points) (keeps : KeepsPoints more b P Q) (here : 
   obeys Forever o body w l = turned (keeps.by (pass (less (a_turn w.line_end)) (less_ways w)))
   obeys (Do list) o body w l = where_so o (do_keeps list l) l
   obeys (Goto list) o body w l = where_so o (jumps_keep list w.leave l) l
-  obeys Quit o body w l = where_so o (a_turn (quit_keeps w.for_quit w.leave)) l
+  obeys (Quit value) o body w l = where_so o (quits value w) l
   obeys (New list) o body w l = where_so o (news_all list l) l
   obeys (TStart a) o body w l = where_so o (starts_transaction a l) l
   obeys TCommit o body w l = where_so o (a_turn (commits (a_turn begins_again) l)) l

@@ -8,3 +8,4 @@ pub mod Devices
 pub mod Sharing
 pub mod Sessions
 pub mod Transactions
+pub mod Functions

@@ -75,7 +75,7 @@ for_reads_numbers = refl
 --  FOR I=1:1:2 WRITE I SET I="x"_I QUIT:$DATA(J)  SET J=1
 -- the text is read as a number again: `x1` is 0
 for_reads_what_a_pass_left : says (line (cmd (For (local (codes "I")) (UpTo (text "1") (text "1") (text "2") ∷ [])) ∷ write (get "I" ∷ []) ∷ assign (let_be "I"
-    (Chain (Literal (codes "x")) (Then Join (Value (local (codes "I"))) Done)) ∷ []) ∷ cmd_if (data_of (local (codes "J"))) Quit ∷ assign (let_be "J" (text "1") ∷ []) ∷ []) ∷ [])
+    (Chain (Literal (codes "x")) (Then Join (Value (local (codes "I"))) Done)) ∷ []) ∷ cmd_if (data_of (local (codes "J"))) (Quit None) ∷ assign (let_be "J" (text "1") ∷ []) ∷ []) ∷ [])
     ≡ Some (codes "11")
 unfolding digits
 for_reads_what_a_pass_left = refl
@@ -123,7 +123,7 @@ for_of_one_value_needs_no_local = refl
 --  FOR I=1:1:3 WRITE I KILL I QUIT /  WRITE "e"
 -- a QUIT tests nothing
 for_left_without_its_local : says
-    (line (cmd (For (local (codes "I")) (UpTo (text "1") (text "1") (text "3") ∷ [])) ∷ write (get "I" ∷ []) ∷ cmd (Kill (Gone (local (codes "I")) ∷ [])) ∷ cmd Quit ∷ []) ∷
+    (line (cmd (For (local (codes "I")) (UpTo (text "1") (text "1") (text "3") ∷ [])) ∷ write (get "I" ∷ []) ∷ cmd (Kill (Gone (local (codes "I")) ∷ [])) ∷ cmd (Quit None) ∷ []) ∷
     line (write (text "e" ∷ []) ∷ []) ∷ [])
     ≡ Some (codes "1e")
 unfolding digits
@@ -179,7 +179,7 @@ for_without_end = refl
 
 --  SET I=0 FOR  SET I=I+1 QUIT:I>3  WRITE I /  WRITE "e"
 for_forever : says (line (assign (let_be "I" (text "0") ∷ []) ∷ cmd Forever ∷ assign (let_be "I" (Chain (Value (local (codes "I"))) (Then Add (Literal (codes "1")) Done)) ∷ [])
-    ∷ cmd_if (Chain (Value (local (codes "I"))) (Then (Is Greater) (Literal (codes "3")) Done)) Quit ∷ write (get "I" ∷ []) ∷ []) ∷
+    ∷ cmd_if (Chain (Value (local (codes "I"))) (Then (Is Greater) (Literal (codes "3")) Done)) (Quit None) ∷ write (get "I" ∷ []) ∷ []) ∷
     line (write (text "e" ∷ []) ∷ []) ∷ [])
     ≡ Some (codes "123e")
 unfolding digits
@@ -189,14 +189,14 @@ for_forever = refl
 
 --  FOR I=7,1:1:2 FOR  WRITE I QUIT /  WRITE I
 -- and then comes the next pass of the one around it
-quit_leaves_the_innermost_for : says (line (cmd (For (local (codes "I")) (Single (text "7") ∷ UpTo (text "1") (text "1") (text "2") ∷ [])) ∷ cmd Forever ∷ write (get "I" ∷ []) ∷ cmd Quit ∷ []) ∷
+quit_leaves_the_innermost_for : says (line (cmd (For (local (codes "I")) (Single (text "7") ∷ UpTo (text "1") (text "1") (text "2") ∷ [])) ∷ cmd Forever ∷ write (get "I" ∷ []) ∷ cmd (Quit None) ∷ []) ∷
     line (write (get "I" ∷ []) ∷ []) ∷ [])
     ≡ Some (codes "7122")
 unfolding digits
 quit_leaves_the_innermost_for = refl
 
 --  FOR I=7,8 WRITE I QUIT /  WRITE "e"
-quit_leaves_all_ranges : says (line (cmd (For (local (codes "I")) (Single (text "7") ∷ Single (text "8") ∷ [])) ∷ write (get "I" ∷ []) ∷ cmd Quit ∷ []) ∷
+quit_leaves_all_ranges : says (line (cmd (For (local (codes "I")) (Single (text "7") ∷ Single (text "8") ∷ [])) ∷ write (get "I" ∷ []) ∷ cmd (Quit None) ∷ []) ∷
     line (write (text "e" ∷ []) ∷ []) ∷ [])
     ≡ Some (codes "7e")
 unfolding digits
@@ -212,11 +212,11 @@ goto_leaves_a_for = refl
 
 --  DO A WRITE "e" QUIT / A FOR I=1:1:2 FOR J=1:1:2 WRITE I,J GOTO B /  WRITE "x" / B QUIT /  WRITE "x"
 -- a QUIT behind it is that of the frame
-goto_leaves_every_for : says (line (cmd (Do (do_it (here "A") [] ∷ [])) ∷ write (text "e" ∷ []) ∷ cmd Quit ∷ []) ∷
+goto_leaves_every_for : says (line (cmd (Do (do_it (here "A") [] ∷ [])) ∷ write (text "e" ∷ []) ∷ cmd (Quit None) ∷ []) ∷
     at "A" (cmd (For (local (codes "I")) (UpTo (text "1") (text "1") (text "2") ∷ []))
     ∷ cmd (For (local (codes "J")) (UpTo (text "1") (text "1") (text "2") ∷ [])) ∷ write (get "I" ∷ get "J" ∷ []) ∷ cmd (Goto (go (here "B") ∷ [])) ∷ []) ∷
     line (write (text "x" ∷ []) ∷ []) ∷
-    at "B" (cmd Quit ∷ []) ∷
+    at "B" (cmd (Quit None) ∷ []) ∷
     line (write (text "x" ∷ []) ∷ []) ∷ [])
     ≡ Some (codes "11e")
 unfolding digits
@@ -280,7 +280,7 @@ block_restores_test = refl
 --  IF 1 DO  WRITE $TEST /  . IF 0 /  . QUIT /  . WRITE "x" /  IF 0 /  DO  WRITE $TEST /  . IF 1
 block_left_restores_test : says (line (cmd (If (text "1" ∷ [])) ∷ cmd (Do []) ∷ write (test ∷ []) ∷ []) ∷
     deep 2 (cmd (If (text "0" ∷ [])) ∷ []) ∷
-    deep 2 (cmd Quit ∷ []) ∷
+    deep 2 (cmd (Quit None) ∷ []) ∷
     deep 2 (write (text "x" ∷ []) ∷ []) ∷
     line (cmd (If (text "0" ∷ [])) ∷ []) ∷
     line (cmd (Do []) ∷ write (test ∷ []) ∷ []) ∷
@@ -290,14 +290,14 @@ unfolding digits
 block_left_restores_test = refl
 
 --  IF 1 DO A WRITE $TEST QUIT / A IF 0
-do_of_a_label_leaves_test : says (line (cmd (If (text "1" ∷ [])) ∷ cmd (Do (do_it (here "A") [] ∷ [])) ∷ write (test ∷ []) ∷ cmd Quit ∷ []) ∷
+do_of_a_label_leaves_test : says (line (cmd (If (text "1" ∷ [])) ∷ cmd (Do (do_it (here "A") [] ∷ [])) ∷ write (test ∷ []) ∷ cmd (Quit None) ∷ []) ∷
     at "A" (cmd (If (text "0" ∷ [])) ∷ []) ∷ [])
     ≡ Some (codes "0")
 unfolding digits
 do_of_a_label_leaves_test = refl
 
 --  DO A WRITE $TEST QUIT / A IF 1
-do_of_a_label_gives_test : says (line (cmd (Do (do_it (here "A") [] ∷ [])) ∷ write (test ∷ []) ∷ cmd Quit ∷ []) ∷
+do_of_a_label_gives_test : says (line (cmd (Do (do_it (here "A") [] ∷ [])) ∷ write (test ∷ []) ∷ cmd (Quit None) ∷ []) ∷
     at "A" (cmd (If (text "1" ∷ [])) ∷ []) ∷ [])
     ≡ Some (codes "1")
 unfolding digits
@@ -306,7 +306,7 @@ do_of_a_label_gives_test = refl
 --  FOR I=1:1:2 DO  WRITE "a" /  . WRITE I QUIT /  . WRITE "x"
 -- it is not that of the FOR
 quit_of_a_block : says (line (cmd (For (local (codes "I")) (UpTo (text "1") (text "1") (text "2") ∷ [])) ∷ cmd (Do []) ∷ write (text "a" ∷ []) ∷ []) ∷
-    deep 2 (write (get "I" ∷ []) ∷ cmd Quit ∷ []) ∷
+    deep 2 (write (get "I" ∷ []) ∷ cmd (Quit None) ∷ []) ∷
     deep 2 (write (text "x" ∷ []) ∷ []) ∷ [])
     ≡ Some (codes "1a2a")
 unfolding digits
@@ -348,7 +348,7 @@ unfolding digits
 a_block_at_the_end_of_a_routine = refl
 
 --  DO  WRITE "c" QUIT /  . DO A WRITE "b" / A WRITE "a" /  . WRITE "x"
-a_label_in_a_block_calls_level_1 : says (line (cmd (Do []) ∷ write (text "c" ∷ []) ∷ cmd Quit ∷ []) ∷
+a_label_in_a_block_calls_level_1 : says (line (cmd (Do []) ∷ write (text "c" ∷ []) ∷ cmd (Quit None) ∷ []) ∷
     deep 2 (cmd (Do (do_it (here "A") [] ∷ [])) ∷ write (text "b" ∷ []) ∷ []) ∷
     at "A" (write (text "a" ∷ []) ∷ []) ∷
     deep 2 (write (text "x" ∷ []) ∷ []) ∷ [])

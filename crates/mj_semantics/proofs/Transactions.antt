@@ -167,7 +167,7 @@ x_is t = (plain_name (codes "X"), codes t) ∷ []
 --  SET X=1 TSTART X SET X=2 DO A /  QUIT / A TRESTART: where the transaction begins once more, the locals and frames are those before the restart
 abbrev out_of_a_call : List Line
 out_of_a_call = line (assign (let_be "X" (text "1") ∷ []) ∷ restoring (Alone (codes "X")) ∷ assign (let_be "X" (text "2") ∷ []) ∷ cmd (Do (do_it (here "A") [] ∷ [])) ∷ []) ∷
-    line (cmd Quit ∷ []) ∷ at "A" (trestart ∷ []) ∷ []
+    line (cmd (Quit None) ∷ []) ∷ at "A" (trestart ∷ []) ∷ []
 
 begins_before_it_restores : stops out_of_a_call 400 3 ≡ Needs (ask.Shared (shared_asks.Begin kind.Plain)) (x_is "2") (spot 3 ∷ spot 1 ∷ [])
 unfolding digits
@@ -189,9 +189,9 @@ goes_back : says (
     line (assign (let_be "X" (text "1") ∷ let_be "Y" (text "1") ∷ let_be "W" (text "0") ∷ []) ∷ cmd (For (local (codes "I")) (UpTo (text "1") (text "1") (text "2") ∷ [])) ∷ restoring x_alone ∷
     write (Chain (Value (local (codes "I"))) (with_blank (Value (local (codes "X")) ∷ Value (local (codes "Y")) ∷ Value (local (codes "W")) ∷ Intrinsic special.Test ∷ [])) ∷ []) ∷
     cmd (Do (do_it (here "A") [] ∷ [])) ∷ tcommit ∷ []) ∷
-    line (cmd Quit ∷ []) ∷
+    line (cmd (Quit None) ∷ []) ∷
     at "A" (cmd (New (Fresh (codes "Y") ∷ []))
-    ∷ assign (let_be "X" (text "5") ∷ let_be "Y" (text "7") ∷ let_be "W" (plus_one "W") ∷ []) ∷ cmd (If (text "1" ∷ [])) ∷ cmd Forever ∷ once_more ∷ cmd Quit ∷ []) ∷ [])
+    ∷ assign (let_be "X" (text "5") ∷ let_be "Y" (text "7") ∷ let_be "W" (plus_one "W") ∷ []) ∷ cmd (If (text "1" ∷ [])) ∷ cmd Forever ∷ once_more ∷ cmd (Quit None) ∷ []) ∷ [])
     ≡ Some (codes "11100 11110 25121 25131 ")
 unfolding digits
 goes_back = refl
@@ -246,7 +246,7 @@ second_transaction = refl
 -- Faults.
 
 --  TSTART  QUIT
-quits_at_the_mark : says (line (tstart ∷ cmd Quit ∷ []) ∷ []) ≡ faulty "F10 TXQUIT R:1"
+quits_at_the_mark : says (line (tstart ∷ cmd (Quit None) ∷ []) ∷ []) ≡ faulty "F10 TXQUIT R:1"
 unfolding digits
 quits_at_the_mark = refl
 
@@ -257,7 +257,7 @@ unfolding digits
 ends_at_the_mark = refl
 
 --  TSTART  DO A FOR  QUIT /  TCOMMIT  WRITE "e" QUIT / A QUIT: the QUIT of a frame above, and of a FOR
-quits_above : says (line (tstart ∷ cmd (Do (do_it (here "A") [] ∷ [])) ∷ cmd Forever ∷ cmd Quit ∷ []) ∷ line (tcommit ∷ write (text "e" ∷ []) ∷ cmd Quit ∷ []) ∷ at "A" (cmd Quit ∷ []) ∷ [])
+quits_above : says (line (tstart ∷ cmd (Do (do_it (here "A") [] ∷ [])) ∷ cmd Forever ∷ cmd (Quit None) ∷ []) ∷ line (tcommit ∷ write (text "e" ∷ []) ∷ cmd (Quit None) ∷ []) ∷ at "A" (cmd (Quit None) ∷ []) ∷ [])
     ≡ Some (codes "e")
 unfolding digits
 quits_above = refl

@@ -26,7 +26,7 @@ use Rattle.mj_ast.specs.declared.routine.ReadMode.{ReadMode}
 use Rattle.mj_ast.specs.declared.function.NameFunction.{NameFunction}
 use Rattle.mj_ast.specs.Syntax.{Renewed, Fresh, Kept}
 use Rattle.mj_strfn.specs.Functions.{assigned_pieces, set_piece_value}
-use Rattle.mj_semantics.specs.State.{State, Words as Listed, Only, AllBut, accessed, wrote, broke, counted, hold, column_at, has_failed, principal, devices_limit, ending_order, is_open, may_close, with_device, used, dropped, is_at_mark, newed, marked, raised, lowered, settled, can_restart, restarted}
+use Rattle.mj_semantics.specs.State.{State, Words as Listed, Only, AllBut, accessed, wrote, broke, counted, hold, column_at, has_failed, principal, devices_limit, ending_order, is_open, may_close, with_device, used, dropped, is_function, is_in_function, is_at_mark, newed, marked, raised, lowered, settled, can_restart, restarted}
 use Rattle.mj_semantics.specs.Outcome.{Outcome, More, Handler, Timed, turn, turns, look, change, asking, over, no_restart, until, restartable, go_back, halt, ends, end, fault, steps_limit, ask, tell, is_failed, to_device, need, given}
 use Rattle.mj_semantics.specs.Names.{spelled, asks, question, function_told}
 use Rattle.mj_semantics.specs.Functions.{needed, optional}
@@ -36,7 +36,7 @@ use Rattle.mj_semantics.specs.Points.{Loop, Once, Always, By}
 use Rattle.mj_semantics.specs.Sharing.{is_limit, in_time, served, out_of_transaction, hang, start_job, unlock_all, take_names, give_names, lock}
 use Rattle.mj_semantics.specs.Devices.{is_got, has_no_session, request_device, open_device, use_device, close, is_input, input_told, read_input}
 use Rattle.mj_semantics.specs.Transactions.{levels_limit, begin_transaction, in_transaction, is_clash, commit, roll_back, roll_back_for_restart, begin_restart}
-use Rattle.mj_semantics.specs.Commands.{Aim, Whole, Part, store, or_empty, renewed, assign_piece, put, put_all, remove, named, take_nodes, put_these, put_nodes, renewal, new_list, new_all, frames_limit, quit_frame, deeper, write, tab_bytes, tab, coded, write_code, if_test, is_within, stepped, for_again, first, reading_two}
+use Rattle.mj_semantics.specs.Commands.{Aim, Whole, Part, store, or_empty, renewed, assign_piece, put, put_all, remove, named, take_nodes, put_these, put_nodes, renewal, new_list, new_all, frames_limit, end_frame, quit_frame, in_function, deeper, write, tab_bytes, tab, coded, write_code, if_test, is_within, stepped, for_again, first, reading_two}
 
 -- what a run comes to with more turns, beside what it comes to with some: the same, or these were used up
 pub data Stays (o : Outcome) : Outcome → Type 0 where
@@ -223,8 +223,14 @@ pub news_all : {more b : ℕ} (list : List Renewed) {f g : Timed} → Keeps more
 news_all [] l = a_turn (changed {c = newed (AllBut [])} l)
 news_all (r ∷ list) l = news (r ∷ list) l
 
+pub ends_frame : {more b : ℕ} {f g : Timed} → Keeps more b f g → Keeps more b (end_frame f) (end_frame g)
+ends_frame l = looked (λ s. chosen (is_at_mark s) faulted l)
+
 pub quits_frame : {more b : ℕ} {f g : Timed} → Keeps more b f g → Keeps more b (quit_frame f) (quit_frame g)
-quits_frame l = looked (λ s. chosen (is_at_mark s) faulted l)
+quits_frame l = looked (λ s. chosen (is_function s) faulted (ends_frame l))
+
+pub in_its_function : {more b : ℕ} {f g : Timed} → Keeps more b f g → Keeps more b (in_function f) (in_function g)
+in_its_function l = looked (λ s. chosen (is_function s) l faulted)
 
 pub goes_deeper : {more b : ℕ} {f g : Timed} → Keeps more b f g → Keeps more b (deeper f) (deeper g)
 goes_deeper l = looked (λ s. chosen (nat_lt (length s.frames) frames_limit) l faulted)
@@ -326,7 +332,7 @@ reads_input m timeout l = looked (λ s.
 pub begins_transaction : {more b : ℕ} (o : Option Listed) (serial : Bool) {f g f' g' : Timed} → Keeps more b f g → Keeps more b f' g'
     → Keeps more b (begin_transaction o serial f f') (begin_transaction o serial g g')
 begins_transaction o serial l m = looked (λ s.
-    chosen (nat_eq s.level 0) (asked _ (λ r. changed {c = marked o serial} m))
+    chosen (nat_eq s.level 0) (looked (λ t. chosen (is_in_function t) faulted (asked _ (λ r. changed {c = marked o serial} m))))
     (chosen (nat_lt s.level levels_limit) (changed {c = raised} l) faulted))
 
 within : {more b : ℕ} {f g : Timed} → Keeps more b f g → Keeps more b (in_transaction f) (in_transaction g)

@@ -2,7 +2,7 @@
 use Rattle.std.specs.Prelude.{ℕ, ◌+◌, ◌-◌, ℤ, int_le, ◌+ℤ◌, pos, negsuc, List, [], ◌∷◌, ◌++◌, Option, Some, None, Bool, true, false, Result, Ok, Err, length, map, replicate, nat_lt, if◌then◌else◌}
 use Rattle.mj_text.specs.declared.text.TheConstants.{TEXT_LIMIT}
 use Rattle.mj_text.specs.declared.fault.Fault.{Fault}
-use Rattle.mj_text.specs.declared.fault.Fault.TheVariants.{QuitInTransaction, Length, Overlap, ForIndex, Char, Depth}
+use Rattle.mj_text.specs.declared.fault.Fault.TheVariants.{Quit as WrongQuit, QuitInTransaction, Length, Overlap, ForIndex, Char, Depth}
 use Rattle.mj_num.specs.Number.{reading, sum_of, canonic_text}
 use Rattle.mj_oper.specs.Operators.{truth_value}
 use Rattle.mj_subs.specs.Name.{Name, overlaps}
@@ -11,9 +11,9 @@ use Rattle.mj_store.specs.declared.access.Access.TheVariants as accesses
 use Rattle.mj_ask.specs.declared.ask.DeviceAsk.TheVariants as device_asks
 use Rattle.mj_ast.specs.declared.routine.FormatMark.{FormatMark}
 use Rattle.mj_ast.specs.declared.routine.FormatMark.TheVariants.{NewLine, NewPage}
-use Rattle.mj_ast.specs.Syntax.{Expr, Chain, Done, Literal, Destination, Plain, Pieces, Targets, One, Several, Assignment, Killed, Gone, Spared, Merged, Output, Shown, Format, Coded, Called, Jumped, Started, LockNames, Lone, Together, Locked, Opened, Received, Input, Prompted, Arranged, Into, Range, Single, Endless, UpTo, Renewed, Fresh, Kept, Variable, Command, Set, Write, Halt, Hang, Job, Lock, OpenDevice, UseDevice, CloseDevice, Read, Kill, Merge, If, Else, For, Forever, Do, Goto, Quit, New, Restartable, TStart, TCommit, TRestart, TRollback, Break, LineCommand}
+use Rattle.mj_ast.specs.Syntax.{Expr, Chain, Done, Literal, as_actuals, Destination, Plain, Pieces, Targets, One, Several, Assignment, Killed, Gone, Spared, Merged, Output, Shown, Format, Coded, Called, Jumped, Started, LockNames, Lone, Together, Locked, Opened, Received, Input, Prompted, Arranged, Into, Range, Single, Endless, UpTo, Renewed, Fresh, Kept, Variable, Command, Set, Write, Halt, Hang, Job, Lock, OpenDevice, UseDevice, CloseDevice, Read, Kill, Merge, If, Else, For, Forever, Do, Goto, Quit, New, Restartable, TStart, TCommit, TRestart, TRollback, Break, LineCommand}
 use Rattle.mj_strfn.specs.Functions.{place, assigned_pieces, set_piece_value}
-use Rattle.mj_semantics.specs.State.{Only, AllBut, column_at, column_after, wrote, kill_except, hold, level_of, is_at_mark, set_test, newed, pushed, popped}
+use Rattle.mj_semantics.specs.State.{Only, AllBut, column_at, column_after, wrote, kill_except, hold, level_of, is_function, is_at_mark, set_test, newed, pushed, popped}
 use Rattle.mj_semantics.specs.Outcome.{Timed, turn, look, change, to_device, need, given, end, fault}
 use Rattle.mj_semantics.specs.Lines.{Here, place_at, next_line, entry_of}
 use Rattle.mj_semantics.specs.Points.{Leave, Ways, Loop, Once, Always, By, Points, AtLine, Called as CalledAt, Jumped as JumpedAt, Pass, Started as StartedAt}
@@ -112,9 +112,17 @@ new_all (r ∷ list) rest = new_list (r ∷ list) rest
 abbrev pub frames_limit : ℕ
 frames_limit = 512
 
--- the QUIT of a frame; that of the frame of the outermost TSTART is TXQUIT (this profile)
+-- the end of a frame; that of the frame of the outermost TSTART is TXQUIT (this profile)
+abbrev pub end_frame : Timed → Timed
+end_frame rest = look (λ s. if is_at_mark s then fault QuitInTransaction else rest)
+
+-- the QUIT of a frame without a value; that of a function's is QUIT (this profile)
 abbrev pub quit_frame : Timed → Timed
-quit_frame rest = look (λ s. if is_at_mark s then fault QuitInTransaction else rest)
+quit_frame rest = look (λ s. if is_function s then fault WrongQuit else end_frame rest)
+
+-- the rest in a function's own frame, whose QUIT gives a value; in any other it is QUIT (this profile)
+abbrev pub in_function : Timed → Timed
+in_function rest = look (λ s. if is_function s then rest else fault WrongQuit)
 
 -- the rest with a new frame, if there may be one more; else DEPTH
 abbrev pub deeper : Timed → Timed
@@ -268,7 +276,7 @@ module _ (points : Points) (here : Here) where
   abbrev pub start_all : List Started → Timed → Timed
   start_all [] rest = rest
   start_all (s ∷ list) rest =
-      ev_actuals points here s.actuals (λ vs. ev_timeout s.timeout (λ timeout. turn (start_job (entry_of here s.target) vs timeout (start_all list rest))))
+      ev_actuals points here (as_actuals s.actuals) (λ vs. ev_timeout s.timeout (λ timeout. turn (start_job (entry_of here s.target) vs timeout (start_all list rest))))
 
   -- the names of variables, each of which is whole before the next one
   abbrev pub ev_names : List Variable → (List Name → Timed) → Timed
@@ -351,7 +359,7 @@ module _ (points : Points) (here : Here) where
   calls [] rest = rest
   calls (c ∷ list) rest =
       when points here c.condition
-      (ev_actuals points here c.actuals (λ vs. turn (points (CalledAt false (entry_of here c.target) vs (λ v. change popped (calls list rest))))))
+      (ev_actuals points here (as_actuals c.actuals) (λ vs. turn (points (CalledAt false (entry_of here c.target) vs (λ v. change popped (calls list rest))))))
       (calls list rest)
 
   -- the block behind this line, in a frame of its own, which restores `$TEST`
@@ -389,6 +397,15 @@ module _ (points : Points) (here : Here) where
   abbrev pub restart_transaction : Timed
   restart_transaction = turn (roll_back_for_restart (turn begin_restart))
 
+  -- QUIT (8.2.16): without a value it leads out of the innermost FOR of the line, or else ends the frame. With one it ends a function's frame, and
+  -- may be in no FOR; that is looked at before the value is evaluated, in a turn of its own (this profile)
+  abbrev pub quit : Option Expr → Ways → Timed
+  quit None ways = turn (elim ways.for_quit [ None ↦ quit_frame (ways.leave []) | Some out ↦ out ])
+  quit (Some e) ways = turn (elim ways.for_quit [
+    | None ↦ in_function (ev points here e (λ v. turn (end_frame (ways.leave v))))
+    | Some out ↦ fault WrongQuit
+  ])
+
   -- a command with its postcondition, where these are the commands behind it in its line, and then the rest. HALT (8.2.7) has none.
   -- IF, ELSE and FOR have no postcondition
   abbrev pub obey : Command → Option Expr → List LineCommand → Ways → Timed → Timed
@@ -410,7 +427,7 @@ module _ (points : Points) (here : Here) where
   obey Forever c steps ways rest = turn (points (Pass here Always steps (turn ways.line_end) ways))
   obey (Do list) c steps ways rest = when points here c (do_all list rest) rest
   obey (Goto list) c steps ways rest = when points here c (jumps list ways.leave rest) rest
-  obey Quit c steps ways rest = when points here c (turn (elim ways.for_quit [ None ↦ quit_frame (ways.leave []) | Some out ↦ out ])) rest
+  obey (Quit value) c steps ways rest = when points here c (quit value ways) rest
   obey (New list) c steps ways rest = when points here c (new_all list rest) rest
   obey (TStart a) c steps ways rest = when points here c (start_transaction a rest) rest
   obey TCommit c steps ways rest = when points here c (commit_transaction rest) rest

@@ -9,13 +9,13 @@ use Rattle.mj_ast.specs.declared.expr.Scope.{Scope}
 use Rattle.mj_ast.specs.declared.expr.Scope.TheVariants as scopes
 use Rattle.mj_ast.specs.declared.function.NameFunction.{NameFunction}
 use Rattle.mj_ast.specs.declared.function.NameFunction.TheVariants as names
-use Rattle.mj_ast.specs.Syntax.{Expr, Chain, Tails, Done, Then, Operand, Literal, Value, Intrinsic, Unary, Group, Call, About, Select, Variable, Var, Exprs, No, More, Choices, Last, Before}
+use Rattle.mj_ast.specs.Syntax.{Expr, Chain, Tails, Done, Then, Operand, Literal, Value, Intrinsic, Unary, Group, Call, About, Select, Extrinsic, Variable, Var, Exprs, No, More, Choices, Last, Before, Actuals, NoActual, Given, Omitted}
 use Rattle.mj_semantics.specs.Functions.{call_value, optional}
 use Rattle.mj_semantics.specs.Names.{spelled, asks, question, function_told}
-use Rattle.mj_semantics.specs.State.{special_value}
-use Rattle.mj_semantics.specs.Outcome.{Timed, turn, look, need, given, fault}
-use Rattle.mj_semantics.specs.Lines.{Here}
-use Rattle.mj_semantics.specs.Points.{Points}
+use Rattle.mj_semantics.specs.State.{special_value, popped}
+use Rattle.mj_semantics.specs.Outcome.{Timed, turn, look, change, need, given, fault}
+use Rattle.mj_semantics.specs.Lines.{Here, entry_of}
+use Rattle.mj_semantics.specs.Points.{Points, Called}
 use Rattle.mj_semantics.specs.Accesses.{access, value_told}
 
 -- whether a list of subscripts has an empty one
@@ -68,6 +68,11 @@ about f x other rest =
     if asks f then given (question f x other) (λ a. access a (λ r. given (function_told f other r) rest))
     else given (spelled x) rest
 
+-- the values that a call passes: parentheses with nothing in them are one that is left out, and pass none
+abbrev pub plain_values : List (Option (List ℕ)) → List (Option (List ℕ))
+plain_values (None ∷ []) = []
+plain_values vs = vs
+
 -- where an expression stands is known, and what points lead to, since a call in it goes to a line
 module _ (points : Points) (here : Here) where
   abbrev mutual
@@ -83,7 +88,8 @@ module _ (points : Points) (here : Here) where
 
     -- 7.1: a literal, a variable, a special variable, an operator with its operand, an expression in parentheses, a function with its arguments, of
     -- which the first may be a variable. That one's name is complete before the others have their values, and the function asks once
-    -- they have (this profile).
+    -- they have (this profile). A function that is written in M (7.1.4.11) is a frame of its own, called once its actuals have their values; the
+    -- expression goes on with the value that its QUIT gives.
     pub ev_operand : Operand → (List ℕ → Timed) → Timed
     ev_operand (Literal t) rest = turn (rest t)
     ev_operand (Value v) rest = ev_name v (λ x. read x rest)
@@ -93,6 +99,8 @@ module _ (points : Points) (here : Here) where
     ev_operand (Call f es) rest = ev_all es (λ vs. turn (given (call_value f vs) rest))
     ev_operand (About f v es) rest = ev_named f v (λ x. ev_all es (λ vs. turn (about f x (optional 0 vs) rest)))
     ev_operand (Select choices) rest = ev_choices choices rest
+    ev_operand (Extrinsic t actuals) rest =
+        ev_actuals actuals (λ vs. turn (points (Called true (entry_of here t) (plain_values vs) (λ v. change popped (rest v)))))
 
     -- `$SELECT` (7.1.5.17): the value of the first true condition; later ones aren't looked at. Where none is true it is SELECT.
     -- A condition is tested in a turn of its own (this profile).
@@ -115,11 +123,11 @@ module _ (points : Points) (here : Here) where
     ev_all No rest = rest []
     ev_all (More e es) rest = ev e (λ v. ev_all es (λ vs. rest (v ∷ vs)))
 
-  -- the values of actuals, in order; one that is left out has none, and takes no turn (this profile)
-  abbrev pub ev_actuals : List (Option Expr) → (List (Option (List ℕ)) → Timed) → Timed
-  ev_actuals [] rest = rest []
-  ev_actuals (None ∷ es) rest = ev_actuals es (λ vs. rest (None ∷ vs))
-  ev_actuals (Some e ∷ es) rest = ev e (λ v. ev_actuals es (λ vs. rest (Some v ∷ vs)))
+    -- the values of actuals, in order; one that is left out has none, and takes no turn (this profile)
+    pub ev_actuals : Actuals → (List (Option (List ℕ)) → Timed) → Timed
+    ev_actuals NoActual rest = rest []
+    ev_actuals (Given e es) rest = ev e (λ v. ev_actuals es (λ vs. rest (Some v ∷ vs)))
+    ev_actuals (Omitted es) rest = ev_actuals es (λ vs. rest (None ∷ vs))
 
   -- the name of the local of a FOR
   abbrev pub ev_local : Variable → (Name → Timed) → Timed

@@ -46,9 +46,13 @@ entered image entry =
     let here : Here = record { routine = entry.routine; line = line_number image entry } in
     elim (line_at image here) [ None ↦ None | Some line ↦ Some (here, line) ]
 
--- the entry that an argument of DO or GOTO names, in this routine where it names none
+-- the entry that a target names, in this routine where it names none
+abbrev pub entry_in : List ℕ → Target → Entry
+entry_in routine t = record { label = t.label; routine = elim t.routine [ None ↦ routine | Some r ↦ r ] }
+
+-- the entry that an argument of DO or GOTO names, or a function, in a line that stands here
 abbrev pub entry_of : Here → Target → Entry
-entry_of here t = record { label = t.label; routine = elim t.routine [ None ↦ here.routine | Some r ↦ r ] }
+entry_of here t = entry_in here.routine t
 
 -- the levels of a routine's lines
 abbrev pub levels_of : List Routine → List ℕ → List ℕ

@@ -103,6 +103,14 @@ place_of s = elim s.frames [ [] ↦ None | f ∷ fs ↦ Some f.place ]
 abbrev pub level_of : State → ℕ
 level_of s = elim s.frames [ [] ↦ 1 | f ∷ fs ↦ f.level ]
 
+-- whether the innermost frame is a function's, whose QUIT gives a value
+abbrev pub is_function : State → Bool
+is_function s = elim s.frames [ [] ↦ false | f ∷ fs ↦ f.function ]
+
+-- whether any frame is a function's: an expression below it is half done
+abbrev pub is_in_function : State → Bool
+is_in_function s = list_any (λ f. f.function) s.frames
+
 -- whether the frame of the outermost TSTART is the innermost one
 abbrev pub is_at_mark : State → Bool
 is_at_mark s = elim s.mark [ None ↦ false | Some m ↦ m.depth == length s.frames ]

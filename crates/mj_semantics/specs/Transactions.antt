@@ -1,6 +1,6 @@
 -- What a job does with transactions: TSTART, TCOMMIT, TROLLBACK and TRESTART (ISO/IEC 11756:1999, 8.2.19 to 8.2.22).
 use Rattle.std.specs.Prelude.{ℕ, List, [], ◌∷◌, Option, Some, None, Bool, true, false, nat_eq, nat_lt, if◌then◌else◌}
-use Rattle.mj_text.specs.declared.fault.Fault.TheVariants.{NoTransaction, NoRestart, Limit}
+use Rattle.mj_text.specs.declared.fault.Fault.TheVariants.{NoTransaction, NoRestart, InTransaction, Limit}
 use Rattle.mj_ask.specs.declared.ask.Kind.{Kind}
 use Rattle.mj_ask.specs.declared.ask.Kind.TheVariants as kinds
 use Rattle.mj_ask.specs.declared.ask.Ask.TheVariants as asks
@@ -10,7 +10,7 @@ use Rattle.mj_ask.specs.declared.ask.Reply.TheVariants as replies
 use Rattle.mj_ast.specs.declared.routine.Serial.{Serial}
 use Rattle.mj_ast.specs.declared.routine.Serial.TheVariants as serial
 use Rattle.mj_ast.specs.Syntax.{Restored, Alone, Listed, Everything, Restartable}
-use Rattle.mj_semantics.specs.State.{Words, Only, AllBut, marked, raised, lowered, settled, can_restart, is_serial, restarted}
+use Rattle.mj_semantics.specs.State.{Words, Only, AllBut, is_in_function, marked, raised, lowered, settled, can_restart, is_serial, restarted}
 use Rattle.mj_semantics.specs.Outcome.{Timed, look, change, ask, go_back, fault}
 
 -- how many TSTARTs may be open (this profile)
@@ -46,10 +46,16 @@ abbrev pub serial_by : Option Restartable → Bool
 serial_by None = false
 serial_by (Some r) = says_serial r.serial
 
+-- the rest outside all functions; in one, a transaction would begin in the middle of an expression, which no restart could go on with: it is INTX
+-- (this profile)
+abbrev pub out_of_functions : Timed → Timed
+out_of_functions rest = look (λ s. if is_in_function s then fault InTransaction else rest)
+
 -- TSTART: the outermost one is asked for, and its rest follows; one in it counts, and what it says of a restart is nothing (this profile)
 abbrev pub begin_transaction : Option Words → Bool → Timed → Timed → Timed
 begin_transaction restored serially inner outermost = look (λ s.
-    if nat_eq s.level 0 then ask (asks.Shared (shared_asks.Begin (kind_of serially))) (λ r. change (marked restored serially) outermost)
+    if nat_eq s.level 0
+    then out_of_functions (ask (asks.Shared (shared_asks.Begin (kind_of serially))) (λ r. change (marked restored serially) outermost))
     else if nat_lt s.level levels_limit then change raised inner
     else fault Limit)
 

@@ -189,3 +189,60 @@ LEAVE(WHO) ; counts who is on call, and leaves if there are others
     drop(plain);
     done
 }
+
+// The example examples/dates: days are counted from the first of January 1841.
+#[test]
+fn days_have_dates(rt: HostRuntime) -> Result<(), Fail> {
+    prints(
+        &rt,
+        "DATES",
+        "DATES ; the dates of day counts, of which day 1 is the first of January 1841
+ FOR DAY=1,47117,58133 WRITE $$DATE(DAY),!
+ QUIT
+DATE(DAY) ; the date, as YYYY-MM-DD; years begin with March here, so that a leap day is the last
+ NEW ERA,YEAR,MONTH
+ SET DAY=DAY+672351,ERA=DAY\\146097,DAY=DAY#146097
+ SET YEAR=DAY-(DAY\\1460)+(DAY\\36524)-(DAY\\146096)\\365
+ SET DAY=DAY-(365*YEAR+(YEAR\\4)-(YEAR\\100)),MONTH=5*DAY+2\\153
+ SET DAY=DAY-(153*MONTH+2\\5)+1,MONTH=MONTH+2#12+1
+ QUIT 400*ERA+YEAR+(MONTH<3)_\"-\"_$$TWO(MONTH)_\"-\"_$$TWO(DAY)
+TWO(N) ; two digits
+ QUIT $EXTRACT(100+N,2,3)
+",
+        "run|--start|^DATES",
+        "mj-globals 1\n",
+        "1841-01-01\n1970-01-01\n2000-02-29\n",
+        Some("mj-globals 1\n"),
+    )
+}
+
+// The example examples/parts: a walk down a tree.
+#[test]
+fn parts_are_counted(rt: HostRuntime) -> Result<(), Fail> {
+    prints(
+        &rt,
+        "PARTS",
+        "PARTS ; how many of a part there are in a thing, with those in its parts
+ SET ^PART(\"bicycle\",\"frame\")=1,^PART(\"bicycle\",\"wheel\")=2
+ SET ^PART(\"wheel\",\"spoke\")=32,^PART(\"wheel\",\"tyre\")=1
+ WRITE $$COUNT(\"bicycle\",\"spoke\"),\" spokes\",!
+ QUIT
+COUNT(THING,PART) ; walks down the parts of a thing
+ IF THING=PART QUIT 1
+ NEW NEXT,SUM SET NEXT=\"\",SUM=0
+ FOR  SET NEXT=$ORDER(^PART(THING,NEXT)) QUIT:NEXT=\"\"  SET SUM=^PART(THING,NEXT)*$$COUNT(NEXT,PART)+SUM
+ QUIT SUM
+",
+        "run|--start|^PARTS",
+        "mj-globals 1\n",
+        "64 spokes\n",
+        Some(
+            "mj-globals 1
+^PART(\"bicycle\",\"frame\")=\"1\"
+^PART(\"bicycle\",\"wheel\")=\"2\"
+^PART(\"wheel\",\"spoke\")=\"32\"
+^PART(\"wheel\",\"tyre\")=\"1\"
+",
+        ),
+    )
+}

@@ -21,6 +21,8 @@ mod functions;
 #[cfg(test)]
 mod input;
 #[cfg(test)]
+mod invoked;
+#[cfg(test)]
 mod listings;
 #[cfg(test)]
 mod names;

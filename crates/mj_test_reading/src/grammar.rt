@@ -18,7 +18,16 @@ A;c => L2 R:1:2
  W 1  W 2 ;c => ok
  W:X 1 Q:X => ok
  Q  Q => ok
- Q W 1 => L7 R:1:4 extrinsic
+ Q W 1 => L2 R:1:6
+ Q W W 1 => ok
+ Q:X 1,2 => L2 R:1:7
+ W $$A,$$^R,$$A^R,$$01(1,,X)+1 => ok
+ W $$A()_$$A(,) => ok
+ W $$ => L2 R:1:6
+ W $$+1 => L2 R:1:6
+ W $$A^ => L2 R:1:8
+ W $$A(1 => L2 R:1:9
+ W $$A(1)) => L2 R:1:10
  W  1 => L2 R:1:4
  W => L2 R:1:3
  I:1 1 => L2 R:1:3
@@ -233,8 +242,9 @@ fn each_refusal_is_given(rt: HostRuntime) -> Result<(), Fail> {
  WRITE $TEXT(A) => L7 R:1:8 function
  WRITE $HOROLOG => L7 R:1:8 variable
  XECUTE \"X\" => L7 R:1:2 command
- WRITE $$A => L7 R:1:8 extrinsic
- QUIT 1 => L7 R:1:7 extrinsic
+ WRITE $$@A => L7 R:1:10 indirection
+ WRITE $$A^@R => L7 R:1:12 indirection
+ WRITE $$A(.X) => L7 R:1:12 by reference
  TSTART ():T=\"x\" => L7 R:1:12 transaction id
  TS X:(TRANSACTIONID=X) => L7 R:1:8 transaction id
  TSTART *:ts => L7 R:1:11 transaction id

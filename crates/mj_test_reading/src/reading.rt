@@ -30,7 +30,7 @@ fn control_is_read_or_refused(rt: HostRuntime) -> Result<(), Fail> {
  N () => L2 R:1:5
  N A(1) => L2 R:1:5
  Q:$test'=1  W $T => ok
- Q X => L7 R:1:4 extrinsic
+ Q X => ok
 ";
     judge(&rt, Reading::File, rows)
 }
@@ -81,7 +81,7 @@ fn values_that_are_left_out_are_named(rt: HostRuntime) -> Result<(), Fail> {
  W X'=?1N => L2 R:1:7
  S X'?1N=1 => L2 R:1:5
  Q '?1N => L2 R:1:4
- Q 'X => L7 R:1:4 extrinsic
+ Q 'X => ok
  I X]?1 => L2 R:1:6
  W X'Y => L2 R:1:5
  W ^(1) => L7 R:1:5 naked
@@ -152,20 +152,27 @@ fn calls_that_are_left_out_are_named(rt: HostRuntime) -> Result<(), Fail> {
 }
 
 #[test]
-fn values_of_quit_are_left_out(rt: HostRuntime) -> Result<(), Fail> {
-    let rows = " W $$A => L7 R:1:4 extrinsic
- W $$^R => L7 R:1:4 extrinsic
- SET $$A=1 => L7 R:1:6 extrinsic
- D $$A => L7 R:1:4 extrinsic
- Q 1 => L7 R:1:4 extrinsic
- Q SET X=1 => L7 R:1:4 extrinsic
- W 1 Q:X @Y => L7 R:1:10 extrinsic
- Q $H => L7 R:1:4 extrinsic
- Q $$A => L7 R:1:4 extrinsic
- Q .5 => L7 R:1:4 extrinsic
- Q ^X => L7 R:1:4 extrinsic
- Q -X => L7 R:1:4 extrinsic
- Q \"a\" => L7 R:1:4 extrinsic
+fn values_of_quit_are_read(rt: HostRuntime) -> Result<(), Fail> {
+    let rows = " W $$A => ok
+ W $$^R => ok
+ SET $$A=1 => L2 R:1:6
+ D $$A => L2 R:1:4
+ W $$A+ => L2 R:1:8
+ W ^$$A => L7 R:1:5 structured
+ W $$1E5 => L7 R:1:7 exponent
+ W $$1.5 => L7 R:1:7 fraction
+ W $$ABCDEFGHIJKLMNOPQRSTUVWXYZABCDE => ok
+ W $$ABCDEFGHIJKLMNOPQRSTUVWXYZABCDEF => L5 R:1
+ Q 1 => ok
+ Q SET X=1 => L7 R:1:8 command
+ W 1 Q:X @Y => L7 R:1:10 indirection
+ Q $H => L7 R:1:4 variable
+ Q $$A => ok
+ Q .5 => L7 R:1:4 fraction
+ Q ^X => ok
+ Q -X => ok
+ Q \"a\" => ok
+ Q @X => L7 R:1:4 indirection
  Q .X => L2 R:1:4
  Q $ => L2 R:1:4
  Q ) => L2 R:1:4
@@ -173,7 +180,7 @@ fn values_of_quit_are_left_out(rt: HostRuntime) -> Result<(), Fail> {
  Q \"a => L2 R:1:4
  Q  X => L7 R:1:5 command
  Q  1 => L2 R:1:5
- Q W 1 Q 1 => L7 R:1:4 extrinsic
+ Q W 1 Q 1 => L2 R:1:6
  HALT 1 => L2 R:1:7
 A W 1~A W @X => L3 R:2
  W @X S X=ABCDEFGHIJKLMNOPQRSTUVWXYZABCDEF => L7 R:1:4 indirection

@@ -1,6 +1,6 @@
 // Where a restart goes on.
 
-ghost use Rattle.std.specs.Prelude.{◌≡◌, ◌+◌, ◌<◌, ◌^◌, IfOk, OnErr, map};
+ghost use Rattle.std.specs.Prelude.{◌≡◌, ◌+◌, ◌-◌, ◌<◌, ◌≤◌, ◌^◌, [], IfOk, OnErr, length, map};
 ghost use Rattle.mj_pcode.specs.declared.instr.Instr.TheVariants as instrs;
 ghost use Rattle.mj_machine.specs.Kept.{Stays};
 ghost use Rattle.mj_machine.specs.Contexts.{loop_of, call_of};
@@ -8,6 +8,7 @@ ghost use Rattle.mj_transaction_ops.specs.Restarts.{ObeysAmongAlone, IsMarked};
 
 use mj_frames::{Call, Loop};
 use mj_machine::{Control, Machine, Return, TurnOutcome};
+use mj_text::Text;
 use std::alloc::{AllocError, Global};
 
 /// Marks where a restart of the transaction goes on: here.
@@ -57,11 +58,38 @@ fn copied_calls(alloc: Global, calls: &[Call]) -> Result<Vec<Call>, AllocError>
     let mut copy = Vec::with_capacity(alloc, calls.len())?;
     for call in calls {
         let loops = copied_loops(alloc, &call.loops)?;
+        let operands = copied_operands(alloc, &call.operands)?;
         copy.push(Call {
             unit: call.unit,
             pc: call.pc,
             loops,
+            operands,
+            function: call.function,
         })?;
     }
     Ok(copy)
+}
+
+// Copies operands, with room for one more where there are some. None are kept while a transaction begins, so that nothing is copied here then.
+fn copied_operands(alloc: Global, operands: &[Text]) -> Result<Vec<Text>, AllocError>
+    ensures same { IfOk result (λ list. list.items ≡ operands.now) }
+    ensures room { IfOk result (λ list. list.len ≤ list.cap - 1) }
+{
+    let mut copy = room_for(alloc, operands)?;
+    for text in operands {
+        copy.push_reserved(text.try_clone()?);
+    }
+    Ok(copy)
+}
+
+// A list with room for operands, and for one more where there are some.
+fn room_for(alloc: Global, operands: &[Text]) -> Result<Vec<Text>, AllocError>
+    ensures none { IfOk result (λ list. list.items ≡ []) }
+    ensures len { IfOk result (λ list. list.len ≡ 0) }
+    ensures room { IfOk result (λ list. length operands.now ≤ list.cap - 1) }
+{
+    if operands.is_empty() {
+        return Ok(Vec::new(alloc));
+    }
+    Ok(Vec::with_capacity(alloc, operands.len() + 1)?)
 }

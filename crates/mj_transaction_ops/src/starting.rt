@@ -23,7 +23,8 @@ use std::alloc::{AllocError, Global};
 /// How many TSTARTs may be open.
 const LEVELS_LIMIT: u8 = 255;
 
-/// Begins a transaction, or adds a level where one is open. There the next instruction is passed over.
+/// Begins a transaction, or adds a level where one is open. There the next instruction is passed over. None begins while a function's
+/// frame stands, as no restart could go on with the half-done expression.
 #[inline(never)]
 pub fn start_transaction(
     alloc: Global,
@@ -44,6 +45,9 @@ pub fn start_transaction(
         machine.level += 1;
         machine.control = Control::At(pc + 2);
         return Ok(TurnOutcome::Next);
+    }
+    if machine.frames.any_function() {
+        return Ok(fail(Fault::InTransaction, machine));
     }
     if machine.replied >= STEPS_LIMIT {
         return Ok(fail(Fault::Steps, machine));

@@ -10,11 +10,11 @@ ghost use Rattle.mj_turn.specs.Groups.{IsAlike, IsOther, IsOutside};
 ghost use Rattle.mj_turn.specs.Sound.{IsReady, IsSound};
 ghost use Rattle.mj_turn.specs.Units.{AreSmall, IsSmall};
 
-use crate::calling::{begin, call_line};
+use crate::calling::{begin, call_function, call_line};
 use crate::ending::{close, tell_fault};
 use crate::entering::{block, go_to};
 use crate::flow::{branch, end_unit, enter_line, set_test};
-use crate::leaving::quit;
+use crate::leaving::{check_function, give_value, quit};
 use crate::news::{new_except, new_words};
 use crate::repeat;
 use crate::start::Start;
@@ -127,10 +127,13 @@ fn obey_control(
         Instr::Do(entry, shape) => call_line(alloc, units, pc, entry, shape, machine),
         Instr::DoBlock(line) => block(alloc, unit, pc, *line, machine),
         Instr::Goto(entry) => Ok(go_to(units, entry, machine)),
-        Instr::Quit => {
-            quit(machine);
-            Ok(TurnOutcome::Next)
+        Instr::Quit => quit(machine),
+        Instr::Invoke(target, shape) => {
+            call_function(alloc, units, unit, pc, target, shape, machine)
         }
+        Instr::CheckFunction => Ok(check_function(pc, machine)),
+        Instr::FailQuit => Ok(fail(Fault::Quit, machine)),
+        Instr::GiveValue => Ok(give_value(machine)),
         Instr::New(words) => new_words(pc, words, machine),
         Instr::NewExcept(words) => new_except(pc, words, machine),
         _ => obey_outside(alloc, units, unit, pc, instr, machine, given),

@@ -4,7 +4,7 @@ use Rattle.std.proofs.lemmas.List.{reverse-append, take-append-drop, take-append
 use Rattle.std.proofs.lemmas.Bool.Decides.{nat_tests}
 use Rattle.mj_ast.specs.declared.sign.Sign.TheVariants.{Colon, Comma, Open}
 use Rattle.mj_ast.specs.Syntax.{Line}
-use Rattle.mj_ast.specs.Tokens.{Token, Word, Called, Special, Digits, Signed, Blank}
+use Rattle.mj_ast.specs.Tokens.{Token, Word, Called, Special, Invoked, Digits, Signed, Blank}
 use Rattle.mj_ast.specs.Lines.{SpellsLine, BeginsLine, BeginsLineWithin, IsStuck, IsDeep, IsOverlong, HasOverlong}
 use Rattle.mj_ast.specs.declared.keyword.Keyword.{Keyword}
 use Rattle.mj_ast.specs.declared.keyword.Keyword.TheVariants as keyword
@@ -61,6 +61,7 @@ probe_short : (front : List Token) (t : Token) → IsProbe t → IsOverlong fron
 probe_short front (Word w) p o = omega arith
 probe_short front (Called w) p o = omega arith
 probe_short front (Special w) p o = omega arith
+probe_short front (Invoked w) p o = omega arith
 probe_short front (Signed Comma) p o = absurd p
 probe_short front t p o = absurd o
 

@@ -2,7 +2,7 @@
 use Rattle.std.proofs.Common.{◌≡◌, ◌∙◌, sym, subst, inl, inr, ℕ, List, [], ◌∷◌, take, drop, Option}
 use Rattle.mj_ast.specs.declared.construct.Construct.{Construct}
 use Rattle.mj_ast.specs.Tokens.{Token}
-use Rattle.mj_ast.specs.LeftOut.{StandsFor, IsFirstOf, IsNamed, IsNamedAt, IsNamedIn, IsQuitArgument, rows}
+use Rattle.mj_ast.specs.LeftOut.{StandsFor, IsFirstOf, IsNamed, IsNamedAt, IsNamedIn, rows}
 
 -- a row that doesn't fit is passed over
 pub passed : (r : Construct) (rs : List Construct) (front : List Token) (t : Token) (behind : List Token) (c : Option Construct) → (StandsFor r front t behind → ⊥) →
@@ -19,13 +19,7 @@ first_once (r ∷ rs) front t behind c d (inr g) (inl h) = absurd (g.0 h.0)
 first_once (r ∷ rs) front t behind c d (inr g) (inr h) = first_once rs front t behind c d g.1 h.1
 
 pub named_once : (front : List Token) (t : Token) (behind : List Token) (c d : Option Construct) → IsNamed front t behind c → IsNamed front t behind d → d ≡ c
-named_once front t behind c d (inl g) (inl h) = h.1 ∙ sym g.1
-named_once front t behind c d (inl g) (inr h) = absurd (h.0 g.0)
-named_once front t behind c d (inr g) (inl h) = absurd (g.0 h.0)
-named_once front t behind c d (inr g) (inr h) = first_once rows front t behind c d g.1 h.1
-
-pub by_rows : (front : List Token) (t : Token) (behind : List Token) (c : Option Construct) → (IsQuitArgument front t behind → ⊥) → IsFirstOf rows front t behind c → IsNamed front t behind c
-by_rows front t behind c n h = inr (n, h)
+named_once front t behind c d g h = first_once rows front t behind c d g h
 
 -- ---- at a place
 

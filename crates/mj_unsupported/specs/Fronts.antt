@@ -2,10 +2,10 @@
 use Rattle.std.specs.Prelude.{◌≡◌, ◌⊎◌, ◌≤◌, ◌+◌, ◌∷◌, ◌++◌, ◌&&◌, [], ℕ, Bool, true, List, Option, length, reverse}
 use Rattle.std.specs.Prelude.{MatchBool}
 use Rattle.mj_ast.specs.declared.sign.Sign.TheVariants.{Colon, Comma}
-use Rattle.mj_ast.specs.Tokens.{Token, Word, Called, Special, Digits, Signed}
+use Rattle.mj_ast.specs.Tokens.{Token, Word, Called, Special, Invoked, Digits, Signed}
 use Rattle.mj_ast.specs.Expressions.{depth_limit, width_limit, name_limit}
 use Rattle.mj_ast.specs.Lines.{BeginsLineWithin, HasOverlong}
-use Rattle.mj_ast.specs.LeftOut.{EndsInCommand, IsBehindColon, IsBehindDevice, IsBehindTimeout, IsNamedAt, MayBeginActual, MayBeginOperand, MayBeginOutput, ends_in, is_colon, is_digits, is_dot, is_slash, is_word, starts}
+use Rattle.mj_ast.specs.LeftOut.{EndsInCommand, IsBehindColon, IsBehindDevice, IsBehindTimeout, IsNamedAt, MayBeginActual, MayBeginOperand, MayBeginOutput, ends_in, ends_digits, is_colon, is_digits, is_dot, is_slash, is_word, starts}
 use Rattle.mj_ast.specs.declared.construct.Construct.{Construct}
 use Rattle.mj_lex.specs.declared.token.Lexeme.{Lexeme}
 use Rattle.mj_lex.specs.Seen.{tokens_seen}
@@ -32,7 +32,7 @@ IsOnlyName ls left c = (place : ℕ) → place + left ≡ length ls → (other :
 
 -- `.` behind digits, or before them where an operand may begin
 abbrev pub IsFraction : List Token → Token → List Token → Type 0
-IsFraction front t behind = (is_dot t ≡ true) × ((ends_in is_digits front ≡ true) ⊎ ((starts is_digits behind ≡ true) × MayBeginOperand front))
+IsFraction front t behind = (is_dot t ≡ true) × ((ends_in ends_digits front ≡ true) ⊎ ((starts is_digits behind ≡ true) × MayBeginOperand front))
 
 -- `.` and a word where an actual may begin
 abbrev pub IsByReference : List Token → Token → List Token → Type 0
@@ -55,6 +55,7 @@ abbrev pub IsProbe : Token → Type 0
 IsProbe (Word w) = length w ≤ name_limit
 IsProbe (Called w) = length w ≤ name_limit
 IsProbe (Special w) = length w ≤ name_limit
+IsProbe (Invoked w) = length w ≤ name_limit
 IsProbe (Digits d) = ⊥
 IsProbe (Signed Comma) = ⊥
 IsProbe t = Unit {0}

@@ -33,7 +33,7 @@ fn keyword_for(command: &Command) -> Keyword
         Command::Forever => Keyword::For,
         Command::Do(_) => Keyword::Do,
         Command::Goto(_) => Keyword::Goto,
-        Command::Quit => Keyword::Quit,
+        Command::Quit(_) => Keyword::Quit,
         Command::New(_) => Keyword::New,
         Command::Open(_) => Keyword::Open,
         Command::Use(_) => Keyword::Use,

@@ -7,7 +7,6 @@ ghost use Rattle.mj_cmd.specs.Said.{IsStuckWith};
 ghost use Rattle.mj_lex.specs.Seen.{token_seen, tokens_seen};
 ghost use Rattle.mj_unsupported.specs.Fronts.{IsFront, IsOnlyName};
 
-use crate::quit::is_quit_argument;
 use crate::rows::fits;
 use mj_ast::Construct;
 use mj_lex::{Lexeme, Token, next};
@@ -44,7 +43,7 @@ fn first_of(
     Ok(None)
 }
 
-/// What the token stands for, if it does: an argument of QUIT comes first, then the rows in their order.
+/// What the token stands for, if it does: the rows in their order.
 fn named(
     alloc: Global,
     front: &[Lexeme],
@@ -54,9 +53,6 @@ fn named(
     requires { IsFront (tokens_seen front.now) }
     ensures { IfOk result (λ c. IsNamed (tokens_seen front.now) (token_seen token.entry) (tokens_seen behind.now) c) }
 {
-    if is_quit_argument(alloc, front, token, behind)? {
-        return Ok(Some(Construct::Extrinsic));
-    }
     let rows = [
         Construct::Indirection,
         Construct::Fraction,
@@ -82,7 +78,6 @@ fn named(
         Construct::Function,
         Construct::Variable,
         Construct::Command,
-        Construct::Extrinsic,
     ];
     first_of(alloc, &rows, front, token, behind)
 }

@@ -8,7 +8,6 @@
 mod devices;
 mod last;
 mod left;
-mod quit;
 mod rows;
 mod stand;
 mod tokens;

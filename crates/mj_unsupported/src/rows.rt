@@ -2,13 +2,14 @@
 
 ghost use Rattle.std.specs.Prelude.{◌≡◌, ◌&&◌, ◌||◌, IfOk, reverse, true};
 ghost use Rattle.mj_ast.specs.LeftOut.{StandsFor, IsBehindDevice, IsBehindInput, IsBehindLabel, IsBehindSerial, IsBehindTimeout, MayBeOperator};
-ghost use Rattle.mj_ast.specs.LeftOut.{MayBeginCommand, MayBeginDestination, MayBeginName, MayBeginOutput, MayBeginRestartable, called as the_called, ends_in};
+ghost use Rattle.mj_ast.specs.LeftOut.{MayBeginCommand, MayBeginDestination, MayBeginName, MayBeginOutput, MayBeginRestartable, called as the_called};
+ghost use Rattle.mj_ast.specs.LeftOut.{ends_in};
 ghost use Rattle.mj_ast.specs.LeftOut.{has_dollar as the_dollar, is_at as the_at, is_bar as the_bar, is_bracket as the_bracket, is_caret as the_caret};
-ghost use Rattle.mj_ast.specs.LeftOut.{is_close as the_close, is_colon as the_colon, is_comma as the_comma, is_comma_in, is_digits as the_digits, is_exponent};
+ghost use Rattle.mj_ast.specs.LeftOut.{is_close as the_close, is_colon as the_colon, is_comma as the_comma, is_comma_in, ends_digits as the_digits, is_exponent};
 ghost use Rattle.mj_ast.specs.LeftOut.{is_extract as the_extract, is_hash as the_hash, is_justify as the_justify, is_match as the_match, is_name as the_name};
 ghost use Rattle.mj_ast.specs.LeftOut.{is_no_function, is_no_variable, is_open as the_open, is_order_name as the_order_name, is_plus as the_plus};
 ghost use Rattle.mj_ast.specs.LeftOut.{is_query as the_query, is_slash as the_slash, is_star as the_star, is_transaction_word as the_transaction_word};
-ghost use Rattle.mj_ast.specs.LeftOut.{is_two_dollars, is_unknown as the_unknown};
+ghost use Rattle.mj_ast.specs.LeftOut.{is_unknown as the_unknown};
 ghost use Rattle.mj_lex.specs.Seen.{token_seen, tokens_seen};
 ghost use Rattle.mj_unsupported.specs.Fronts.{IsFront, Says, IsFraction, IsByReference, IsDeviceParameters, IsMnemonicSpace};
 
@@ -19,8 +20,8 @@ use crate::stand::{
 };
 use crate::tokens::{
     ends_in_caret, ends_in_digits, ends_in_star, has_dollar, is_at, is_bar, is_bracket, is_close,
-    is_colon, is_comma, is_dollar, is_dot, is_hash, is_negated_question, is_open, is_plus,
-    is_question, is_slash, is_star, starts_digits, starts_dollar, starts_word,
+    is_colon, is_comma, is_dot, is_hash, is_negated_question, is_open, is_plus, is_question,
+    is_slash, is_star, starts_digits, starts_word,
 };
 use crate::transactions::{is_behind_serial, may_begin_restartable};
 use crate::words::{
@@ -331,13 +332,6 @@ fn command(alloc: Global, front: &[Lexeme], token: Token) -> Result<bool, AllocE
     may_begin_command(alloc, front)
 }
 
-/// Whether it is `$$`.
-fn extrinsic(token: Token, behind: &[Lexeme]) -> bool
-    ensures { result ≡ is_two_dollars (token_seen token.entry) (tokens_seen behind.now) }
-{
-    is_dollar(token) && starts_dollar(behind)
-}
-
 /// Whether the token stands for the construct by its row.
 pub fn fits(
     alloc: Global,
@@ -374,6 +368,5 @@ pub fn fits(
         Construct::Function => Ok(function(token)),
         Construct::Variable => Ok(variable(token)),
         Construct::Command => command(alloc, front, token),
-        Construct::Extrinsic => Ok(extrinsic(token, behind)),
     }
 }

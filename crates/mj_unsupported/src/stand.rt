@@ -4,11 +4,13 @@ ghost use Rattle.std.specs.Prelude.{◌≡◌, ◌⊎◌, IfOk, codes, true};
 ghost use Rattle.mj_ast.specs.declared.sign.Sign.TheVariants.{Caret, Close, Colon, Exclamation, Star, Underscore};
 ghost use Rattle.mj_ast.specs.Tokens.{Called, Signed, Special, Word};
 ghost use Rattle.mj_ast.specs.LeftOut.{IsBehindLabel, MayBeOperator, MayBeginActual, MayBeginCommand, MayBeginDestination, MayBeginName, MayBeginOperand};
-ghost use Rattle.mj_ast.specs.LeftOut.{MayBeginOutput, MayStand, is_in_formals as in_formals};
+ghost use Rattle.mj_ast.specs.LeftOut.{MayBeginOutput, MayStand, is_in_formals as in_formals, wants_name as the_wanted};
 ghost use Rattle.mj_lex.specs.Seen.{token_seen, tokens_seen};
 ghost use Rattle.mj_unsupported.specs.Fronts.{IsFront, IsProbe, Says};
 
-use crate::tokens::{ends_in_blank_or_dot, ends_in_label, ends_in_open_or_comma, has_no_blank};
+use crate::tokens::{
+    ends_in_blank_or_dot, ends_in_dollars, ends_in_label, ends_in_open_or_comma, has_no_blank,
+};
 use mj_ast::Sign;
 use mj_cmd::line;
 use mj_expr::ParseError;
@@ -42,12 +44,19 @@ fn is_in_formals(front: &[Lexeme]) -> bool
     has_no_blank(front) && ends_in_open_or_comma(front)
 }
 
+/// Whether a name is wanted as a formal, or behind `$$`.
+fn wants_name(front: &[Lexeme]) -> bool
+    ensures { result ≡ the_wanted (tokens_seen front.now) }
+{
+    is_in_formals(front) || ends_in_dollars(front)
+}
+
 /// Whether a name may begin.
 pub fn may_begin_name(alloc: Global, front: &[Lexeme]) -> Result<bool, AllocError>
     requires { IsFront (tokens_seen front.now) }
     ensures { IfOk result (λ b. Says b (MayBeginName (tokens_seen front.now))) }
 {
-    if is_in_formals(front) {
+    if wants_name(front) {
         return Ok(true);
     }
     may_stand(alloc, front, Token::Word(b"A"))

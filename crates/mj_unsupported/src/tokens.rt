@@ -7,7 +7,7 @@ ghost use Rattle.mj_ast.specs.LeftOut.{is_close as the_close, is_colon as the_co
 ghost use Rattle.mj_ast.specs.LeftOut.{is_dollar as the_stray_dollar, is_dot as the_dot, is_hash as the_hash, is_label as the_label};
 ghost use Rattle.mj_ast.specs.LeftOut.{is_negated_question as the_negated_question, is_open as the_open, is_open_or_comma as the_open_or_comma};
 ghost use Rattle.mj_ast.specs.LeftOut.{is_plus as the_plus, is_question as the_question, is_slash as the_slash, is_star as the_star, is_word as the_word};
-ghost use Rattle.mj_ast.specs.LeftOut.{starts, ends_in};
+ghost use Rattle.mj_ast.specs.LeftOut.{starts, ends_in, ends_digits as the_number, is_dollars as the_dollars};
 ghost use Rattle.mj_lex.specs.Seen.{token_seen, tokens_seen};
 ghost use Rattle.mj_unsupported.specs.Fronts.{seen_back};
 
@@ -55,13 +55,34 @@ pub fn is_dollar(token: Token) -> bool
 pub fn has_dollar(token: Token) -> bool
     ensures { result ≡ the_dollar (token_seen token.entry) }
 {
-    matches!(token, Token::Special(_) | Token::Called(_)) || is_dollar(token)
+    matches!(
+        token,
+        Token::Special(_)
+            | Token::Called(_)
+            | Token::Invoked(_)
+            | Token::Numbered(_)
+            | Token::Dollars
+    ) || is_dollar(token)
 }
 
 pub fn is_digits(token: Token) -> bool
     ensures { result ≡ the_digits (token_seen token.entry) }
 {
     matches!(token, Token::Digits(_))
+}
+
+/// Digits, as the label of a function or not.
+pub fn ends_digits(token: Token) -> bool
+    ensures { result ≡ the_number (token_seen token.entry) }
+{
+    matches!(token, Token::Numbered(_)) || is_digits(token)
+}
+
+/// `$$` without a label.
+pub fn is_dollars(token: Token) -> bool
+    ensures { result ≡ the_dollars (token_seen token.entry) }
+{
+    matches!(token, Token::Dollars)
 }
 
 pub fn is_word(token: Token) -> bool
@@ -149,12 +170,12 @@ pub fn last<'a, 't>(tokens: &'t [Lexeme<'a>]) -> Option<(Token<'a>, &'t [Lexeme<
     Some((tokens[end].token, &tokens[..end]))
 }
 
-/// Whether digits are the last token.
+/// Whether digits are the last token, as the label of a function or not.
 pub fn ends_in_digits(tokens: &[Lexeme]) -> bool
-    ensures { result ≡ ends_in the_digits (tokens_seen tokens.now) }
+    ensures { result ≡ ends_in the_number (tokens_seen tokens.now) }
 {
     match last(tokens) {
-        Some((end, _)) => is_digits(end),
+        Some((end, _)) => ends_digits(end),
         None => false,
     }
 }
@@ -175,6 +196,16 @@ pub fn ends_in_caret(tokens: &[Lexeme]) -> bool
 {
     match last(tokens) {
         Some((end, _)) => is_caret(end),
+        None => false,
+    }
+}
+
+/// Whether `$$` without a label is.
+pub fn ends_in_dollars(tokens: &[Lexeme]) -> bool
+    ensures { result ≡ ends_in the_dollars (tokens_seen tokens.now) }
+{
+    match last(tokens) {
+        Some((end, _)) => is_dollars(end),
         None => false,
     }
 }
@@ -235,16 +266,6 @@ pub fn starts_word(tokens: &[Lexeme]) -> bool
 {
     match next(tokens) {
         Some((token, _)) => is_word(token),
-        None => false,
-    }
-}
-
-/// Whether a `$` is, with or without a word behind it.
-pub fn starts_dollar(tokens: &[Lexeme]) -> bool
-    ensures { result ≡ starts the_dollar (tokens_seen tokens.now) }
-{
-    match next(tokens) {
-        Some((token, _)) => has_dollar(token),
         None => false,
     }
 }

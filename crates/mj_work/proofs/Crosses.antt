@@ -18,6 +18,7 @@ use Rattle.mj_ast.proofs.function.Special.TheSendSync as special
 use Rattle.mj_ast.proofs.expr.Operand.TheLaws.TheKnot as knot
 use Rattle.mj_ast.specs.contracts.expr.Expr as Expr
 use Rattle.mj_ast.specs.contracts.expr.Variable as Variable
+use Rattle.mj_ast.specs.contracts.expr.Actual as Actual
 use Rattle.mj_ast.proofs.routine.FormatMark.TheSendSync as FormatMark
 use Rattle.mj_ast.proofs.routine.ReadMode.TheSendSync as ReadMode
 use Rattle.mj_ast.proofs.routine.LockMode.TheSendSync as LockMode
@@ -56,6 +57,7 @@ ruleset leaves = (
   function.the_field_sync,
   named.the_field_sync,
   special.the_field_sync,
+  Target.the_sync,
 )
 
 pub expr_sync : IsSync Expr.the_row
@@ -63,6 +65,9 @@ expr_sync = as_row_sync Expr.the_field (search (knot.sync-Expr, leaves))
 
 pub variable_sync : IsSync Variable.the_row
 variable_sync = as_row_sync Variable.the_field (search (knot.sync-Variable, leaves))
+
+pub actual_sync : IsSync Actual.the_row
+actual_sync = as_row_sync Actual.the_field (search (knot.sync-Actual, leaves))
 
 pub text_sync : IsSync (as_row Text.the_field)
 text_sync = as_row_sync Text.the_field text.the_sync
@@ -81,6 +86,7 @@ ruleset parts = (
   text.the_sync,
   expr_sync,
   variable_sync,
+  actual_sync,
   FormatMark.the_sync,
   ReadMode.the_sync,
   LockMode.the_sync,

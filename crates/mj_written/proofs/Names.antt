@@ -17,10 +17,11 @@ use Rattle.mj_ast.specs.declared.function.NameFunction.TheVariants as names
 use Rattle.mj_ast.specs.Tokens.{is_digit, continues_word}
 use Rattle.mj_ast.specs.Routines.{IsName}
 use Rattle.mj_ast.specs.Syntax.{Target}
+use Rattle.mj_ast.specs.Expressions.{routine_symbols}
 use Rattle.mj_ast.specs.Commands.{entry_parts, target_parts}
 use Rattle.mj_semantics.specs.Lines.{Here, entry_of}
 use Rattle.mj_semantics.specs.Evaluation.{has_empty, is_global, before_last, named_by, name_of, named_for}
-use Rattle.mj_rou.specs.Words.{Each, IsLabel, IsPartWorded}
+use Rattle.mj_rou.specs.Words.{Each, IsWorded, IsLabel, IsPartWorded}
 use Rattle.mj_written.proofs.Locals.{local_whole}
 use Rattle.mj_written.specs.Formed.{is_local_name}
 
@@ -86,6 +87,14 @@ routine_is here t w h = by t.label t.routine h
     by l None h = w
     by None (Some r) h = word_is r h.1.0
     by (Some l) (Some r) h = word_is r h.1.1.0
+
+-- where a function begins
+pub function_routine : (here : Here) (t : Target) → is_word here.routine ≡ true → Each IsWorded (routine_symbols t.routine) → is_word (entry_of here t).routine ≡ true
+function_routine here t w h = by t.routine h
+  where
+    by : (r : Option (List ℕ)) → Each IsWorded (routine_symbols r) → is_word (elim r [ None ↦ here.routine | Some x ↦ x ]) ≡ true
+    by None h = w
+    by (Some r) h = word_is r h.1.0
 
 -- ---- names
 

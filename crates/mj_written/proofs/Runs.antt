@@ -3,7 +3,7 @@ use Rattle.std.proofs.Common.{◌≡◌, ℕ, zero, suc, ◌+◌, ◌-◌, List,
 use Rattle.std.specs.Prelude.{ℤ, nat_lt, nat_eq, slice_get, if◌then◌else◌}
 use Rattle.std.specs.List.{list_all}
 use Rattle.std.specs.Str.{bytes_eq}
-use Rattle.mj_text.specs.declared.fault.Fault.TheVariants.{NoLine}
+use Rattle.mj_text.specs.declared.fault.Fault.TheVariants.{NoLine, Quit as WrongQuit}
 use Rattle.mj_oper.specs.Operators.{binary_value, unary_value, truth_value}
 use Rattle.mj_num.specs.Number.{reading}
 use Rattle.mj_subs.specs.Name.{Name, is_word}
@@ -18,23 +18,23 @@ use Rattle.mj_ast.specs.declared.routine.FormatMark.{FormatMark}
 use Rattle.mj_ast.specs.declared.expr.Scope.{Scope}
 use Rattle.mj_ast.specs.declared.expr.Scope.TheVariants.{Local, Global}
 use Rattle.mj_ast.specs.declared.function.NameFunction.{NameFunction}
-use Rattle.mj_ast.specs.Syntax.{Expr, Chain, Tails, Done, Then, Operand, Literal, Value, Intrinsic, Unary, Group, Call, About, Select, Variable, Var, Exprs, No, More as Another, Choices, Last, Before, Destination, Plain, Pieces, Targets, One, Several, Assignment, Killed, Gone, Spared, Merged, Output, Shown, Format, Coded, Opened, Received, Input, Prompted, Arranged, Into, Called as Calling, Jumped as Jumping, Started as Starting, LockNames, Lone, Together, Locked, Range, Single, Endless, UpTo, Command, Set, Write, Halt, Hang, Job, Lock, OpenDevice, UseDevice, CloseDevice, Read, Kill, Merge, If, Else, For, Forever, Do, Goto, Quit, New, Restartable, TStart, TCommit, TRestart, TRollback, Break, LineCommand, Line, Routine}
-use Rattle.mj_ast.specs.Expressions.{Symbol, Name as NameSymbol, Mark, scoped, expr_symbols, tails_symbols, operand_symbols, variable_symbols, list_symbols, more_symbols, choices_symbols}
-use Rattle.mj_ast.specs.Commands.{Part, Put, Place as PlacePart, Text, with_commas, behind_commas, more_parts, destination_parts, targets_parts, assignment_parts, mark_part, column_parts, output_parts, opened_parts, read_mode_parts, received_parts, input_parts, killed_parts, merged_parts, value_parts, target_parts, guard_parts, wait_parts, actual_parts, actuals_parts, called_parts, jumped_parts, started_parts, mode_parts, variable_parts, lock_names_parts, locked_parts, range_parts, command_parts}
+use Rattle.mj_ast.specs.Syntax.{Expr, Chain, Tails, Done, Then, Operand, Literal, Value, Intrinsic, Unary, Group, Call, About, Select, Variable, Var, Exprs, No, More as Another, Choices, Last, Before, Extrinsic, Actuals, NoActual, Given, Omitted, as_actuals, Destination, Plain, Pieces, Targets, One, Several, Assignment, Killed, Gone, Spared, Merged, Output, Shown, Format, Coded, Opened, Received, Input, Prompted, Arranged, Into, Called as Calling, Jumped as Jumping, Started as Starting, LockNames, Lone, Together, Locked, Range, Single, Endless, UpTo, Command, Set, Write, Halt, Hang, Job, Lock, OpenDevice, UseDevice, CloseDevice, Read, Kill, Merge, If, Else, For, Forever, Do, Goto, Quit, New, Restartable, TStart, TCommit, TRestart, TRollback, Break, LineCommand, Line, Routine}
+use Rattle.mj_ast.specs.Expressions.{Symbol, Name as NameSymbol, Mark, scoped, expr_symbols, tails_symbols, operand_symbols, variable_symbols, list_symbols, more_symbols, choices_symbols, routine_symbols, actuals_symbols, further_symbols}
+use Rattle.mj_ast.specs.Commands.{Part, Put, Place as PlacePart, Text, with_commas, behind_commas, more_parts, destination_parts, targets_parts, assignment_parts, mark_part, column_parts, output_parts, opened_parts, read_mode_parts, received_parts, input_parts, killed_parts, merged_parts, value_parts, target_parts, guard_parts, wait_parts, actual_parts, actuals_parts, called_parts, jumped_parts, started_parts, mode_parts, variable_parts, lock_names_parts, locked_parts, range_parts, result_parts, command_parts}
 use Rattle.mj_semantics.specs.State.{State, Locals, Place, principal, level_of, special_value, set_test, kill_except, passed, popped, pushed, at_place, may_go}
-use Rattle.mj_semantics.specs.Outcome.{Outcome, Needs, Timed, no_restart, turn}
+use Rattle.mj_semantics.specs.Outcome.{Outcome, Needs, Timed, no_restart, turn, fault}
 use Rattle.mj_semantics.specs.Lines.{Here, place_at, next_line, line_before, lines_of, line_at, levels_of, line_number, entered, entry_of}
 use Rattle.mj_semantics.specs.Points.{Leave, Ways, Loop, Once, Always, By, Point, AtLine, Called, Jumped, Pass, Started, Points}
 use Rattle.mj_semantics.specs.Functions.{call_value, optional}
-use Rattle.mj_semantics.specs.Evaluation.{name_of, named_for, ev, ev_tails, ev_operand, ev_choices, ev_name, ev_named, ev_all, ev_actuals, ev_local, when}
-use Rattle.mj_semantics.specs.Commands.{Aim, Whole, Part as PartAim, mark_byte, quit_frame, ev_destination, ev_destinations, assign_to, assign_all, kill, kill_list, kill_all, merge, merge_all, arrange, output, output_all, ev_timeout, hang_all, start_all, ev_names, ev_lock_names, lock_list, lock_all, open_all, use_all, close_all, receive, input, read_all, ifs, ranges, calls, block, jumps, do_all, if_all, start_transaction, obey, obey_all}
+use Rattle.mj_semantics.specs.Evaluation.{name_of, named_for, ev, ev_tails, ev_operand, ev_choices, ev_name, ev_named, ev_all, ev_actuals, plain_values, ev_local, when}
+use Rattle.mj_semantics.specs.Commands.{Aim, Whole, Part as PartAim, mark_byte, end_frame, quit_frame, in_function, quit, ev_destination, ev_destinations, assign_to, assign_all, kill, kill_list, kill_all, merge, merge_all, arrange, output, output_all, ev_timeout, hang_all, start_all, ev_names, ev_lock_names, lock_list, lock_all, open_all, use_all, close_all, receive, input, read_all, ifs, ranges, calls, block, jumps, do_all, if_all, start_transaction, obey, obey_all}
 use Rattle.mj_semantics.specs.Transactions.{restored_by, listed_by, serial_by}
 use Rattle.mj_semantics.specs.Job.{quit_before, obey_line, call, jump, in_pass, at_point, points_of, Start, start as starting, opening, next}
 use Rattle.mj_rou.specs.Words.{Each, IsWorded, IsExprWorded, IsVariableWorded, IsPartWorded, IsConditionWorded, IsStepWorded, IsLineWorded, IsRoutineWorded}
 use Rattle.mj_written.specs.Formed.{are_locals}
-use Rattle.mj_written.proofs.Names.{word_is, entry_is, routine_is, IsNamed, named, Suits, suits}
+use Rattle.mj_written.proofs.Names.{word_is, entry_is, routine_is, function_routine, IsNamed, named, Suits, suits}
 use Rattle.mj_written.proofs.States.{IsFormed, pops, passes_on, spares}
-use Rattle.mj_written.proofs.Words.{IsFine, Asks, none_back, a_turn, some_turns, looked, changed, chosen, ended, faulted, is_known, is_given, to_its_device, restarts, reads, is_about, stores, IsAimed, puts, puts_all, removes, names_ask, takes_nodes, puts_nodes, news_all, quits_frame, goes_deeper, writes, tabs, writes_code, tests, IsLoop, goes_again, begins, reads_two, hangs, starts_job, unlocks_all, locks, opens_device, uses_device, closes, reads_input, begins_transaction, commits, rolls_back, gives_back, begins_again}
+use Rattle.mj_written.proofs.Words.{IsFine, Asks, none_back, a_turn, some_turns, looked, changed, chosen, ended, faulted, is_known, is_given, to_its_device, restarts, reads, is_about, stores, IsAimed, puts, puts_all, removes, names_ask, takes_nodes, puts_nodes, news_all, ends_frame, quits_frame, in_its_function, goes_deeper, writes, tabs, writes_code, tests, IsLoop, goes_again, begins, reads_two, hangs, starts_job, unlocks_all, locks, opens_device, uses_device, closes, reads_input, begins_transaction, commits, rolls_back, gives_back, begins_again}
 
 -- ---- lists
 
@@ -93,6 +93,27 @@ actuals_worded : (list : List (Option Expr)) → Each IsPartWorded (actuals_part
 actuals_worded [] h = tt
 actuals_worded (a ∷ list) h =
     each_actual (a ∷ list) (items actual_parts (a ∷ list) (apart IsPartWorded (with_commas actual_parts (a ∷ list)) (Put Close ∷ []) h.1).0)
+
+-- each expression among the actuals of a function, and of a call
+abbrev ArePassed : Actuals → Type 0
+ArePassed NoActual = Unit {0}
+ArePassed (Given e es) = IsExprWorded e × ArePassed es
+ArePassed (Omitted es) = ArePassed es
+
+further_worded : (es : Actuals) → Each IsWorded (further_symbols es) → ArePassed es
+further_worded NoActual h = tt
+further_worded (Given e es) h = let i = apart IsWorded (expr_symbols e) (further_symbols es) h.1 in (i.0, further_worded es i.1)
+further_worded (Omitted es) h = further_worded es h.1
+
+passed_worded : (es : Actuals) → Each IsWorded (actuals_symbols es) → ArePassed es
+passed_worded NoActual h = tt
+passed_worded (Given e es) h = let i = apart IsWorded (expr_symbols e) (further_symbols es) h.1 in (i.0, further_worded es i.1)
+passed_worded (Omitted es) h = further_worded es h.1
+
+as_passed : (list : List (Option Expr)) → Each IsActual list → ArePassed (as_actuals list)
+as_passed [] h = tt
+as_passed (None ∷ list) h = as_passed list h.1
+as_passed (Some e ∷ list) h = (h.0, as_passed list h.1)
 
 guard_worded : (o : Option Expr) → Each IsPartWorded (guard_parts o) → IsConditionWorded o
 guard_worded None h = tt
@@ -157,6 +178,10 @@ module _ (P : Points) (points : ArePoints P) (here : Here) (word : is_word here.
         let i = apart IsWorded (variable_symbols v) (more_symbols es) h.1.1 in
         named_asks f v i.0 (λ x n. all_ask es (more_worded es i.1) (λ vs. a_turn (is_about f x (optional 0 vs) n l)))
     operand_asks (Select choices) h l = choices_ask choices h.1.1 l
+    operand_asks (Extrinsic t es) h l =
+        let i = apart IsWorded (routine_symbols t.routine) (actuals_symbols es) h.1 in
+        actuals_ask es (passed_worded es i.1)
+        (λ vs. a_turn (points.by (Called true (entry_of here t) (plain_values vs) _) (function_routine here t word i.0, λ v. changed {c = popped} pops (l v))))
 
     choices_ask : (x : Choices) {f : List ℕ → Timed} → Each IsWorded (choices_symbols x) → ((v : List ℕ) → Asks (f v)) → Asks (ev_choices P here x f)
     choices_ask (Last c e) h l =
@@ -182,10 +207,10 @@ module _ (P : Points) (points : ArePoints P) (here : Here) (word : is_word here.
     all_ask No h l = l []
     all_ask (Another e es) h l = evaluates e h.0 (λ v. all_ask es h.1 (λ vs. l (v ∷ vs)))
 
-  actuals_ask : (es : List (Option Expr)) {f : List (Option (List ℕ)) → Timed} → Each IsActual es → ((vs : List (Option (List ℕ))) → Asks (f vs)) → Asks (ev_actuals P here es f)
-  actuals_ask [] h l = l []
-  actuals_ask (None ∷ es) h l = actuals_ask es h.1 (λ vs. l (None ∷ vs))
-  actuals_ask (Some e ∷ es) h l = evaluates e h.0 (λ v. actuals_ask es h.1 (λ vs. l (Some v ∷ vs)))
+    actuals_ask : (es : Actuals) {f : List (Option (List ℕ)) → Timed} → ArePassed es → ((vs : List (Option (List ℕ))) → Asks (f vs)) → Asks (ev_actuals P here es f)
+    actuals_ask NoActual h l = l []
+    actuals_ask (Given e es) h l = evaluates e h.0 (λ v. actuals_ask es h.1 (λ vs. l (Some v ∷ vs)))
+    actuals_ask (Omitted es) h l = actuals_ask es h (λ vs. l (None ∷ vs))
 
   local_asks : (v : Variable) {f : Name → Timed} → IsVariableWorded v → ((x : Name) → IsNamed x → Asks (f x)) → Asks (ev_local P here v f)
   local_asks (Var scope w es) h l =
@@ -267,7 +292,7 @@ module _ (P : Points) (points : ArePoints P) (here : Here) (word : is_word here.
   starts_all (s ∷ list) h l =
       let i = apart IsPartWorded (target_parts s.target) (actuals_parts s.actuals ++ wait_parts s.timeout) h.0 in
       let j = apart IsPartWorded (actuals_parts s.actuals) (wait_parts s.timeout) i.1 in
-      actuals_ask s.actuals (actuals_worded s.actuals j.0)
+      actuals_ask (as_actuals s.actuals) (as_passed s.actuals (actuals_worded s.actuals j.0))
       (λ vs. timeout_asks s.timeout (wait_worded s.timeout j.1) (λ t. a_turn (starts_job (entry_of here s.target) vs t (entry_is here s.target word i.0) (starts_all list h.1 l))))
 
   names_of_ask : (vs : List Variable) {f : List Name → Timed} → Parted variable_parts vs → ((xs : List Name) → Each IsNamed xs → Asks (f xs)) → Asks (ev_names P here vs f)
@@ -349,7 +374,7 @@ module _ (P : Points) (points : ArePoints P) (here : Here) (word : is_word here.
       let i = apart IsPartWorded (target_parts c.target) (actuals_parts c.actuals ++ guard_parts c.condition) h.0 in
       let j = apart IsPartWorded (actuals_parts c.actuals) (guard_parts c.condition) i.1 in
       where_so c.condition (guard_worded c.condition j.1)
-      (actuals_ask c.actuals (actuals_worded c.actuals j.0)
+      (actuals_ask (as_actuals c.actuals) (as_passed c.actuals (actuals_worded c.actuals j.0))
       (λ vs. a_turn (points.by (Called false (entry_of here c.target) vs _) (routine_is here c.target word i.0, λ v. changed {c = popped} pops (calls_ask list h.1 l)))))
       (calls_ask list h.1 l)
 
@@ -375,6 +400,15 @@ module _ (P : Points) (points : ArePoints P) (here : Here) (word : is_word here.
   quit_asks None h l = quits_frame (l [])
   quit_asks (Some f) h l = h
 
+  value_asks : (e : Expr) (o : Option Timed) {l : Leave} → IsExprWorded e → IsLeave l
+      → Asks (elim o [ None ↦ in_function (ev P here e (λ v. turn (end_frame (l v)))) | Some out ↦ fault WrongQuit ])
+  value_asks e None h l = in_its_function (evaluates e h (λ v. a_turn (ends_frame (l v))))
+  value_asks e (Some f) h l = faulted {f = WrongQuit}
+
+  quits : (o : Option Expr) {w : Ways} → Each IsPartWorded (result_parts o) → IsWays w → Asks (quit P here o w)
+  quits None {w = ways} h w = a_turn (quit_asks ways.for_quit w.for_quit w.leave)
+  quits (Some e) {w = ways} h w = a_turn (value_asks e ways.for_quit h.0 w.leave)
+
   starts_transaction : (a : Option Restartable) {f : Timed} → Asks f → Asks (start_transaction P here a f)
   starts_transaction a {f} l =
       names_ask (listed_by a) (a_turn (begins_transaction (restored_by a) (serial_by a) l (a_turn (points.by (Started f) l))))
@@ -399,7 +433,7 @@ module _ (P : Points) (points : ArePoints P) (here : Here) (word : is_word here.
   obeys Forever o body k h b w l = a_turn (a_pass Always body tt b (a_turn w.line_end) w)
   obeys (Do list) o body k h b w l = where_so o k (do_asks list (items called_parts list h) l) l
   obeys (Goto list) o body k h b w l = where_so o k (jumps_ask list (items jumped_parts list h) w.leave l) l
-  obeys Quit o body {w = ways} k h b w l = where_so o k (a_turn (quit_asks ways.for_quit w.for_quit w.leave)) l
+  obeys (Quit value) o body k h b w l = where_so o k (quits value h w) l
   obeys (New list) o body k h b w l = where_so o k (news_all list l) l
   obeys (TStart a) o body k h b w l = where_so o k (starts_transaction a l) l
   obeys TCommit o body k h b w l = where_so o k (a_turn (commits (a_turn begins_again) l)) l

@@ -5,7 +5,7 @@ use Rattle.std.specs.List.{list_all}
 use Rattle.std.proofs.lemmas.Bool.{lt-ltb}
 use Rattle.mj_text.specs.declared.text.TheConstants.{TEXT_LIMIT}
 use Rattle.mj_text.specs.declared.fault.Fault.{Fault}
-use Rattle.mj_text.specs.declared.fault.Fault.TheVariants.{Undefined, ForIndex, Steps, QuitInTransaction, Depth, NoTransaction, NoRestart, InTransaction, Limit, Device, NoDevice}
+use Rattle.mj_text.specs.declared.fault.Fault.TheVariants.{Undefined, ForIndex, Steps, Quit as WrongQuit, QuitInTransaction, Depth, NoTransaction, NoRestart, InTransaction, Limit, Device, NoDevice}
 use Rattle.mj_text.specs.Failing.{then_value}
 use Rattle.mj_num.specs.Number.{reading, sum_of, canonic_text}
 use Rattle.mj_subs.specs.Name.{Name, overlaps}
@@ -39,7 +39,7 @@ use Rattle.mj_ast.specs.declared.routine.FormatMark.{FormatMark}
 use Rattle.mj_ast.specs.declared.routine.ReadMode.{ReadMode}
 use Rattle.mj_ast.specs.Syntax.{Renewed, Fresh, Kept}
 use Rattle.mj_strfn.specs.Functions.{assigned_pieces, set_piece_value}
-use Rattle.mj_semantics.specs.State.{State, Words as Listed, Only, AllBut, accessed, wrote, broke, counted, hold, has_failed, principal, ending_order, is_at_mark, newed, devices_limit, is_open, may_close, column_at, with_device, used, dropped, marked, raised, lowered, settled, can_restart, is_serial, restarted}
+use Rattle.mj_semantics.specs.State.{State, Words as Listed, Only, AllBut, accessed, wrote, broke, counted, hold, has_failed, principal, ending_order, is_at_mark, newed, devices_limit, is_open, may_close, column_at, with_device, used, dropped, marked, raised, lowered, settled, can_restart, is_serial, restarted, is_function, is_in_function}
 use Rattle.mj_semantics.specs.Outcome.{Outcome, Needs, Ended, More, Handler, Timed, turn, turns, look, change, asking, over, no_restart, until, restartable, go_back, halt, ends, end, fault_bytes, fault, steps_limit, ask, tell, is_failed, to_device, need, given}
 use Rattle.mj_semantics.specs.Names.{direction_of, spelled, function_told}
 use Rattle.mj_semantics.specs.Functions.{needed, optional}
@@ -47,7 +47,7 @@ use Rattle.mj_semantics.specs.Accesses.{answer_told, answered, access, value_tol
 use Rattle.mj_semantics.specs.Evaluation.{read, about}
 use Rattle.mj_semantics.specs.Points.{Loop, Once, Always, By}
 use Rattle.mj_semantics.specs.Sharing.{is_limit, in_time, served, out_of_transaction, hang, start_job, unlock_all, take_names, give_names, lock}
-use Rattle.mj_semantics.specs.Commands.{Aim, Whole, Part, store, or_empty, renewed, assign_piece, put, put_all, remove, named, take_nodes, put_these, put_nodes, renewal, new_list, new_all, frames_limit, quit_frame, deeper, write, tab_bytes, tab, coded, write_code, if_test, is_within, stepped, for_again, first, reading_two}
+use Rattle.mj_semantics.specs.Commands.{Aim, Whole, Part, store, or_empty, renewed, assign_piece, put, put_all, remove, named, take_nodes, put_these, put_nodes, renewal, new_list, new_all, frames_limit, quit_frame, deeper, write, tab_bytes, tab, coded, write_code, if_test, is_within, stepped, for_again, first, reading_two, end_frame, in_function}
 use Rattle.mj_semantics.specs.Transactions.{levels_limit, kind_of, begin_transaction, in_transaction, is_clash, commit, roll_back, roll_back_for_restart, begin_restart}
 use Rattle.mj_semantics.specs.Devices.{is_got, has_no_session, obtained, request_device, begin_session, open_device, use_device, end_session, give_up, close, is_input, input_ask, input_told, read_input}
 use Rattle.mj_rou.specs.Words.{Each}
@@ -315,8 +315,14 @@ pub news_all : (list : List Renewed) {f : Timed} → Asks f → Asks (new_all li
 news_all [] l = a_turn (changed {c = newed (AllBut [])} (news (AllBut [])) l)
 news_all (r ∷ list) l = news_list (r ∷ list) l
 
+pub ends_frame : {f : Timed} → Asks f → Asks (end_frame f)
+ends_frame l = looked (λ s k. chosen (is_at_mark s) (faulted {f = QuitInTransaction}) l)
+
 pub quits_frame : {f : Timed} → Asks f → Asks (quit_frame f)
-quits_frame l = looked (λ s k. chosen (is_at_mark s) (faulted {f = QuitInTransaction}) l)
+quits_frame l = looked (λ s k. chosen (is_function s) (faulted {f = WrongQuit}) (ends_frame l))
+
+pub in_its_function : {f : Timed} → Asks f → Asks (in_function f)
+in_its_function l = looked (λ s k. chosen (is_function s) l (faulted {f = WrongQuit}))
 
 pub goes_deeper : {f : Timed} → Asks f → Asks (deeper f)
 goes_deeper l = looked (λ s k. chosen (nat_lt (length s.frames) frames_limit) l (faulted {f = Depth}))
@@ -461,7 +467,10 @@ reads_input m timeout l =
 pub begins_transaction : (o : Option Listed) (serial : Bool) {f f' : Timed} → Asks f → Asks f' → Asks (begin_transaction o serial f f')
 begins_transaction o serial l m =
     looked (λ s k.
-    chosen (nat_eq s.level 0) (asked (ask_kinds.Shared (shared_asks.Begin (kind_of serial))) refl (λ r p. changed {c = marked o serial} (marks o serial) m))
+    chosen (nat_eq s.level 0)
+    (looked (λ t j.
+    chosen (is_in_function t) (faulted {f = InTransaction})
+    (asked (ask_kinds.Shared (shared_asks.Begin (kind_of serial))) refl (λ r p. changed {c = marked o serial} (marks o serial) m))))
     (chosen (nat_lt s.level levels_limit) (changed {c = raised} raises l) (faulted {f = Limit})))
 
 within : {f : Timed} → Asks f → Asks (in_transaction f)

@@ -1,15 +1,16 @@
-use Rattle.std.proofs.Common.{◌≡◌, arith, ◌+◌, [], ◌∷◌, ◌++◌, length, ap, sym, ◌∙◌, append_assoc, length-append}
+use Rattle.std.proofs.Common.{◌≡◌, arith, ◌+◌, [], ◌∷◌, ◌++◌, length, map, ap, sym, ◌∙◌, append_assoc, length-append}
 use Rattle.std.proofs.lemmas.Result.{on_ok_weaker}
-use Rattle.mj_ast.specs.Trees.{tails_of, operand_of, exprs_of}
+use Rattle.mj_ast.specs.Syntax.{as_actuals}
+use Rattle.mj_ast.specs.Trees.{tails_of, operand_of, exprs_of, option_of}
 use Rattle.mj_ast.specs.declared.expr.Expr.{out-Expr}
 use Rattle.mj_ast.specs.Trees.{expr_of, choice_of, variable_of}
 use Rattle.mj_ast.specs.declared.expr.Choice.{out-Choice}
 use Rattle.mj_ast.specs.declared.expr.Variable.{out-Variable}
 use Rattle.mj_pcode.specs.declared.instr.Instr.TheVariants.{JumpUnless, Jump}
 use Rattle.mj_pcode.specs.declared.instr.Instr.TheVariants as instr
-use Rattle.mj_asm.specs.Code.{expr_code, tails_code, operand_code, exprs_code, subscripts_code, others_code, reference, count}
+use Rattle.mj_asm.specs.Code.{expr_code, tails_code, operand_code, exprs_code, subscripts_code, others_code, reference, count, actuals_code, shape_of, plain_shape}
 use Rattle.mj_asm.proofs.Emitted.{chosen, about_made}
-use Rattle.mj_asm.proofs.Rows.{expr_is, variable_is, call_is, about_is, choice_is, count_is}
+use Rattle.mj_asm.proofs.Rows.{expr_is, variable_is, call_is, about_is, extrinsic_is, choice_is, count_is}
 use Rattle.mj_asm.proofs.expr.+emit.Goals as goal
 
 pub emit_expr-returns : goal.emit_expr-returns
@@ -81,3 +82,19 @@ emit_operand-returns-in_ok-name-in-About-2 t c =
     ∙ ap (λ q. base ++ (cs ++ instr.CheckNamed f (reference x) ∷ (ce ++ instr.CallNameFunction f q (c.len-in-About.result + c.len-in-About-2.result) ∷ []))) c.in_ok-name-in-About-2.ensures
     ∙ ap (λ k. base ++ (cs ++ instr.CheckNamed f (reference x) ∷ (ce ++ instr.CallNameFunction f (reference x) k ∷ []))) total
     ∙ ap (λ o. base ++ operand_code (length base) o) (sym (ap operand_of c.in-About.is ∙ about_is f v c.in-About.others))) c.put-in-About-2.ensures
+
+pub emit_operand-returns-in_ok-begins-in-Extrinsic : goal.emit_operand-returns-in_ok-begins-in-Extrinsic
+emit_operand-returns-in_ok-begins-in-Extrinsic t c =
+    let base = c.args.code.now.items in
+    let x = c.in-Extrinsic.target in
+    let held = c.deref-in-Extrinsic.ensures.value in
+    let ca = actuals_code (length base) (as_actuals (map option_of c.in-Extrinsic.actuals.items)) in
+    let all = c.in_ok-written-in-Extrinsic.ensures.code ∙ ap (λ l. base ++ actuals_code (length base) (as_actuals (map option_of l))) held in
+    let passed = c.plain-passed.ensures ∙ ap plain_shape (c.in_ok-written-in-Extrinsic.ensures.shape ∙ ap (λ l. shape_of (as_actuals (map option_of l))) held) in
+    on_ok_weaker c.put-in-Extrinsic.result (λ h.
+    h
+    ∙ ap (λ l. l ++ instr.Invoke c.in_ok-begins-in-Extrinsic.begins c.plain-passed.result ∷ []) all
+    ∙ append_assoc base ca (instr.Invoke c.in_ok-begins-in-Extrinsic.begins c.plain-passed.result ∷ [])
+    ∙ ap (λ q. base ++ (ca ++ instr.Invoke q c.plain-passed.result ∷ [])) c.in_ok-begins-in-Extrinsic.ensures
+    ∙ ap (λ s. base ++ (ca ++ instr.Invoke x s ∷ [])) passed
+    ∙ ap (λ o. base ++ operand_code (length base) o) (sym (ap operand_of c.in-Extrinsic.is ∙ extrinsic_is x c.in-Extrinsic.actuals))) c.put-in-Extrinsic.ensures

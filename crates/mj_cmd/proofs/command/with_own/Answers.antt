@@ -2,11 +2,11 @@ use Rattle.std.proofs.Common.{◌∙◌, [], map, refl, ap, sym, true, false, in
 use Rattle.mj_ast.specs.declared.keyword.Keyword.{Keyword}
 use Rattle.mj_ast.specs.declared.keyword.Keyword.TheVariants as keyword
 use Rattle.mj_ast.specs.declared.keyword.Verb.TheVariants.{Of}
-use Rattle.mj_ast.specs.Syntax.{Set, Write, Hang, Job, Lock, Kill, Merge, If, For, Do, Goto, New, OpenDevice, UseDevice, CloseDevice, Read, TStart}
+use Rattle.mj_ast.specs.Syntax.{Set, Write, Hang, Job, Lock, Kill, Merge, If, For, Do, Goto, New, OpenDevice, UseDevice, CloseDevice, Read, TStart, Quit}
 use Rattle.mj_ast.specs.Commands.{called_parts, plain_called, started_parts, plain_started, locked_parts, assignment_parts, output_parts, opened_parts, input_parts, killed_parts, merged_parts, value_parts, jumped_parts, renewed_parts}
 use Rattle.mj_ast.specs.Trees.{assignment_of, output_of, opened_of, input_of, killed_of, merged_of, expr_of, variable_of, range_of, called_of, started_of, locked_of, jumped_of, renewed_of, restartable_of}
 use Rattle.mj_lex.specs.Seen.{tokens_seen}
-use Rattle.mj_line.specs.Forms.{Calls, Jumps, Starts, LockWanted, LockEnd, SetTarget, SetEnd, OutputWanted, OutputEnd, Writes, Reads, DeviceWanted, DeviceWaited, KillWanted, KillEnd, MergeInto, MergeEnd, ValueWanted, ValueEnd, ForWanted, LimitEnd, EntryWanted, GuardEnd, NewWanted, NewEnd, RestartWanted, SerialEnd, may_be_bare}
+use Rattle.mj_line.specs.Forms.{Calls, Jumps, Starts, LockWanted, LockEnd, SetTarget, SetEnd, OutputWanted, OutputEnd, Writes, Reads, DeviceWanted, DeviceWaited, KillWanted, KillEnd, MergeInto, MergeEnd, ValueWanted, ValueEnd, ForWanted, LimitEnd, EntryWanted, GuardEnd, NewWanted, NewEnd, RestartWanted, SerialEnd, ResultWanted, ResultEnd, may_be_bare}
 use Rattle.mj_line.specs.Machine.{Behind, At, args_rest, run}
 use Rattle.mj_cmd.proofs.Follow.{room_for, args_end, reads_as_err, refuses_from}
 use Rattle.mj_cmd.proofs.FollowLines.{blank_opens, at_keyword}
@@ -383,3 +383,25 @@ returns-in_err-argument-in-TStart-clause-reads c = λ m r o condition.
     (at_keyword m o condition c.args.keyword keyword.TStart (tokens_seen c.args.tokens.now) c.in-TStart.is ∙
     blank_opens m o condition (Of keyword.TStart) RestartWanted (tokens_seen c.args.tokens.now) (tokens_seen c.args.behind.now) c.requires.blank refl)
     (c.in_err-argument-in-TStart.ensures.reads m o condition (Of keyword.TStart) []))
+
+pub returns-in_ok-value-in-Quit-clause-reads : goal.returns-in_ok-value-in-Quit-clause-reads
+returns-in_ok-value-in-Quit-clause-reads c = λ m r o condition.
+    let a = c.in_ok-value-in-Quit.ensures.reads m (room_for c.args.phrases.limited m c.args.tokens.now c.args.behind.now c.requires.room r) o condition (Of keyword.Quit) [] in
+    let kw = ap (λ (k : Keyword). run m (tokens_seen c.in_ok-value-in-Quit.rest.now) (At (Behind (args_rest o condition (Of k) a.0)))) (sym c.in-Quit.is) in (
+      a.0,
+      λ l. ((Quit (Some (expr_of c.in_ok-value-in-Quit.value)), a.1 l, refl), sym c.in-Quit.is),
+      at_keyword m o condition c.args.keyword keyword.Quit (tokens_seen c.args.tokens.now) c.in-Quit.is
+          ∙ blank_opens m o condition (Of keyword.Quit) ResultWanted (tokens_seen c.args.tokens.now) (tokens_seen c.args.behind.now) c.requires.blank refl
+          ∙ a.2
+          ∙ args_end m o condition (Of keyword.Quit) a.0 ResultEnd (tokens_seen c.in_ok-value-in-Quit.rest.now) refl c.in_ok-value-in-Quit.ensures.parted
+          ∙ kw,
+    )
+
+pub returns-in_err-value-in-Quit-clause-reads : goal.returns-in_err-value-in-Quit-clause-reads
+returns-in_err-value-in-Quit-clause-reads c = λ m r o condition.
+    reads_as_err c.args.phrases.limited _ _ c.from_residual-in_err-value-in-Quit.result c.in_err-value-in-Quit.field-0.0 m c.args.tokens.now _ _
+    c.from_residual-in_err-value-in-Quit.ensures.1
+    (refuses_from c.args.phrases.limited c.in_err-value-in-Quit.field-0.0 _ _
+    (at_keyword m o condition c.args.keyword keyword.Quit (tokens_seen c.args.tokens.now) c.in-Quit.is ∙
+    blank_opens m o condition (Of keyword.Quit) ResultWanted (tokens_seen c.args.tokens.now) (tokens_seen c.args.behind.now) c.requires.blank refl)
+    (c.in_err-value-in-Quit.ensures.reads m (room_for c.args.phrases.limited m c.args.tokens.now c.args.behind.now c.requires.room r) o condition (Of keyword.Quit) []))

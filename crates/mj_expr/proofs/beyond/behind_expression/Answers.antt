@@ -1,4 +1,4 @@
-use Rattle.mj_expr.proofs.Shapes.{ends_whole}
+use Rattle.mj_expr.proofs.Runs.{ends_whole}
 use Rattle.mj_expr.proofs.beyond.behind_expression.Goals as goal
 
 pub returns-clause-ends : goal.returns-clause-ends

@@ -1,4 +1,4 @@
-use Rattle.mj_expr.proofs.Shapes.{ends_target}
+use Rattle.mj_expr.proofs.Runs.{ends_target}
 use Rattle.mj_expr.proofs.beyond.behind_variable.Goals as goal
 
 pub returns-clause-ends : goal.returns-clause-ends

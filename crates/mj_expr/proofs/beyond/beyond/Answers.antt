@@ -4,7 +4,7 @@ use Rattle.mj_lex.specs.declared.token.Lexeme.{Lexeme}
 use Rattle.mj_lex.specs.Seen.{tokens_seen}
 use Rattle.mj_expr.specs.declared.beyond.Around.{Around}
 use Rattle.mj_expr.specs.declared.beyond.Stage.{Stage}
-use Rattle.mj_expr.proofs.Shapes.{end_more}
+use Rattle.mj_expr.proofs.Runs.{end_more}
 use Rattle.mj_expr.proofs.beyond.beyond.Goals as goal
 
 pub tokens-preserved : goal.tokens-preserved

@@ -1,8 +1,9 @@
-use Rattle.std.proofs.Common.{◌≡◌, ◌<◌, ◌+◌, ◌*◌, ℕ, length}
-use Rattle.mj_ast.specs.Syntax.{No}
-use Rattle.mj_ast.specs.Trees.{operand_of, tails_of, exprs_of}
-use Rattle.mj_expr.specs.Machine.{Outer, Owner, Front, InList, Wanted, Held, run, outer_depth, owner_depth, is_full}
+use Rattle.std.proofs.Common.{◌≡◌, ◌≤◌, ◌<◌, ◌+◌, ◌*◌, ℕ, length}
+use Rattle.mj_ast.specs.Syntax.{No, NoActual, Target as EntryAt}
+use Rattle.mj_ast.specs.Trees.{operand_of, tails_of, exprs_of, actuals_of, option_of}
+use Rattle.mj_expr.specs.Machine.{Outer, Owner, Within, Front, InList, InActuals, Wanted, Held, run, outer_depth, owner_depth, depth_of, is_full}
 use Rattle.mj_expr.specs.Reads.{symbols_seen, limits, HasNoBinary, kind_of}
+use Rattle.mj_expr.specs.Readers.{IsWanted, IsLeft, behind_actual}
 use Rattle.mj_expr.specs.Lists.{behind_list}
 use Rattle.mj_expr.proofs.read.+parse.Given as goal
 
@@ -42,13 +43,25 @@ decreases-global l = 4 * length l.tokens.now + 1
 abbrev pub decreases-operand : goal.decreases-operand
 decreases-operand l = 4 * length l.tokens.now
 
+abbrev pub decreases-extrinsic : goal.decreases-extrinsic
+decreases-extrinsic l = 4 * length l.tokens.now + 3
+
+abbrev pub decreases-passed : goal.decreases-passed
+decreases-passed l = 4 * length l.tokens.now + 2
+
+abbrev pub decreases-actuals : goal.decreases-actuals
+decreases-actuals l = 4 * length l.tokens.now + 3
+
+abbrev pub decreases-actual : goal.decreases-actual
+decreases-actual l = 4 * length l.tokens.now + 2
+
 pub record IsReadSo (Goes : Type 0) (Falls : Type 0) : Type 0 where
   pub reads : Goes
   pub shorter : Falls
 
 abbrev pub invariant-expr-joins : goal.invariant-expr-joins
 invariant-expr-joins l = IsReadSo
-    ((o : Outer) → (d : ℕ) → outer_depth o + l.room ≡ d → is_full (limits 0) o ≡ l.full →
+    ((o : Outer) → (d : ℕ) → outer_depth o + l.room ≡ d → is_full (limits 0) o ≡ l.full → IsWanted (Front o) (symbols_seen l.tokens) →
     run (limits d) (symbols_seen l.tokens) (Wanted (Front o)) ≡ run (limits d) (symbols_seen l.rest) (Held (operand_of l.first) (tails_of l.tails.items) o))
     (length l.rest < length l.tokens)
 
@@ -63,3 +76,12 @@ invariant-list-commas l = IsReadSo
 
 abbrev pub decreases-list-commas : goal.decreases-list-commas
 decreases-list-commas l = length l.rest
+
+abbrev pub invariant-actuals-commas : goal.invariant-actuals-commas
+invariant-actuals-commas l = IsReadSo
+    ((t : EntryAt) → (c : Within) → (d : ℕ) → depth_of c + 1 + l.room ≡ d →
+    run (limits d) (symbols_seen l.tokens) (Wanted (Front (InActuals t NoActual c))) ≡ run (limits d) (symbols_seen l.rest) (behind_actual t (actuals_of l.items.items) c (option_of l.last)))
+    ((length l.rest ≤ length l.tokens) × IsLeft (option_of l.last) (symbols_seen l.rest))
+
+abbrev pub decreases-actuals-commas : goal.decreases-actuals-commas
+decreases-actuals-commas l = length l.rest

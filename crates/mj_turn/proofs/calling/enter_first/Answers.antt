@@ -1,4 +1,4 @@
-use Rattle.std.proofs.Common.{◌≡◌, List, [], Option, Ok, Err, length, sym, ap, ◌∙◌, arith}
+use Rattle.std.proofs.Common.{false, ◌≡◌, List, [], Option, Ok, Err, length, sym, ap, ◌∙◌, arith}
 use Rattle.mj_ask.specs.declared.ask.Reply.{Reply}
 use Rattle.mj_semantics.specs.Outcome.{Outcome, given}
 use Rattle.mj_pcode.specs.Found.{Found, found}
@@ -25,8 +25,8 @@ returns-in-Err-clause-ok c = λ reply. (
       ∙ ap (λ k. entered (found_at c.find_line-to.result) k (length (state_of old).frames)) (let many : length vs ≡ c.len.result = omega (arith, c.len.ensures, c.args.start.now.values.ok.0) in many)
       ∙ ap (entered (found_at c.find_line-to.result) c.len.result) (sym c.len-2.ensures)
       ∙ c.in-Err.ensures.err in
-      called vs [] next to n (handle (restart_of old)) (state_of old) (given_first reply replies)
-      ∙ ap (λ r. given r (opens vs [] next) n (handle (restart_of old)) (state_of old) (given_first reply replies)) e,
+      called false vs [] next to n (handle (restart_of old)) (state_of old) (given_first reply replies)
+      ∙ ap (λ r. given r (opens false vs [] next) n (handle (restart_of old)) (state_of old) (given_first reply replies)) e,
 )
 
 pub returns-clause-ok : goal.returns-clause-ok
@@ -47,9 +47,9 @@ returns-clause-ok c = λ reply. (
       let goes : Standing → Outcome = λ st. next (at_unit f.at []) f.head.start tallied n (handle st.restart) st.state rs in
       let there : List kept_loop.Loop → List kept.Call → Stack → Outcome = λ ls ks st.
       next (record { unit = f.at; loops = loops_of ls; calls = calls_of ks }) f.head.start st n (handle (restart_of c.open_frame.new.machine)) (state_of c.open_frame.new.machine) rs in
-      called vs [] next to n (handle (restart_of old)) (state_of old) rs
-      ∙ ap (λ r. given r (opens vs [] next) n (handle (restart_of old)) (state_of old) rs) e
-      ∙ ap (λ l. goes (in_state (opened_at f l (state_of old)) (standing old reply))) (sym (c.as_mut_slice.ensures.value ∙ c.in_ok-values.ensures ∙ c.deref.ensures.value))
+      called false vs [] next to n (handle (restart_of old)) (state_of old) rs
+      ∙ ap (λ r. given r (opens false vs [] next) n (handle (restart_of old)) (state_of old) rs) e
+      ∙ ap (λ l. goes (in_state (opened_at false f l (state_of old)) (standing old reply))) (sym (c.as_mut_slice.ensures.value ∙ c.in_ok-values.ensures ∙ c.deref.ensures.value))
       ∙ ap goes (sym (c.in_ok-open_frame.ensures.ok reply))
       ∙ ap (λ ls. there ls [] tallied) (sym c.clear.ensures.items)
       ∙ ap (λ ks. there c.clear.new.self.items ks tallied) (sym c.clear-2.ensures.items)

@@ -13,4 +13,4 @@ returns-clause-ok c =
     let top = c.topmost-operands.ensures ∙ ap (λ l. operands c.given_count.result (reverse l)) c.deref.ensures.value ∙ ap (λ k. operands k (stack_of old)) c.given_count.ensures.value in
     let values : c.as_mut_slice.result.now ≡ spread g (operands (given_count g) (stack_of old)) = c.as_mut_slice.ensures.value ∙ c.in_ok-fill.ensures ∙ ap (spread g) top in
     subst (λ (vs : List (Option (List ℕ))). IfOk c.open_frame.result (λ done. (reply : Option Reply)
-    → standing c.open_frame.new.machine reply ≡ in_state (opened_at (found_of c.args.to.now) vs (state_of old)) (standing old reply))) values c.open_frame.ensures.ok
+    → standing c.open_frame.new.machine reply ≡ in_state (opened_at c.args.function (found_of c.args.to.now) vs (state_of old)) (standing old reply))) values c.open_frame.ensures.ok

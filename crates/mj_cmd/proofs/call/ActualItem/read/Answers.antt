@@ -1,4 +1,4 @@
-use Rattle.mj_cmd.proofs.call.OptionExprItem.read.Goals as goal
+use Rattle.mj_cmd.proofs.call.ActualItem.read.Goals as goal
 
 pub returns-clause-first : goal.returns-clause-first
 returns-clause-first c = λ q m r b. c.actual.ensures.reads m r q

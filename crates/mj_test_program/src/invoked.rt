@@ -1,0 +1,78 @@
+// Functions that are written in M.
+
+use mj_test_runs::{Wanted, judge};
+use std::test::Fail;
+
+#[test]
+fn functions_in_m_give_values(rt: HostRuntime) -> Result<(), Fail> {
+    let rows = " WRITE $$F(3),! QUIT~F(N) QUIT:N<2 1 QUIT N*$$F(N-1)~ => 6~ => 0
+ IF 1 WRITE $$G,$TEST QUIT~G() IF 0~ QUIT 5~ => 51 => 0
+ SET X=0~ TSTART (X):SERIAL~ SET X=X+1 WRITE 10+$$H~ TCOMMIT  QUIT~H() IF $TRESTART<1 TRESTART~ QUIT X~ => 11 => 0
+ WRITE $$K() QUIT~K QUIT 1~ => 1 => 0
+ WRITE $$F+1 QUIT~F QUIT 4~ => 5 => 0
+ WRITE $$01,$$1 QUIT~01 QUIT \"a\"~1 QUIT \"b\"~ => ab => 0
+ WRITE $$^R(1)_2 QUIT~ => F22 PARAMS R:1~ => 1
+ SET X=1 WRITE $$F(5),X QUIT~F(X) SET Y=X QUIT Y~ => 51 => 0
+ WRITE 3-$$F(2,1) QUIT~F(A,B) QUIT A-B~ => 2 => 0
+ WRITE $$F(,2) QUIT~F(A,B) QUIT $DATA(A)_B~ => 02 => 0
+ WRITE $$K QUIT~K() FOR I=1 QUIT~ QUIT I~ => 1 => 0
+ WRITE $$D(510) QUIT~D(N) QUIT:'N 0 QUIT 1+$$D(N-1)~ => 510 => 0
+ WRITE 1_$$F~F WRITE \"a\" HALT~ => a => 0
+ WRITE $$T(\"A\",2) QUIT~T(S,N) NEW R,I SET R=\"\" FOR I=1:1:N SET R=R_S~ QUIT R~ => AA => 0
+";
+    judge(&rt, "invoked", Wanted::Printed, rows)
+}
+
+#[test]
+fn faults_of_functions_in_m(rt: HostRuntime) -> Result<(), Fail> {
+    let rows = " WRITE 1+$$M QUIT~M() TSTART  QUIT 1~ => F13 INTX R:2~ => 1
+ WRITE $$K QUIT~K() DO M QUIT 1~M TSTART~ => F13 INTX R:3~ => 1
+ WRITE $$K~K() QUIT~ => F9 QUIT R:2~ => 1
+ DO L QUIT~L QUIT 1~ => F9 QUIT R:2~ => 1
+ DO L QUIT~L QUIT X~ => F9 QUIT R:2~ => 1
+ QUIT 1~ => F9 QUIT R:1~ => 1
+ TSTART  QUIT 1~ => F9 QUIT R:1~ => 1
+ WRITE $$K~K() SET X=1~ SET X=2~ => F9 QUIT R:3~ => 1
+ WRITE $$K~K() FOR I=1 QUIT 5~ => F9 QUIT R:2~ => 1
+ FOR I=1 QUIT:0 5~ WRITE I~ => 1 => 0
+ FOR I=1 QUIT 5~ => F9 QUIT R:1~ => 1
+ WRITE $$K(,) QUIT~K(X) QUIT 1~ => F22 PARAMS R:1~ => 1
+ WRITE $$X~ => F8 NOLINE R:1~ => 1
+ WRITE $$D(511) QUIT~D(N) QUIT:'N 0 QUIT 1+$$D(N-1)~ => F17 DEPTH R:2~ => 1
+ WRITE 1,1+$$F~F QUIT $SELECT(0:1)~ => 1~F7 SELECT R:2~ => 1
+";
+    judge(&rt, "invoked_faults", Wanted::Printed, rows)
+}
+
+// One row for each place where an expression may stand.
+#[test]
+fn functions_in_m_stand_wherever_expressions_do(rt: HostRuntime) -> Result<(), Fail> {
+    let rows = " S X=$$P(1),Y(X)=$$P(2) W X,Y($$P(1)) Q~P(N) Q N~ => 12 => 0
+ S (X,Y)=$$P(3) W X,Y Q~P(N) Q N~ => 33 => 0
+ S $P(X,$$P(\",\"),$$P(2))=\"b\" W X Q~P(N) Q N~ => ,b => 0
+ W:$$P(1) 1 W:$$P(0) 2 Q~P(N) Q N~ => 1 => 0
+ W *$$P(65),$$P(1)_$$P(2) Q~P(N) Q N~ => A12 => 0
+ W \"a\",?$$P(2),\"b\" Q~P(N) Q N~ => a b => 0
+ I $$P(1),$$P(2) W 1~ Q~P(N) Q N~ => 1 => 0
+ F I=$$P(1):$$P(1):$$P(3) W I~ Q~P(N) Q N~ => 123 => 0
+ F I=$$P(4),$$P(5) W I~ Q~P(N) Q N~ => 45 => 0
+ D A($$P(1)) Q~A(N) W N Q~P(N) Q N~ => 1 => 0
+ D A:$$P(1) Q~A W 2 Q~P(N) Q N~ => 2 => 0
+ G A:$$P(1)~ Q~A W 3 Q~P(N) Q N~ => 3 => 0
+ Q:$$P(1)  W 1~P(N) Q N~ =>  => 0
+ S X(1)=1 K X($$P(1)) W $D(X) Q~P(N) Q N~ => 0 => 0
+ S Y(1)=5 M X=Y($$P(1)) W X Q~P(N) Q N~ => 5 => 0
+ S Y=6 M X($$P(2))=Y W X(2) Q~P(N) Q N~ => 6 => 0
+ H $$P(0) W 1 Q~P(N) Q N~ => 1 => 0
+ L X($$P(1)):$$P(0) W $T Q~P(N) Q N~ => 1 => 0
+ U $$P(\"0\") W 1 Q~P(N) Q N~ => 1 => 0
+ W -$$P(1),($$P(2)+$$P(3))*$$P(4),'$$P(0) Q~P(N) Q N~ => -1201 => 0
+ W $L($$P(\"abc\")),$S($$P(0):1,$$P(1):$$P(2)) Q~P(N) Q N~ => 32 => 0
+ S Y(3)=1 W $O(Y($$P(\"\"))),$D(Y($$P(3))),$G(Z,$$P(8)) Q~P(N) Q N~ => 318 => 0
+ S ^Y(3)=7 W ^Y($$P(3)),$G(^Y($$P(4)),$$P(8)) Q~P(N) Q N~ => 78 => 0
+ W $$P($$P(1)+$$P(2)),$$P($$P($$P(4))) Q~P(N) Q N~ => 34 => 0
+ W $$A Q~A() Q $$P(9)~P(N) Q N~ => 9 => 0
+ TS  S X=$$P(2) TC:$$P(1)  W X,$TL Q~P(N) Q N~ => 20 => 0
+";
+    judge(&rt, "invoked_places", Wanted::Printed, rows)
+}
