@@ -158,6 +158,12 @@ fn values_of_quit_are_read(rt: HostRuntime) -> Result<(), Fail> {
  SET $$A=1 => L2 R:1:6
  D $$A => L2 R:1:4
  W $$A+ => L2 R:1:8
+ W $$^(1) => L7 R:1:7 naked
+ W $$^[\"E\"]R => L7 R:1:7 environment
+ W $$A?1N => L7 R:1:7 pattern
+ W $$$A => L7 R:1:6 variable
+ W $$A (1) => L2 R:1:8
+ W $$A^R ^X => L2 R:1:10
  W ^$$A => L7 R:1:5 structured
  W $$1E5 => L7 R:1:7 exponent
  W $$1.5 => L7 R:1:7 fraction
@@ -337,6 +343,11 @@ fn limits_are_kept(rt: HostRuntime) -> Result<(), Fail> {
  W X(1<,1*30>,, => L5 R:1
  W X(1<,1*29>,, => L5 R:1
  W X(1<,1*28>,, => L2 R:1:64
+ W X(1<,1*29>,$$, => L5 R:1
+ W X(1<,1*28>,$$, => L2 R:1:66
+ W X(1<,1*29>,$$A^, => L5 R:1
+ WRITE <$$A(*64>1<)*64> => ok
+ WRITE <$$A(*65>1<)*65> => L6 R:1:267
  WRITE <(*65>ABCDEFGHIJKLMNOPQRSTUVWXYZABCDEF => L5 R:1
  WRITE <(*65>1,ABCDEFGHIJKLMNOPQRSTUVWXYZABCDEF => L6 R:1:72
  WRITE <-*65>1 S X(1)=ABCDEFGHIJKLMNOPQRSTUVWXYZABCDEF => L5 R:1
