@@ -15,7 +15,7 @@ use Rattle.mj_ast.proofs.expr.Scope.TheSendSync as scope
 use Rattle.mj_ast.proofs.function.Function.TheSendSync as function
 use Rattle.mj_ast.proofs.function.NameFunction.TheSendSync as named
 use Rattle.mj_ast.proofs.function.Special.TheSendSync as special
-use Rattle.mj_ast.proofs.expr.Operand.TheLaws.TheKnot as knot
+use Rattle.mj_ast.proofs.expr.Actual.TheLaws.TheKnot as knot
 use Rattle.mj_ast.specs.contracts.expr.Expr as Expr
 use Rattle.mj_ast.specs.contracts.expr.Variable as Variable
 use Rattle.mj_ast.specs.contracts.expr.Actual as Actual
@@ -57,7 +57,7 @@ ruleset leaves = (
   function.the_field_sync,
   named.the_field_sync,
   special.the_field_sync,
-  Target.the_sync,
+  Target.the_field_sync,
 )
 
 pub expr_sync : IsSync Expr.the_row
