@@ -201,8 +201,8 @@ passed m n a q x xs e = by (name_cmp m x.0) refl where
   by Less t = refl
   by Greater t = refl
   by Equal t =
-      let no : is_below m n ≡ false = ap (λ (k : Name). is_some (rest_of n k)) (name_cmp-IsAntisymmetric m x.0 t) ∙ ap is_some e in
-      ap (λ b. a || ((b && is_some (find name_cmp m xs)) && q)) no ∙ sym (ap (λ b. a || ((b && true) && q)) no)
+      let apart : is_below m n ≡ false = ap (λ (k : Name). is_some (rest_of n k)) (name_cmp-IsAntisymmetric m x.0 t) ∙ ap is_some e in
+      ap (λ b. a || ((b && is_some (find name_cmp m xs)) && q)) apart ∙ sym (ap (λ b. a || ((b && true) && q)) apart)
 
 -- a node below
 met : (m n : Name) (alone : Content) (a : Bool) (x : Name × List ℕ) (xs : Content) (l : List (List ℕ)) → rest_of n x.0 ≡ Some l
@@ -215,23 +215,25 @@ met m n alone a x xs l e = by (name_cmp m x.0) refl where
   by Less t = ap (λ b. b || ((is_below m n && is_some (find name_cmp m xs)) && is_none (find name_cmp m alone))) (or_false a)
   by Greater t = ap (λ b. b || ((is_below m n && is_some (find name_cmp m xs)) && is_none (find name_cmp m alone))) (or_false a)
   by Equal t =
-      let yes : is_below m n ≡ true = ap (λ (k : Name). is_some (rest_of n k)) (name_cmp-IsAntisymmetric m x.0 t) ∙ ap is_some e in
+      let below : is_below m n ≡ true = ap (λ (k : Name). is_some (rest_of n k)) (name_cmp-IsAntisymmetric m x.0 t) ∙ ap is_some e in
       let same : is_none (find name_cmp x.0 alone) ≡ is_none (find name_cmp m alone) = ap (λ (k : Name). is_none (find name_cmp k alone)) (sym (name_cmp-IsAntisymmetric m x.0 t)) in
       ap (λ b. (a || b) || ((is_below m n && is_some (find name_cmp m xs)) && is_none (find name_cmp m alone))) same
-      ∙ ap (λ b. (a || is_none (find name_cmp m alone)) || ((b && is_some (find name_cmp m xs)) && is_none (find name_cmp m alone))) yes
+      ∙ ap (λ b. (a || is_none (find name_cmp m alone)) || ((b && is_some (find name_cmp m xs)) && is_none (find name_cmp m alone))) below
       ∙ absorb a (is_some (find name_cmp m xs)) (is_none (find name_cmp m alone))
-      ∙ sym (ap (λ b. a || ((b && true) && is_none (find name_cmp m alone))) yes)
+      ∙ sym (ap (λ b. a || ((b && true) && is_none (find name_cmp m alone))) below)
 
 added_below : (m : Name) (alone c : Content) (n : Name) (ns : List Name)
     → is_in m (with_below alone n ns (subtree_at c n)) ≡ (is_in m ns || ((is_below m n && is_some (find name_cmp m c)) && is_none (find name_cmp m alone)))
 added_below m alone [] n ns = sym (ap (λ b. is_in m ns || (b && is_none (find name_cmp m alone))) (and_false (is_below m n)) ∙ or_false (is_in m ns))
-added_below m alone (x ∷ xs) n ns = by (rest_of n x.0) refl where
-  by : (r : Option (List (List ℕ))) → rest_of n x.0 ≡ r → is_in m (with_below alone n ns (cons_option (option_map (λ l. (l, x.1)) r) (subtree_at xs n)))
+added_below m alone (x ∷ xs) n ns = by (λ names. added_below m alone xs n names) (rest_of n x.0) refl where
+  by : ((names : List Name) → is_in m (with_below alone n names (subtree_at xs n)) ≡ (is_in m names || ((is_below m n && is_some (find name_cmp m xs)) && is_none (find name_cmp m alone))))
+      → (r : Option (List (List ℕ))) → rest_of n x.0 ≡ r → is_in m (with_below alone n ns (cons_option (option_map (λ l. (l, x.1)) r) (subtree_at xs n)))
       ≡ (is_in m ns || ((is_below m n && is_some (find name_cmp m (x ∷ xs))) && is_none (find name_cmp m alone)))
-  by None e = added_below m alone xs n ns ∙ passed m n (is_in m ns) (is_none (find name_cmp m alone)) x xs e
-  by (Some l) e =
-      added_below m alone xs n (with_ungiven alone ns (followed_by n l))
-      ∙ ap (λ b. b || ((is_below m n && is_some (find name_cmp m xs)) && is_none (find name_cmp m alone))) (any_added (eq_by_cmp name_cmp m) alone ns (followed_by n l)
+  by rest None e = rest ns ∙ passed m n (is_in m ns) (is_none (find name_cmp m alone)) x xs e
+  by rest (Some l) e =
+      rest (with_ungiven alone ns (followed_by n l))
+      ∙ ap (λ b. b || ((is_below m n && is_some (find name_cmp m xs)) && is_none (find name_cmp m alone)))
+      (any_added (eq_by_cmp name_cmp m) alone ns (followed_by n l)
       ∙ ap (λ (k : Name). is_in m ns || (eq_by_cmp name_cmp m k && is_none (find name_cmp k alone))) (rest_split n x.0 l e))
       ∙ met m n alone (is_in m ns) x xs l e
 
@@ -306,7 +308,7 @@ in_names old xs alone mid h by first =
 -- the texts first, and then the names that go
 pub in_parts : (old : Content) (xs : List Change) (alone mid new : Content) → T (is_sorted name_cmp old) → alone ≡ after_changes [] xs → mid ≡ all_given old xs
     → new ≡ taken_but_given alone mid xs → new ≡ after_changes old xs
-in_parts old xs alone mid new h is first then = by (list_any (is_rewritten alone) xs) refl then where
+in_parts old xs alone mid new h is first last = by (list_any (is_rewritten alone) xs) refl last where
   by : (b : Bool) → list_any (is_rewritten alone) xs ≡ b → new ≡ (if b then without_each mid (with_all_below alone mid [] (all_kills xs)) else all_taken mid xs) → new ≡ after_changes old xs
   by true q e = e ∙ in_names old xs alone mid h is first
   by false q e = in_two old xs alone mid new h is (sym q) first e
@@ -314,11 +316,11 @@ in_parts old xs alone mid new h is first then = by (list_any (is_rewritten alone
 -- names taken each alone, or with all below them
 pub taken_named : (alone c new : Content) (xs : List Change) (ns : List Name) → true ≡ list_any (is_rewritten alone) xs → ns ≡ with_all_below alone c [] (all_kills xs) → new ≡ without_each c ns
     → new ≡ taken_but_given alone c xs
-taken_named alone c new xs ns yes named is =
-    is ∙ ap (without_each c) named ∙ ap (λ b. if b then without_each c (with_all_below alone c [] (all_kills xs)) else all_taken c xs) yes
+taken_named alone c new xs ns holds named is =
+    is ∙ ap (without_each c) named ∙ ap (λ b. if b then without_each c (with_all_below alone c [] (all_kills xs)) else all_taken c xs) holds
 
 pub taken_whole : (alone c new : Content) (xs : List Change) → false ≡ list_any (is_rewritten alone) xs → new ≡ all_taken c xs → new ≡ taken_but_given alone c xs
-taken_whole alone c new xs no is = is ∙ ap (λ b. if b then without_each c (with_all_below alone c [] (all_kills xs)) else all_taken c xs) no
+taken_whole alone c new xs none is = is ∙ ap (λ b. if b then without_each c (with_all_below alone c [] (all_kills xs)) else all_taken c xs) none
 
 -- ---- the words of the names
 
