@@ -1,5 +1,5 @@
 -- A list of changes in two parts: the texts that it gives, and the names that it takes.
-use Rattle.std.specs.Prelude.{ℕ, Bool, true, false, not, nat_eq, List, [], ◌∷◌, ◌++◌, None, if◌then◌else◌}
+use Rattle.std.specs.Prelude.{Bool, true, false, not, nat_eq, List, [], ◌∷◌, ◌++◌, None, if◌then◌else◌}
 use Rattle.std.specs.List.{fold, list_any}
 use Rattle.std.specs.Option.{is_some, is_none}
 use Rattle.mj_subs.specs.Name.{Name}
