@@ -4,6 +4,7 @@ pub mod Changed
 pub mod Both
 pub mod Restores
 pub mod Parts
+pub mod Taken
 pub mod Gathered
 pub mod Walked
 pub mod Stamping

@@ -1,6 +1,6 @@
 -- Stamps over a list of changes, one change after the other.
-use Rattle.std.proofs.Common.{◌≡◌, ◌∙◌, ℕ, ◌+◌, ◌<◌, Bool, true, false, List, Result, Ok, Err, OnOk, is_err, refl, sym, ap, take, length, get_or}
-use Rattle.std.specs.List.{fold, list_any}
+use Rattle.std.proofs.Common.{◌≡◌, ◌∙◌, ℕ, ◌+◌, ◌<◌, Bool, true, false, List, Result, Ok, Err, OnOk, OnErr, is_err, refl, sym, ap, take, length, get_or}
+use Rattle.std.specs.List.{fold}
 use Rattle.std.proofs.lemmas.Bool.{true≢false}
 use Rattle.std.proofs.lemmas.List.Folds.{list_any_at}
 use Rattle.std.proofs.lemmas.List.Sums.{fold_more}
@@ -17,6 +17,11 @@ use Rattle.mj_globs.proofs.Stamping.{rises_same}
 pub of_ok : {T E : Type 0} (r : Result T E) (P : Type 0) → OnOk r P → is_err r ≡ false → P
 of_ok (Ok x) P h none = h
 of_ok (Err e) P h none = absurd (true≢false none)
+
+-- what holds, holds where an error came
+pub on_err : {T E : Type 0} (r : Result T E) {P : Type 0} → P → OnErr r P
+on_err (Ok x) p = tt
+on_err (Err e) p = p
 
 -- what the next item of a list leaves
 pub fold_next : {A B : Type 0} (f : B → A → B) (start now next : B) (xs : List A) (i : ℕ) (x : A) → i < length xs → x ≡ get_or xs i x → now ≡ fold f start (take i xs) → next ≡ f now x

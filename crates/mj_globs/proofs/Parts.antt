@@ -23,13 +23,13 @@ use Rattle.mj_globs.proofs.Both.{rises_set, rises_kill, rises_put}
 
 -- ---- the names rise
 
-rises_changes : (es : Content) (xs : List Change) → T (is_sorted name_cmp es) → T (is_sorted name_cmp (after_changes es xs))
+pub rises_changes : (es : Content) (xs : List Change) → T (is_sorted name_cmp es) → T (is_sorted name_cmp (after_changes es xs))
 rises_changes es [] h = h
 rises_changes es (change.Set n v ∷ xs) h = rises_changes (after_set es n v) xs (rises_set es n v h)
 rises_changes es (change.Kill n ∷ xs) h = rises_changes (after_kill es n) xs (rises_kill es n h)
 rises_changes es (change.Put n more ∷ xs) h = rises_changes (after_put es n more) xs (rises_put es n more h)
 
-rises_given : (es : Content) (xs : List Change) → T (is_sorted name_cmp es) → T (is_sorted name_cmp (all_given es xs))
+pub rises_given : (es : Content) (xs : List Change) → T (is_sorted name_cmp es) → T (is_sorted name_cmp (all_given es xs))
 rises_given es [] h = h
 rises_given es (change.Set n v ∷ xs) h = rises_given (after_set es n v) xs (rises_set es n v h)
 rises_given es (change.Kill n ∷ xs) h = rises_given es xs h
@@ -48,7 +48,7 @@ module _ (m : Name) where
   abbrev goes : List Change → Bool
   goes xs = list_any (takes m) xs
 
-  find_killed : (c : Content) (n : Name) → find name_cmp m (after_kill c n) ≡ cond (is_none (rest_of n m)) (find name_cmp m c) None
+  pub find_killed : (c : Content) (n : Name) → find name_cmp m (after_kill c n) ≡ cond (is_none (rest_of n m)) (find name_cmp m c) None
   find_killed c n = find-where_key name_cmp (λ k. is_none (rest_of n k)) m (λ x e. ap (λ k. is_none (rest_of n k)) (sym (name_cmp-IsAntisymmetric m x e))) c
 
   same_set : (c d : Content) (n : Name) (v : List ℕ) → find name_cmp m c ≡ find name_cmp m d → find name_cmp m (after_set c n v) ≡ find name_cmp m (after_set d n v)
@@ -95,7 +95,7 @@ module _ (m : Name) where
       ] refl
 
   -- a name that goes has the text that the changes give it where nothing was before, and every other the last that they give it
-  find_changes : (c f : Content) (xs : List Change) → find name_cmp m (after_changes c xs) ≡ cond (goes xs) (find name_cmp m (after_changes f xs)) (find name_cmp m (all_given c xs))
+  pub find_changes : (c f : Content) (xs : List Change) → find name_cmp m (after_changes c xs) ≡ cond (goes xs) (find name_cmp m (after_changes f xs)) (find name_cmp m (all_given c xs))
   find_changes c f [] = refl
   find_changes c f (change.Set n v ∷ xs) = find_changes (after_set c n v) (after_set f n v) xs
   find_changes c f (change.Put n more ∷ xs) = find_changes (after_put c n more) (after_put f n more) xs

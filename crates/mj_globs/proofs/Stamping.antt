@@ -7,7 +7,6 @@ use Rattle.std.specs.declared.cmp.Ordering.{Ordering}
 use Rattle.std.specs.declared.cmp.Ordering.TheVariants.{Less, Equal, Greater}
 use Rattle.std.specs.FinMap.{find}
 use Rattle.std.specs.FinMap.Entries.{find-put, find-where_key}
-use Rattle.std.specs.List.{list_any}
 use Rattle.std.specs.Option.{is_none, unwrap_or}
 use Rattle.std.specs.Result.{is_err}
 use Rattle.std.specs.Map.{lookup, set_value}

@@ -4,8 +4,8 @@
 // definition in `mj_store`. Beside the content it has stamps (`specs/Stamps.antt`): each word of globals has a number that rises with every change
 // of that word, and stays where the word's last name goes. So who keeps a stamp can tell later that nothing has changed. Each word has a tree of its
 // own, which is found by the word's bytes, so a question or a change makes no more comparisons than a tree does beside the logarithm of the number
-// of words. A list of changes is made whole or not at all: in place, with what was there logged, but on a copy of the store where a text is given at a
-// name that goes before, or below one.
+// of words. A list of changes is made whole or not at all: its texts are given in place, with what was there logged, and then the names go that it
+// takes and doesn't give again.
 #![tactic(auto)]
 
 mod all;

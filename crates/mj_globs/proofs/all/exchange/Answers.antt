@@ -1,8 +1,6 @@
-use Rattle.std.proofs.Common.{sym, ap, subst, ◌∙◌}
-use Rattle.mj_subs.specs.Name.{Name}
+use Rattle.std.proofs.Common.{◌∙◌}
 use Rattle.mj_subs.specs.Collation.{name_cmp}
 use Rattle.mj_subs.specs.Laws.Total.{name_cmp_total}
-use Rattle.mj_store.specs.Questions.{same_word}
 use Rattle.mj_tree.specs.Undo.{restored}
 use Rattle.mj_tree.proofs.Undo.{undone_written, undone_refused}
 use Rattle.mj_globs.proofs.Stamping.{rises_then}

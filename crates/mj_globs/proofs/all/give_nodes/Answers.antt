@@ -1,4 +1,4 @@
-use Rattle.std.proofs.Common.{ℕ, List, refl, ap, ◌∙◌}
+use Rattle.std.proofs.Common.{refl, ap, ◌∙◌}
 use Rattle.mj_subs.specs.Name.{Name}
 use Rattle.mj_store.specs.Changes.{after_set, followed_by}
 use Rattle.mj_globs.proofs.Stamping.{rises_then}

@@ -1,11 +1,6 @@
 use Rattle.std.proofs.Common.{◌≡◌, take}
-use Rattle.mj_globs.specs.Changes.{after_changes, are_to}
-use Rattle.mj_globs.specs.Stamps.{Rises, KeepsStamps}
+use Rattle.mj_globs.specs.Changes.{after_changes}
 use Rattle.mj_globs.proofs.all.make_each.Given as goal
 
 abbrev pub invariant-loop-change : goal.invariant-loop-change
-invariant-loop-change l = record {
-  content : l.globals.content ≡ after_changes l.fn.globals.content (take l.change-index l.changes);
-  stamps : Rises l.fn.globals l.globals;
-  others : KeepsStamps (are_to l.changes) l.fn.globals.stamps l.globals.stamps;
-}
+invariant-loop-change l = l.globals.content ≡ after_changes l.fn.globals.content (take l.change-index l.changes)

@@ -1,7 +1,5 @@
 use Rattle.std.proofs.Common.{◌∙◌, ap, List, ℕ, Option, nat_cmp}
 use Rattle.std.specs.Option.{unwrap_or}
-use Rattle.std.specs.Map.{lookup}
-use Rattle.std.specs.BTreeMap.{is_at}
 use Rattle.std.specs.Cmp.Lexicographic.{slice_cmp}
 use Rattle.mj_globs.specs.Stamps.{Stamps, stamp_of}
 use Rattle.mj_globs.specs.Words.{spelled}

@@ -1,5 +1,4 @@
-use Rattle.std.proofs.Common.{true, false, ap}
-use Rattle.mj_store.specs.Questions.{Content}
+use Rattle.std.proofs.Common.{true, false}
 use Rattle.mj_globs.specs.Words.{spelled, of_kind}
 use Rattle.mj_globs.proofs.Walked.{stops_behind}
 use Rattle.mj_globs.proofs.texts.Texts.walk.Goals as goal
