@@ -115,6 +115,19 @@ fn functions_in_m_keep_what_stands_around(rt: HostRuntime) -> Result<(), Fail> {
  W $$F^S Q~F() Q 1~ => F8 NOLINE R:1~ => 1
  W $$F(1) Q~F Q 1~ => F22 PARAMS R:1~ => 1
  W $$F*2+$$F Q~F() Q 3~ => 9 => 0
+ W $$F(500) Q~F(N) Q:'N 0 Q 1+(2+(3+$$F(N-1)))~ => 3000 => 0
+ S N=1,C=0~ TS N:SERIAL~ W $$F(5)+1 TC  W N,C Q~F(N) S C=C+1 N C S C=9 I $TR<1 TRE~ Q N+$$G~G() Q 3~ => 912 => 0
+ S Z=0 TS ():SERIAL F I=1:1:3 S Z=Z+$$F(I)~ TC  W Z,$TR Q~F(N) I N=2,$TR<2 TRE~ Q N~ => 80 => 0
+ TS ():SERIAL S X=$$F(3) TC  W X Q~F(N) I N Q 1+$$F(N-1)~ I $TR<2 TRE~ Q 10~ => 13 => 0
+ TS  D A W 1 Q~A W $$F Q~F() TC  Q 5~ => 51 => 0
+ D A~A TS  W $$F Q~F() Q 5~ => 5~F10 TXQUIT R:2~ => 1
+ D A($$F):$$C,A($$F):$$D Q~A(X) W X Q~F() W \"f\" Q 1~C() W \"c\" Q 0~D() W \"d\" Q 1~ => cdf1 => 0
+ W $G(X,$$F),$G(X,$$F) Q~F() S X=4 Q 5~ => 44 => 0
+ S X=3 F I=X:$$S:X W I Q:I>9~ Q~S() S X=5 Q 1~ => 345 => 0
+ S X=\"a\" W $P(\"abaca\",X,$$S) Q~S() S X=\"b\" Q 2~ => b => 0
+ S X(1)=1 M Y($$S(2))=X($$S(1)) W Y(2) Q~S(N) S:N=1 X(1)=9 W N Q N~ => 219 => 0
+ I $D(Z) Q 5~ S Z=1 W $$^R,Z Q~ => 51 => 0
+ S Z=1 W $$F(Z),Z Q~F(Z) K  Q $D(Z)~ => 01 => 0
 ";
     judge(&rt, "invoked_around", Wanted::Printed, rows)
 }
