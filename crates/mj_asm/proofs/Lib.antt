@@ -10,6 +10,7 @@ pub mod Flow
 pub mod Lines
 pub mod Labels
 pub mod Emitted
+pub mod Loops
 pub mod Heads
 pub mod CheckedExpressions
 pub mod CheckedCommands

@@ -2,7 +2,7 @@
 use Rattle.std.proofs.Common.{◌≡◌, ℕ, suc, ◌+◌, List, [], ◌∷◌, ◌++◌, length, reverse, take, drop, map, Option, Some, None, refl, sym, ap, ◌∙◌, arith, append_assoc, length-append}
 use Rattle.std.proofs.lemmas.List.{reverse-append, reverse-reverse, length-reverse}
 use Rattle.std.proofs.Math.Seq.{drop-append_seam, take-append_seam, drop-drop}
-use Rattle.std.specs.Prelude.{ℤ, Ok, ◌-◌}
+use Rattle.std.specs.Prelude.{ℤ, Ok}
 use Rattle.mj_num.specs.Number.{reading}
 use Rattle.mj_subs.specs.Name.{Name}
 use Rattle.mj_text.specs.Failing.{then_value}

@@ -76,3 +76,45 @@ fn functions_in_m_stand_wherever_expressions_do(rt: HostRuntime) -> Result<(), F
 ";
     judge(&rt, "invoked_places", Wanted::Printed, rows)
 }
+
+// What asks for something takes functions too, and so does each argument of the functions of the language.
+#[test]
+fn functions_in_m_stand_in_what_asks(rt: HostRuntime) -> Result<(), Fail> {
+    let rows = " J A($$P(3)) Q~A(N) W N Q~P(N) Q N~ => --- job 1~--- job 2~3~ => 0
+ O $$P(\"0\")::$$P(1) U $$P(\"0\") C $$P(\"F\") W 1 Q~P(N) Q N~ => 1 => 0
+ R X($$P(1)):$$P(0) W $T Q~P(N) Q N~ => 0 => 0
+ F X($$P(1))=1:1:2 W X(1)~ Q~P(N) Q N~ => 12 => 0
+ L +X($$P(1)):$$P(0) L (Y($$P(1)),Z) W $T L -Y($$P(1)) Q~P(N) Q N~ => 1 => 0
+ TS  S X=$$P(1) TRO:$$P(1)  W X,$TL Q~P(N) Q N~ => 10 => 0
+ S X=1 K:$$P(1) X W $D(X) N:$$P(1) X S X=2 W X Q~P(N) Q N~ => 02 => 0
+ S $P(X($$P(1)),\",\",$$P(2),$$P(3))=\"b\" W X(1) Q~P(N) Q N~ => ,b => 0
+ S Y(1)=1,Y(2)=1 W $O(Y(\"\"),$$P(1)),$O(Y(\"\"),$$P(-1)) Q~P(N) Q N~ => 12 => 0
+ S Y(1)=1 W $Q(Y($$P(\"\"))),$NA(Y($$P(2),$$P(\"a\"))) Q~P(N) Q N~ => Y(1)Y(2,\"a\") => 0
+ S X=$C($$P(65),$$P(66)) W $A(X,$$P(2)),$E(X,$$P(1),$$P(1)),$F(X,$$P(\"B\"),$$P(1)),$J(1,$$P(3)) Q~P(N) Q N~ => 66A3  1 => 0
+ W $TR($$P(\"ab\"),$$P(\"a\"),$$P(\"x\")),$RE($$P(\"ab\")),$P($$P(\"a,b\"),$$P(\",\"),$$P(2)) Q~P(N) Q N~ => xbbab => 0
+ W $QL($$P(\"A(1)\")),$QS($$P(\"A(1)\"),$$P(1)),$L($$P(\"a,b\"),$$P(\",\")) Q~P(N) Q N~ => 112 => 0
+";
+    judge(&rt, "invoked_asks", Wanted::Printed, rows)
+}
+
+// Blocks, GOTO and transactions inside functions, and what stands on the left of a function that changes it.
+#[test]
+fn functions_in_m_keep_what_stands_around(rt: HostRuntime) -> Result<(), Fail> {
+    let rows = " W $$F~F() I 1 D  Q 2~ . Q 1~ => F9 QUIT R:3~ => 1
+ W $$F Q~F() I 1 D  Q 2~ . S X=1~ => 2 => 0
+ W $$F Q~F() G G~G Q 7~ => 7 => 0
+ TS  W $$F TC  Q~F() TS  TC  Q $TL~ => 1 => 0
+ TS  W $$F~F() TRO  TS  Q 1~ => F13 INTX R:2~ => 1
+ TS  W $$F,$TL Q~F() TC  Q 5~ => 50 => 0
+ S X=1 W X+$$F Q~F() S X=5 Q X~ => 6 => 0
+ S X=1 W $$A(X,$$F) Q~F() S X=5 Q X~A(A,B) Q A_B~ => 15 => 0
+ D A($$F,,$$F) Q~A(A,B,C) W A,$D(B),C Q~F() Q 3~ => 303 => 0
+ W $$F Q~F() N X S X=1 D G Q X~G S X=X+1 Q~ => 2 => 0
+ W $$F,$T Q~F() I 1 Q 5~ => 50 => 0
+ W $$F(1,2,3,4,5) Q~F(A,B,C,D,E) Q E_D_C_B_A~ => 54321 => 0
+ W $$F^S Q~F() Q 1~ => F8 NOLINE R:1~ => 1
+ W $$F(1) Q~F Q 1~ => F22 PARAMS R:1~ => 1
+ W $$F*2+$$F Q~F() Q 3~ => 9 => 0
+";
+    judge(&rt, "invoked_around", Wanted::Printed, rows)
+}

@@ -1,15 +1,14 @@
-use Rattle.std.proofs.Common.{◌≡◌, ℕ, ◌+◌, [], ◌∷◌, ◌++◌, length, map, ap, sym, ◌∙◌, arith}
+use Rattle.std.proofs.Common.{◌≡◌, ℕ, ◌+◌, [], ◌∷◌, Option, ◌++◌, length, map, ap, sym, ◌∙◌, arith}
 use Rattle.std.proofs.lemmas.Grind.{common_steps}
 use Rattle.std.proofs.lemmas.List.{nil_from_length}
 use Rattle.std.proofs.lemmas.Result.{on_ok_weaker}
 use Rattle.std.specs.Prelude.{slice_set}
 use Rattle.mj_ast.specs.Trees.{expr_of, variable_of, range_of, step_of}
-use Rattle.mj_pcode.specs.declared.instr.Reference.{Reference}
-use Rattle.mj_pcode.specs.declared.instr.Instr.{Instr}
-use Rattle.mj_pcode.specs.declared.instr.Instr.TheVariants.{JumpIfTest, JumpUnlessTest, SetTest, ForOpen, ForClose, Discard}
-use Rattle.mj_asm.specs.Code.{expr_code, subscripts_code, ranges_code, steps_code, if_code, ifs_code, body_code}
+use Rattle.mj_pcode.specs.declared.instr.Instr.TheVariants.{JumpIfTest, JumpUnlessTest, SetTest, ForOpen, ForClose}
+use Rattle.mj_asm.specs.Code.{expr_code, steps_code, if_code, ifs_code}
 use Rattle.mj_asm.specs.Sites.{here_of}
-use Rattle.mj_asm.proofs.Emitted.{led, tested, closed, opened}
+use Rattle.mj_asm.proofs.Emitted.{led, tested, closed}
+use Rattle.mj_asm.proofs.Loops.{looped}
 use Rattle.mj_asm.proofs.emit.+steps.Goals as goal
 
 pub emit_body-returns : goal.emit_body-returns
@@ -28,20 +27,16 @@ emit_else-returns t c =
 
 pub emit_for-returns : goal.emit_for-returns
 emit_for-returns t c =
-    let base = c.args.code.now.items in
     let x = variable_of c.args.variable.now in
-    let cs = subscripts_code (length base) x in
-    let passes = λ (p : ℕ). body_code p (λ q o. steps_code (here_of c.args.site) q o (map step_of c.args.behind.now)) in
-    let ranges = λ (p : ℕ). ranges_code p (map range_of c.args.ranges.now) in
-    let z : Reference → ℕ → Instr = λ r n. ForOpen r.word r.count (n + 1) in
+    let rest = λ (p : ℕ) (o : Option ℕ). steps_code (here_of c.args.site) p o (map step_of c.args.behind.now) in
     let local = c.in_ok-local.local in
-    let f = length base + length cs + 1 in
-    let last = f + length (ranges f) in
     on_ok_weaker c.emit_body.result (λ h.
-    opened base cs (z local) ranges passes c.emit_subscripts.new.code.items c.put.new.code.items c.emit_ranges.new.code.items c.change.new.code.items _ (Discard 0) c.len-open.result
-    c.in_ok-emit_subscripts.ensures (c.len-open.ensures ∙ c.emit_subscripts.new.code.ok.0) c.in_ok-put.ensures c.in_ok-emit_ranges.ensures
-    (c.change.ensures ∙ ap (λ k. slice_set c.emit_ranges.new.code.items c.len-open.result (z local k)) (c.len-body.ensures ∙ c.emit_ranges.new.code.ok.0)) h
-    ∙ ap (λ r. base ++ (cs ++ z r last ∷ (ranges f ++ passes last))) c.in_ok-local.ensures) c.emit_body.ensures
+    looped c.args.code.now.items x (map range_of c.args.ranges.now) rest local
+    c.emit_subscripts.new.code.items c.put.new.code.items c.emit_ranges.new.code.items c.change.new.code.items _ c.len-open.result
+    c.in_ok-local.ensures c.in_ok-emit_subscripts.ensures (c.len-open.ensures ∙ c.emit_subscripts.new.code.ok.0) c.in_ok-put.ensures c.in_ok-emit_ranges.ensures
+    (c.change.ensures
+    ∙ ap (λ k. slice_set c.emit_ranges.new.code.items c.len-open.result (ForOpen local.word local.count (k + 1))) (c.len-body.ensures ∙ c.emit_ranges.new.code.ok.0))
+    h) c.emit_body.ensures
 
 pub emit_if-returns-then-is_empty : goal.emit_if-returns-then-is_empty
 emit_if-returns-then-is_empty t c =
