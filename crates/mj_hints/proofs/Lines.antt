@@ -8,7 +8,7 @@ use Rattle.std.specs.List.{position_or_len}
 use Rattle.mj_ast.specs.Routines.{lines_of}
 use Rattle.mj_rou.specs.File.{without_return, is_newline}
 use Rattle.mj_rou.proofs.Lines.{HasNoNewline, lines_cut, before_newline, cut_at_newline, last_line}
-use Rattle.mj_hints.specs.Refusals.{AreWholeLines, IsOneLine, IsCutBehind, IsEmptied, line_at, only_line}
+use Rattle.mj_hints.specs.Refusals.{IsOneLine, IsCutBehind, IsEmptied, line_at, only_line}
 
 -- ---- one line
 
@@ -89,7 +89,7 @@ only_few (b ∷ bs) = omega arith
 pub few_lines : (place : ℕ) (bytes front rest : List ℕ) → IsCutBehind place bytes front rest → lines_of rest ≡ only_line rest → length (lines_of bytes) ≤ place + 1
 few_lines place bytes front rest c h =
     let all : length (lines_of bytes) ≡ length c.lines + length (only_line rest) =
-        ap length (cut_lines place bytes front rest c) ∙ length-append c.lines (lines_of rest) ∙ ap (λ (xs : List (List ℕ)). length c.lines + length xs) h in
+    ap length (cut_lines place bytes front rest c) ∙ length-append c.lines (lines_of rest) ∙ ap (λ (xs : List (List ℕ)). length c.lines + length xs) h in
     omega (arith, all, only_few rest, c.count)
 
 -- there are these alone

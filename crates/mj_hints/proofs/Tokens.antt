@@ -1,5 +1,5 @@
 -- The first token of some bytes, by the tokens that are kept.
-use Rattle.std.proofs.Common.{◌≡◌, ℕ, ◌+◌, List, [], ◌∷◌, ◌++◌, length, take, Option, Some, None, get_or, map, ◌≤◌, refl, ap, sym, ◌∙◌, subst, arith}
+use Rattle.std.proofs.Common.{◌≡◌, ℕ, ◌+◌, List, [], ◌∷◌, ◌++◌, length, take, Some, None, get_or, ◌≤◌, refl, ap, ◌∙◌, arith}
 use Rattle.mj_ast.specs.Tokens.{Token, Lexeme, IsTokenisation, lexemes}
 use Rattle.mj_lex.specs.Seen.{placed, places_seen, token_seen}
 use Rattle.mj_lex.specs.declared.token.Lexeme as kept

@@ -1,5 +1,5 @@
 -- Refusals that were told, and those behind them.
-use Rattle.std.proofs.Common.{◌≡◌, ◌≢◌, ℕ, zero, suc, ◌+◌, ◌-◌, ◌<◌, List, [], ◌∷◌, ◌++◌, refl, ap, sym, ◌∙◌, subst, arith, Option, Some, None, append_assoc}
+use Rattle.std.proofs.Common.{◌≡◌, ◌≢◌, ℕ, zero, suc, ◌-◌, ◌<◌, List, [], ◌∷◌, ◌++◌, refl, ap, sym, subst, arith, Option, Some, None, append_assoc}
 use Rattle.mj_ast.specs.Syntax.{Routine}
 use Rattle.mj_rou.specs.Read.{IsRoutineRead, IsRoutineRefused}
 use Rattle.mj_rou.specs.declared.error.LoadError.{LoadError}

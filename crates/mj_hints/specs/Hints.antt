@@ -3,16 +3,15 @@
 -- A line that can't go on at a column is cut there: the bytes before it, which begin a line, and the bytes that stand there. The first token of these is what no
 -- line goes on with. What people meant is guessed by the bytes around the column. So a phrase is a guess, and the refusal is none: nothing here says what is
 -- refused.
-use Rattle.std.specs.Prelude.{ℕ, ◌+◌, ◌-◌, ◌==◌, nat_le, nat_lt, Bool, true, false, not, ◌&&◌, ◌||◌, if◌then◌else◌, List, [], ◌∷◌, ◌++◌, length, map, reverse, take, drop, take_while, Option, Some, None, codes, nat_eq, bytes_eq}
+use Rattle.std.specs.Prelude.{ℕ, ◌+◌, ◌-◌, ◌==◌, nat_lt, Bool, true, false, not, ◌&&◌, ◌||◌, if◌then◌else◌, List, [], ◌∷◌, length, map, reverse, take, drop, take_while, Option, Some, None, codes, nat_eq, bytes_eq}
 use Rattle.std.specs.List.{starts_with, ends_with, list_all}
 use Rattle.mj_ast.specs.declared.construct.Construct.{Construct}
 use Rattle.mj_ast.specs.declared.construct.Construct.TheVariants as construct
-use Rattle.mj_ast.specs.declared.keyword.Keyword.{Keyword}
 use Rattle.mj_ast.specs.declared.keyword.Keyword.TheVariants as keyword
 use Rattle.mj_ast.specs.declared.keyword.Verb.{Verb}
 use Rattle.mj_ast.specs.declared.keyword.Verb.TheVariants.{Of, HaltOrHang}
 use Rattle.mj_ast.specs.declared.sign.Sign.TheVariants.{Close}
-use Rattle.mj_ast.specs.Tokens.{Token, Word, Called, Special, Digits, Quoted, Signed, Blank, Comment, Unclosed, Stray, Lexeme, lexemes, is_blank}
+use Rattle.mj_ast.specs.Tokens.{Token, Quoted, Signed, Blank, Comment, Unclosed, Lexeme, lexemes, is_blank}
 use Rattle.mj_ast.specs.Expressions.{callee_of}
 use Rattle.mj_ast.specs.Commands.{capital, verb_of}
 use Rattle.mj_ast.specs.LeftOut.{has_verb, has_callee}
@@ -238,6 +237,10 @@ variable_help word =
     else if starts_with nat_eq word (codes "$Z") then Said hint.Passed
     else nearly_or (near_of word variable_names) hint.Variables
 
+-- what is said of any other function
+abbrev pub other_function_help : List ℕ → Help
+other_function_help word = if is_trap word then Said hint.Trap else nearly_or (near_of word function_names) hint.Functions
+
 -- what is said of a function that it leaves out
 abbrev pub function_help : List ℕ → Help
 function_help word =
@@ -246,8 +249,7 @@ function_help word =
     else if is_one word (codes "$FNUMBER") (codes "$FN") then Said hint.Format
     else if is_one word (codes "$INCREMENT") (codes "$I") then Said hint.Raised
     else if is_one word (codes "$NEXT") (codes "$N") then Said hint.Next
-    else if is_trap word then Said hint.Trap
-    else nearly_or (near_of word function_names) hint.Functions
+    else other_function_help word
 
 -- what is said of a word that is no command's
 abbrev pub command_help : List ℕ → Help
@@ -297,7 +299,7 @@ named_help (Some c) before there = Some (construct_help c (slice_of (front_there
 
 -- What helps where a line can't go on behind these bytes with what stands there, which is left out by this name or by none: first where a blank is missing, then
 -- by signs of other languages, then by the name, then by the rest.
-abbrev pub help_at : Option Construct → List ℕ → List ℕ → Option Help
+unfoldable pub help_at : Option Construct → List ℕ → List ℕ → Option Help
 help_at c before there =
     if lacks_blank before (slice_of (front_there there)) || lacks_blank_there before there then Some (Said hint.TwoBlanks)
     else first_of (foreign_help before there) (named_help c before there)

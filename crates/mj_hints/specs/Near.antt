@@ -1,5 +1,5 @@
 -- Words that are nearly another (this profile).
-use Rattle.std.specs.Prelude.{ℕ, ◌==◌, nat_le, nat_lt, Bool, true, false, ◌&&◌, ◌||◌, if◌then◌else◌, List, [], ◌∷◌, length, find, Option, bytes_eq, nat_eq, codes}
+use Rattle.std.specs.Prelude.{ℕ, ◌==◌, nat_le, Bool, false, ◌&&◌, ◌||◌, if◌then◌else◌, List, [], ◌∷◌, length, find, Option, bytes_eq, nat_eq, codes}
 use Rattle.std.specs.List.{starts_with}
 
 -- two bytes that stand side by side have changed places, and the rest is the same

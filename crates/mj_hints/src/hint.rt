@@ -7,7 +7,7 @@ ghost use Rattle.mj_lex.specs.Seen.{token_seen};
 ghost use Rattle.mj_hints.specs.Hints.{Said, command_help, construct_help, end_help, foreign_help, front_there, function_help, help_at, help_seen};
 ghost use Rattle.mj_hints.specs.Hints.{is_brace as the_brace, is_comment_mark as the_comment_mark, is_function as the_function};
 ghost use Rattle.mj_hints.specs.Hints.{is_increase as the_increase, is_one as the_one, is_trap as the_trap, is_unequal as the_unequal, named_help};
-ghost use Rattle.mj_hints.specs.Hints.{nearly_or, plain_help, slice_of, token_help, variable_help};
+ghost use Rattle.mj_hints.specs.Hints.{nearly_or, other_function_help, plain_help, slice_of, token_help, variable_help};
 ghost use Rattle.mj_hints.specs.Near.{near_of};
 
 use crate::around::{
@@ -24,6 +24,7 @@ use mj_lex::Token;
 use std::alloc::{AllocError, Global};
 
 /// What helps where a line can't go on behind some bytes with what stands there, which the language leaves out by this name or by none.
+#[tactic(auto, unfolding(crate::specs::Hints::help_at))]
 pub fn hint_at(
     alloc: Global,
     construct: Option<Construct>,
@@ -261,7 +262,16 @@ fn function(word: &[u8]) -> Hint
         Hint::Raised
     } else if is_one(word, b"$NEXT", b"$N") {
         Hint::Next
-    } else if is_trap(word) {
+    } else {
+        other_function(word)
+    }
+}
+
+// What helps at any other function.
+fn other_function(word: &[u8]) -> Hint
+    ensures { help_seen result ≡ other_function_help word.now }
+{
+    if is_trap(word) {
         Hint::Trap
     } else {
         near_or(word, &FUNCTIONS, Hint::Functions)

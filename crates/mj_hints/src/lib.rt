@@ -11,7 +11,6 @@ mod hint;
 mod names;
 mod near;
 mod phrases;
-
 mod shown;
 mod text;
 mod token;

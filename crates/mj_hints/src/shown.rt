@@ -2,7 +2,7 @@
 
 ghost use Rattle.std.specs.Prelude.{◌≡◌, ◌++◌, ◌∷◌, ◌-◌, [], None, Some, OnOk, length, map, take, drop};
 ghost use Rattle.std.specs.Option.{option_map};
-ghost use Rattle.mj_hints.specs.Hints.{Said, help_seen, slice_of, front_there};
+ghost use Rattle.mj_hints.specs.Hints.{Nearly, Said, help_seen, slice_of, front_there};
 ghost use Rattle.mj_hints.specs.Phrases.{phrase_of};
 ghost use Rattle.mj_hints.specs.Refusals.{line_at as the_line};
 ghost use Rattle.mj_hints.specs.Shown.{caret_front, caret_line, help_behind, help_text, limit_case as the_limit_case, plain_line, refusal_text, shown_at};
@@ -133,22 +133,36 @@ fn put_caret(
 ) -> Result<(), AllocError>
     ensures { OnOk result (bytes.new.items ≡ bytes.old.items ++ caret_line column line.now (option_map help_seen hint)) }
 {
-    let at = column.saturating_sub(1);
-    let there = front(alloc, from(line, at))?;
-    let start = column.saturating_sub(NEAR);
-    bytes.extend_from_slice(b"    ")?;
-    put_under(bytes, up_to(from(line, start), at.saturating_sub(start)))?;
+    put_front(bytes, line, column)?;
     bytes.extend_from_slice(b"^ ")?;
-    match there {
-        None => put_word(bytes, b"")?,
-        Some((_, slice)) => put_word(bytes, slice)?,
-    }
+    put_there(alloc, bytes, from(line, column.saturating_sub(1)))?;
     put_behind(bytes, hint)?;
     bytes.push(b'\n')?;
     Ok(())
 }
 
-// Puts the word that stands there.
+// Puts what stands before the caret.
+fn put_front(bytes: &mut Vec<u8>, line: &[u8], column: usize) -> Result<(), AllocError>
+    ensures { OnOk result (bytes.new.items ≡ bytes.old.items ++ caret_front (start_of column) column line.now) }
+{
+    let start = column.saturating_sub(NEAR);
+    let at = column.saturating_sub(1);
+    bytes.extend_from_slice(b"    ")?;
+    put_under(bytes, up_to(from(line, start), at.saturating_sub(start)))?;
+    Ok(())
+}
+
+// Puts the first word of the bytes that stand there.
+fn put_there(alloc: Global, bytes: &mut Vec<u8>, there: &[u8]) -> Result<(), AllocError>
+    ensures { OnOk result (bytes.new.items ≡ bytes.old.items ++ word_shown (slice_of (front_there there.now))) }
+{
+    match front(alloc, there)? {
+        None => put_word(bytes, b""),
+        Some((_, slice)) => put_word(bytes, slice),
+    }
+}
+
+// Puts a word as it is shown.
 fn put_word(bytes: &mut Vec<u8>, word: &[u8]) -> Result<(), AllocError>
     ensures { OnOk result (bytes.new.items ≡ bytes.old.items ++ word_shown word.now) }
 {
@@ -175,13 +189,19 @@ fn put_hint(bytes: &mut Vec<u8>, hint: Hint) -> Result<(), AllocError>
     ensures { OnOk result (bytes.new.items ≡ bytes.old.items ++ help_text (help_seen hint)) }
 {
     match hint {
-        Hint::Near(name) => {
-            bytes.extend_from_slice(b"did you mean `")?;
-            bytes.extend_from_slice(name)?;
-            bytes.extend_from_slice(b"`?")
-        }
+        Hint::Near(name) => put_near(bytes, name),
         other => bytes.extend_from_slice(other.phrase().as_bytes()),
     }
+}
+
+// Puts the name that a word nearly is.
+fn put_near(bytes: &mut Vec<u8>, name: &[u8]) -> Result<(), AllocError>
+    ensures { OnOk result (bytes.new.items ≡ bytes.old.items ++ help_text (Nearly name.now)) }
+{
+    bytes.extend_from_slice(b"did you mean `")?;
+    bytes.extend_from_slice(name)?;
+    bytes.extend_from_slice(b"`?")?;
+    Ok(())
 }
 
 // Puts a line that has a phrase alone.

@@ -1,4 +1,4 @@
-use Rattle.std.proofs.Common.{◌-◌, ◌++◌, ◌∷◌, [], ℕ, List, sym, subst, ◌∙◌, arith}
+use Rattle.std.proofs.Common.{◌-◌, ℕ, List, sym, subst, ◌∙◌, arith}
 use Rattle.mj_ast.specs.Syntax.{Routine}
 use Rattle.mj_rou.specs.Read.{IsRoutineRead, IsRoutineRefused}
 use Rattle.mj_rou.specs.declared.error.LoadError.{LoadError}

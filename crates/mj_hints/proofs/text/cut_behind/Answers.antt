@@ -1,5 +1,5 @@
-use Rattle.std.proofs.Common.{◌+◌, ◌++◌, ◌∷◌, [], arith, ◌∙◌}
-use Rattle.mj_hints.proofs.Lines.{cut_none, cut_more, few_lines, no_more, cut_taken}
+use Rattle.std.proofs.Common.{◌++◌, ◌∷◌, [], arith}
+use Rattle.mj_hints.proofs.Lines.{cut_none, cut_more, few_lines}
 use Rattle.mj_hints.proofs.text.cut_behind.Goals as goal
 
 pub lines-init : goal.lines-init
