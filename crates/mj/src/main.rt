@@ -42,21 +42,39 @@ fn unread(rt: &HostRuntime, why: ErrorKind) -> u8 {
     }
 }
 
-// The words of the command line. Where a debugger's commands come from a terminal, its prompt is asked for too.
+// The words of the command line. Where a debugger's commands come from a terminal, its prompt is asked for too, and where refusals go to one, hints are.
 fn words(rt: &HostRuntime) -> io::Result<Vec<String>> {
     let mut words: Vec<String> = env::args(rt)?.collect(rt.alloc())?;
-    if words.len() >= 2 && lacks_prompt(&words) && rt.stdin().is_terminal() {
-        let prompt = String::from_str(rt.alloc(), "--prompt")?;
-        words.insert(2, prompt)?;
+    if rt.stdin().is_terminal() {
+        ask_for(rt, &mut words, &["debug"], "--prompt")?;
+    }
+    if rt.stderr().is_terminal() {
+        ask_for(rt, &mut words, &["run", "step", "debug"], "--hints")?;
     }
     Ok(words)
 }
 
-// Whether these words are those of a debugger, and don't ask for its prompt.
-fn lacks_prompt(words: &[String]) -> bool {
+// Asks for an option that these commands have, unless the words ask for it.
+fn ask_for(
+    rt: &HostRuntime,
+    words: &mut Vec<String>,
+    commands: &[&str],
+    option: &str,
+) -> io::Result<()> {
+    if words.len() >= 2 && lacks(words, commands, option) {
+        let word = String::from_str(rt.alloc(), option)?;
+        words.insert(2, word)?;
+    }
+    Ok(())
+}
+
+// Whether these words are those of one of the commands, and don't ask for an option.
+fn lacks(words: &[String], commands: &[&str], option: &str) -> bool {
     match words.get(1) {
         None => false,
-        Some(command) => command.as_str() == "debug"
-            && !words.iter().any(|word| word.as_str() == "--prompt"),
+        Some(command) => {
+            commands.iter().any(|name| *name == command.as_str())
+                && !words.iter().any(|word| word.as_str() == option)
+        }
     }
 }

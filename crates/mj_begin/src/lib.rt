@@ -2,18 +2,20 @@
 //
 // `begin` reads the steps, the routines, the globals and standard input, makes the devices and the starts of the first jobs, and sees that what will be
 // written goes to no file that is read (`apart.rt`). What comes of it is what the words ask for (`WereGiven` of `specs/Words.antt`). A routine's name is that
-// of its file (`specs/Names.antt`). What a run leaves goes to files by `save`, `write_trace` and `write_record`.
+// of its file (`specs/Names.antt`). What a run leaves goes to files by `save`, `write_trace` and `write_record`. Where a run can't begin, `refused` says why.
 #![tactic(auto)]
 
 mod apart;
 mod beginning;
 mod files;
 mod listings;
+mod refused;
 mod routines;
 mod traces;
 
 pub use beginning::{Beginning, Begun, Outlet, begin};
 pub use files::{file_bytes, routine_bytes, routine_name};
 pub use listings::{listed, save};
+pub use refused::refused;
 pub use routines::loaded;
 pub use traces::{write_record, write_trace};

@@ -43,6 +43,8 @@ pub struct Run<'a> {
     pub steps: Option<&'a str>,
     /// whether to say, where all jobs wait, what each waits for
     pub why: bool,
+    /// whether to tell, where routines are refused, what else is, and what helps
+    pub hints: bool,
 }
 
 /// Jobs that are to be stepped by the commands of a debugger.

@@ -77,6 +77,7 @@ fn run_of<'a>(alloc: Global, found: &ArgMatches<'a>) -> Result<Run<'a>, AllocErr
         devices: value_given(alloc, found, "device")?,
         steps: found.get_str("steps"),
         why: found.get_flag("why"),
+        hints: found.get_flag("hints"),
     })
 }
 

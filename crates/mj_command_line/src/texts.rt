@@ -58,7 +58,7 @@ Examples, at a terminal, and by the commands in a file:
 
 /// What stands below the help of `check`.
 pub const CHECK_EXAMPLE: &str = "\
-Example, which prints `ok 2`, or why one of the routines is refused:
+Example, which prints `ok 2`, or up to 20 lines of each file that are refused, with what helps:
   mj check R.m _TOOL.m";
 
 /// What stands below the help of `replay`.

@@ -32,23 +32,23 @@ const COMMANDS: [Row; 5] = [
         name: "run",
         about: "Runs jobs at the same time, by threads, and prints what they write",
         example: RUN_EXAMPLE,
-        options: &[WORKERS, START, GLOBALS, SAVE, TRACE, STDIN, DEVICE],
+        options: &[WORKERS, HINTS, START, GLOBALS, SAVE, TRACE, STDIN, DEVICE],
     },
     Row {
         name: "step",
         about: "Runs jobs by single steps, in turn or as a file says, and prints what they write",
         example: STEP_EXAMPLE,
-        options: &[STEPS, WHY, START, GLOBALS, SAVE, TRACE, STDIN, DEVICE],
+        options: &[STEPS, WHY, HINTS, START, GLOBALS, SAVE, TRACE, STDIN, DEVICE],
     },
     Row {
         name: "debug",
         about: "Steps jobs by the commands that standard input has, and prints what is answered to them",
         example: DEBUG_EXAMPLE,
-        options: &[PROMPT, START, GLOBALS, SAVE, TRACE, DEVICE],
+        options: &[PROMPT, HINTS, START, GLOBALS, SAVE, TRACE, DEVICE],
     },
     Row {
         name: "check",
-        about: "Loads routines without running them, and prints how many there are",
+        about: "Loads routines without running them, and prints how many there are, or what is refused and what helps",
         example: CHECK_EXAMPLE,
         options: &[],
     },
@@ -91,6 +91,15 @@ const WHY: Choice = Choice {
     name: "why",
     value: None,
     help: "Says, where all jobs wait, what each waits for",
+    action: ArgAction::SetTrue,
+    required: false,
+    most: None,
+};
+
+const HINTS: Choice = Choice {
+    name: "hints",
+    value: None,
+    help: "Tells, where routines are refused, of all lines that are, and what helps; at a terminal it is told anyway",
     action: ArgAction::SetTrue,
     required: false,
     most: None,

@@ -17,7 +17,7 @@ use crate::jobs::waits;
 use crate::replays::replayed;
 use crate::telling::tell_run;
 use crate::workers::with_workers;
-use mj_begin::{Beginning, Outlet, begin, loaded};
+use mj_begin::{Beginning, Outlet, begin, loaded, refused};
 use mj_command_line::{NoOrder, Order, Replay, Run, read_words};
 use mj_core::Core;
 use mj_dev::Device;
@@ -39,7 +39,8 @@ use std::thread::Threads;
 /// Does what the words ask for, of which the first is the program's name, and gives the exit status: 0; 1 where a job faulted, or a trace
 /// isn't that of a run; 2 where a routine, a listing, a trace, a file of steps or a step is refused; 3 where the words are wrong; 4 where
 /// memory or a file fails, where all jobs wait, or where they went on for too long; the greatest where several apply. What the jobs write
-/// goes to `out`; a refusal goes to `err`, on one line, but the text on wrong words, which is clap's. Where the words ask for it, `input`
+/// goes to `out`; a refusal goes to `err`, on one line, but the text on wrong words, which is clap's. Behind the refusal of a routine the words may ask for
+/// hints, and to check routines is to ask for them. Where the words ask for it, `input`
 /// is read whole before the run, and its lines are those of the first job's principal session. The globals that are left and the trace of
 /// the run are written after the output. Of a debugger the input has the commands, each of which is answered on `out` before the next is
 /// read.
@@ -60,7 +61,7 @@ where
         Ok(Order::Debug(order)) => debug(rt, &order, input, out, err),
         Ok(Order::Check { files }) => match check(rt, &files, out) {
             Ok(status) => status,
-            Err(stop) => stopped(&stop, err),
+            Err(stop) => refused(rt, &files, true, &stop, err),
         },
         Ok(Order::Replay(order)) => match replay(rt, &order, out) {
             Ok(status) => status,
@@ -93,7 +94,7 @@ where
 {
     match begin(rt, order, input) {
         Ok((beginning, outlet)) => run_from(rt, order, workers, beginning, outlet, out, err),
-        Err(stop) => stopped(&stop, err),
+        Err(stop) => refused(&rt, &order.files, order.hints, &stop, err),
     }
 }
 

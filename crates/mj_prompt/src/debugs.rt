@@ -6,7 +6,7 @@ ghost use Rattle.mj_replica.specs.Replicas.{AreWhole};
 ghost use Rattle.mj_begin.specs.Words.{WereGiven};
 
 use crate::prompts::{Prompt, prompt_of};
-use mj_begin::{Beginning, Outlet, begin, save, write_record};
+use mj_begin::{Beginning, Outlet, begin, refused, save, write_record};
 use mj_command_line::{Debug, Run};
 use mj_debug::Debugger;
 use mj_dev::Device;
@@ -34,7 +34,7 @@ where
 {
     match begin(rt, &order.run, input) {
         Ok((beginning, outlet)) => debug_from(rt, order, beginning, outlet, input, out, err),
-        Err(stop) => stopped(&stop, err),
+        Err(stop) => refused(&rt, &order.run.files, order.run.hints, &stop, err),
     }
 }
 

@@ -19,6 +19,8 @@ mod files;
 #[cfg(test)]
 mod functions;
 #[cfg(test)]
+mod hints;
+#[cfg(test)]
 mod input;
 #[cfg(test)]
 mod invoked;

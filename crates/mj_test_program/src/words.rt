@@ -54,7 +54,11 @@ fn counts(rt: &impl Runner, folder: &str) -> Result<(), Fail> {
     let two = "check|DIR/R.m|DIR/_TOOL.m";
     comes_to(rt, folder, two, b"", "ok 2\n", "", 0)?;
     let wrong = "check|DIR/R.m|DIR/S.m";
-    comes_to(rt, folder, wrong, b"", "", "L2 S:1:8\n", 2)?;
+    let told = "L2 S:1:8
+     WRITE \"abc
+           ^ \"abc: the quote isn't closed; inside a text two quotes stand for one
+";
+    comes_to(rt, folder, wrong, b"", "", told, 2)?;
     comes_to(rt, folder, "check|DIR/R.m|DIR/R.m", b"", "", "L4 R\n", 2)?;
     remove(rt, folder)
 }

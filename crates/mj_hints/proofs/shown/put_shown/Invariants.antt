@@ -1,0 +1,6 @@
+use Rattle.std.proofs.Common.{◌≡◌, ◌++◌, take}
+use Rattle.mj_hints.specs.Shown.{shown_bytes}
+use Rattle.mj_hints.proofs.shown.put_shown.Given as goal
+
+abbrev pub invariant-loop-byte : goal.invariant-loop-byte
+invariant-loop-byte l = l.bytes.items ≡ l.initial.bytes.items ++ shown_bytes (take l.byte-index l.source)

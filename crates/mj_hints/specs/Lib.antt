@@ -1,0 +1,5 @@
+pub mod Refusals
+pub mod Near
+pub mod Hints
+pub mod Phrases
+pub mod Shown

@@ -1,0 +1,298 @@
+// Which phrase helps where a line is refused.
+
+ghost use Rattle.std.specs.Prelude.{◌≡◌, ◌||◌, IfOk, bytes_eq, map};
+ghost use Rattle.std.specs.Option.{option_map};
+ghost use Rattle.mj_ast.specs.Commands.{capital};
+ghost use Rattle.mj_lex.specs.Seen.{token_seen};
+ghost use Rattle.mj_hints.specs.Hints.{Said, command_help, construct_help, end_help, foreign_help, front_there, function_help, help_at, help_seen};
+ghost use Rattle.mj_hints.specs.Hints.{is_brace as the_brace, is_comment_mark as the_comment_mark, is_function as the_function};
+ghost use Rattle.mj_hints.specs.Hints.{is_increase as the_increase, is_one as the_one, is_trap as the_trap, is_unequal as the_unequal, named_help};
+ghost use Rattle.mj_hints.specs.Hints.{nearly_or, other_function_help, plain_help, slice_of, token_help, variable_help};
+ghost use Rattle.mj_hints.specs.Near.{near_of};
+
+use crate::around::{
+    are_blanks, ends_blank, is_across, is_blank_inside, is_blank_twice, is_inside, lacks_blank,
+    lacks_blank_there,
+};
+use crate::names::{COMMANDS, FUNCTIONS, VARIABLES};
+use crate::near::{capitals, nearest};
+use crate::phrases::Hint;
+use crate::token::front;
+use mj_ast::{Construct, Sign};
+use mj_expr::callee;
+use mj_lex::Token;
+use std::alloc::{AllocError, Global};
+
+/// What helps where a line can't go on behind some bytes with what stands there, which the language leaves out by this name or by none.
+#[tactic(auto, unfolding(crate::specs::Hints::help_at))]
+pub fn hint_at(
+    alloc: Global,
+    construct: Option<Construct>,
+    before: &[u8],
+    there: &[u8],
+) -> Result<Option<Hint>, AllocError>
+    ensures { IfOk result (λ h. option_map help_seen h ≡ help_at construct before.now there.now) }
+{
+    let front = front(alloc, there)?;
+    if lacks_blank(before, slice(front)) || lacks_blank_there(before, there) {
+        return Ok(Some(Hint::TwoBlanks));
+    }
+    if let Some(hint) = foreign(before, there) {
+        return Ok(Some(hint));
+    }
+    match construct {
+        None => Ok(plain(before, there, front)),
+        Some(construct) => Ok(Some(instead_of(alloc, construct, slice(front))?)),
+    }
+}
+
+// The bytes of what stands there.
+fn slice<'a>(front: Option<(Token<'a>, &'a [u8])>) -> &'a [u8]
+    ensures { result.now ≡ slice_of (option_map (λ x. (token_seen x.0, x.1.now)) front.entry) }
+{
+    match front {
+        None => b"",
+        Some((_, slice)) => slice,
+    }
+}
+
+// What helps at signs that other languages have.
+fn foreign(before: &[u8], there: &[u8]) -> Option<Hint>
+    ensures { option_map help_seen result ≡ foreign_help before.now there.now }
+{
+    if is_comment_mark(before, there) {
+        Some(Hint::Semicolon)
+    } else if is_brace(there) {
+        Some(Hint::Braces)
+    } else if is_across(before, there, b"<", b"=", b"<=") {
+        Some(Hint::AtMost)
+    } else if is_across(before, there, b">", b"=", b">=") {
+        Some(Hint::AtLeast)
+    } else if is_unequal(before, there) {
+        Some(Hint::Unequal)
+    } else if is_across(before, there, b"=", b"=", b"==") {
+        Some(Hint::OneEquals)
+    } else if is_across(before, there, b"&", b"&", b"&&") {
+        Some(Hint::And)
+    } else if there.starts_with(b"||") {
+        Some(Hint::Or)
+    } else if is_increase(there) {
+        Some(Hint::Increase)
+    } else {
+        None
+    }
+}
+
+fn is_comment_mark(before: &[u8], there: &[u8]) -> bool
+    ensures { result ≡ the_comment_mark before.now there.now }
+{
+    is_across(before, there, b"/", b"/", b"//")
+        || (there.starts_with(b"/*") || (are_blanks(before) && there.starts_with(b"#")))
+}
+
+fn is_brace(there: &[u8]) -> bool
+    ensures { result ≡ the_brace there.now }
+{
+    there.starts_with(b"{") || there.starts_with(b"}")
+}
+
+fn is_unequal(before: &[u8], there: &[u8]) -> bool
+    ensures { result ≡ the_unequal before.now there.now }
+{
+    is_across(before, there, b"!", b"=", b"!=") || is_across(before, there, b"<", b">", b"<>")
+}
+
+fn is_increase(there: &[u8]) -> bool
+    ensures { result ≡ the_increase there.now }
+{
+    there.starts_with(b"+=")
+        || (there.starts_with(b"-=") || (there.starts_with(b"++") || there.starts_with(b"--")))
+}
+
+// What helps at blanks inside arguments, or else at the token that stands there.
+fn plain<'a>(before: &[u8], there: &'a [u8], front: Option<(Token<'a>, &'a [u8])>) -> Option<Hint>
+    requires { option_map (λ x. (token_seen x.0, x.1.now)) front ≡ front_there there.now }
+    ensures { option_map help_seen result ≡ plain_help before.now there.now }
+{
+    if is_blank_twice(before, there) {
+        return Some(Hint::OneBlank);
+    }
+    if is_blank_inside(before, there) {
+        return Some(Hint::NoBlank);
+    }
+    if there.starts_with(b"'") {
+        return Some(Hint::Apostrophe);
+    }
+    if there.starts_with(b"[") {
+        return Some(Hint::Brackets);
+    }
+    if there.starts_with(b"%") {
+        return Some(Hint::Remainder);
+    }
+    at_token(front, before)
+}
+
+// What helps at a token.
+fn at_token<'a>(front: Option<(Token<'a>, &'a [u8])>, before: &[u8]) -> Option<Hint>
+    ensures { option_map help_seen result ≡ token_help (option_map (λ x. (token_seen x.0, x.1.now)) front.entry) before.now }
+{
+    let Some((token, _)) = front else {
+        return Some(at_end(is_inside(before)));
+    };
+    match token {
+        Token::Comment(_) => {
+            if ends_blank(before) {
+                Some(at_end(is_inside(before)))
+            } else {
+                Some(Hint::CommentBlank)
+            }
+        }
+        Token::Unclosed(_) => Some(Hint::Quote),
+        Token::Quoted(_) => Some(Hint::Joined),
+        Token::Blank => {
+            if is_inside(before) {
+                Some(Hint::Parenthesis)
+            } else {
+                None
+            }
+        }
+        Token::Sign(Sign::Close) => {
+            if is_inside(before) {
+                None
+            } else {
+                Some(Hint::Closed)
+            }
+        }
+        _ => None,
+    }
+}
+
+// What helps where a line ends too early.
+fn at_end(inside: bool) -> Hint
+    ensures { help_seen result ≡ end_help inside }
+{
+    if inside {
+        Hint::Parenthesis
+    } else {
+        Hint::Ends
+    }
+}
+
+// What is written instead of a construct that is left out, by the word that stands there.
+fn instead_of(alloc: Global, construct: Construct, word: &[u8]) -> Result<Hint, AllocError>
+    ensures { IfOk result (λ h. help_seen h ≡ construct_help construct word.now) }
+{
+    let word = capitals(alloc, word)?;
+    let hint = match construct {
+        Construct::Function => function(&word),
+        Construct::Variable => variable(&word),
+        Construct::Command => command(&word),
+        _ => Hint::Instead(construct),
+    };
+    drop(word);
+    Ok(hint)
+}
+
+// Whether the word, in capitals, is this one, or its abbreviation.
+fn is_one(word: &[u8], full: &[u8], short: &[u8]) -> bool
+    ensures { result ≡ the_one word.now full.now short.now }
+{
+    word == full || word == short
+}
+
+fn is_trap(word: &[u8]) -> bool
+    ensures { result ≡ the_trap word.now }
+{
+    is_one(word, b"$ECODE", b"$EC")
+        || (is_one(word, b"$ETRAP", b"$ET")
+            || (is_one(word, b"$STACK", b"$ST")
+                || (is_one(word, b"$ESTACK", b"$ES") || is_one(word, b"$ZTRAP", b"$ZT"))))
+}
+
+fn is_function(word: &[u8]) -> bool
+    ensures { result ≡ the_function word.now }
+{
+    match word {
+        [] => false,
+        [_, name @ ..] => callee(name).is_some(),
+    }
+}
+
+// What helps at a word that is nearly one of these names, or else this.
+fn near_or(word: &[u8], names: &[&'static [u8]], other: Hint) -> Hint
+    requires { help_seen other ≡ Said other }
+    ensures { help_seen result ≡ nearly_or (near_of word.now (map (λ n. n.now) names.now)) other }
+{
+    match nearest(word, names) {
+        Some(name) => Hint::Near(name),
+        None => other,
+    }
+}
+
+// What helps at a variable that is left out.
+fn variable(word: &[u8]) -> Hint
+    ensures { help_seen result ≡ variable_help word.now }
+{
+    if is_one(word, b"$HOROLOG", b"$H") {
+        Hint::Clock
+    } else if is_trap(word) {
+        Hint::Trap
+    } else if is_one(word, b"$PRINCIPAL", b"$P") {
+        Hint::Principal
+    } else if is_function(word) {
+        Hint::Directly
+    } else if word.starts_with(b"$Z") {
+        Hint::Passed
+    } else {
+        near_or(word, &VARIABLES, Hint::Variables)
+    }
+}
+
+// What helps at a function that is left out.
+fn function(word: &[u8]) -> Hint
+    ensures { help_seen result ≡ function_help word.now }
+{
+    if is_one(word, b"$TEXT", b"$T") {
+        Hint::Lines
+    } else if is_one(word, b"$RANDOM", b"$R") {
+        Hint::Chance
+    } else if is_one(word, b"$FNUMBER", b"$FN") {
+        Hint::Format
+    } else if is_one(word, b"$INCREMENT", b"$I") {
+        Hint::Raised
+    } else if is_one(word, b"$NEXT", b"$N") {
+        Hint::Next
+    } else {
+        other_function(word)
+    }
+}
+
+// What helps at any other function.
+fn other_function(word: &[u8]) -> Hint
+    ensures { help_seen result ≡ other_function_help word.now }
+{
+    if is_trap(word) {
+        Hint::Trap
+    } else {
+        near_or(word, &FUNCTIONS, Hint::Functions)
+    }
+}
+
+// What helps at a word that is no command's.
+fn command(word: &[u8]) -> Hint
+    ensures { help_seen result ≡ command_help word.now }
+{
+    if is_one(word, b"XECUTE", b"X") {
+        Hint::Execute
+    } else if is_one(word, b"ZWRITE", b"ZWR") {
+        Hint::Listed
+    } else if is_one(word, b"VIEW", b"V") || word.starts_with(b"Z") {
+        Hint::Extended
+    } else if word == b"THEN".as_slice() {
+        Hint::Then
+    } else if word == b"RETURN".as_slice() {
+        Hint::Returned
+    } else {
+        near_or(word, &COMMANDS, Hint::Commands)
+    }
+}
