@@ -38,7 +38,9 @@ const COMMANDS: [Row; 5] = [
         name: "step",
         about: "Runs jobs by single steps, in turn or as a file says, and prints what they write",
         example: STEP_EXAMPLE,
-        options: &[STEPS, WHY, HINTS, START, GLOBALS, SAVE, TRACE, STDIN, DEVICE],
+        options: &[
+            STEPS, WHY, HINTS, START, GLOBALS, SAVE, TRACE, STDIN, DEVICE,
+        ],
     },
     Row {
         name: "debug",

@@ -5,7 +5,8 @@ use std::test::Fail;
 
 #[test]
 fn blanks_are_hinted(rt: HostRuntime) -> Result<(), Fail> {
-    let rows = " ELSE WRITE 1 => L2 R:1:7 =>       ^ WRITE: two blanks stand behind a command that has no arguments: `ELSE  WRITE 1`
+    let rows =
+        " ELSE WRITE 1 => L2 R:1:7 =>       ^ WRITE: two blanks stand behind a command that has no arguments: `ELSE  WRITE 1`
  QUIT WRITE 1 => L2 R:1:13 =>             ^ 1: two blanks stand behind a command that has no arguments: `ELSE  WRITE 1`
  QUIT:X SET Y=1 => L7 R:1:13 command =>             ^ Y: two blanks stand behind a command that has no arguments: `ELSE  WRITE 1`
  FOR SET X=1 => L2 R:1:9 =>         ^ a blank: two blanks stand behind a command that has no arguments: `ELSE  WRITE 1`
@@ -52,7 +53,8 @@ fn signs_of_other_languages_are_hinted(rt: HostRuntime) -> Result<(), Fail> {
 
 #[test]
 fn words_are_hinted(rt: HostRuntime) -> Result<(), Fail> {
-    let rows = " WRITE $LENGHT(\"a\") => L7 R:1:8 function =>        ^ $LENGHT: did you mean `$LENGTH`?
+    let rows =
+        " WRITE $LENGHT(\"a\") => L7 R:1:8 function =>        ^ $LENGHT: did you mean `$LENGTH`?
  WRITE $len(\"a\") => L7 R:1:8 function =>        ^ $len: did you mean `$LENGTH`?
  WRITE $TEXT(A) => L7 R:1:8 function =>        ^ $TEXT: lines can't be read: a local array that a `SET` fills can have the texts
  WRITE $RANDOM(9) => L7 R:1:8 function =>        ^ $RANDOM: numbers by chance come from one of your own: `SET S=S*69069+1#4294967296,N=S\\65536#10`
@@ -81,7 +83,8 @@ fn words_are_hinted(rt: HostRuntime) -> Result<(), Fail> {
 
 #[test]
 fn what_is_left_out_is_hinted(rt: HostRuntime) -> Result<(), Fail> {
-    let rows = " SET @X=1 => L7 R:1:6 indirection =>      ^ @: a name is written as it is; `V(N)` has values by names, and `DO A:N=\"A\",B:N=\"B\"` chooses
+    let rows =
+        " SET @X=1 => L7 R:1:6 indirection =>      ^ @: a name is written as it is; `V(N)` has values by names, and `DO A:N=\"A\",B:N=\"B\"` chooses
  WRITE 1.5 => L7 R:1:9 fraction =>         ^ .: numbers are whole: count in smaller units, as 150 hundredths for 1.5
  WRITE 1E5 => L7 R:1:9 exponent =>         ^ E5: write the number in full: `100000`
  WRITE 2**3 => L7 R:1:10 power =>          ^ *: multiply: `SET P=1 FOR I=1:1:3 SET P=P*X`
@@ -117,7 +120,12 @@ fn check_goes_on(rt: HostRuntime) -> Result<(), Fail> {
 
 // The refusal of the first file is told as ever; behind it are those of all files, line by line.
 fn goes_on(rt: &impl Runner, folder: &str) -> Result<(), Fail> {
-    write(rt, folder, "R.m", b"A SET X = 1\n WRITE 1\nB WRITE 1)\nB WRITE 2\nB WRITE 3\n")?;
+    write(
+        rt,
+        folder,
+        "R.m",
+        b"A SET X = 1\n WRITE 1\nB WRITE 1)\nB WRITE 2\nB WRITE 3\n",
+    )?;
     write(rt, folder, "S.m", b" WRITE 1\n")?;
     write(rt, folder, "T.m", b" WRITE 1\n WRITE \"abc")?;
     let first = "L2 R:1:8
@@ -172,7 +180,9 @@ fn twenty(rt: &impl Runner, folder: &str) -> Result<(), Fail> {
     let mut told = String::new(rt.alloc());
     for number in 1..=20 {
         lines.extend_from_slice(b" WRITE 1)\n")?;
-        let one = format!(in rt.alloc(); "L2 R:{number}:9\n     WRITE 1)\n            ^ ): no `(` is open there\n")?;
+        let one = format!(in rt.alloc();
+            "L2 R:{number}:9\n     WRITE 1)\n            ^ ): no `(` is open there\n"
+        )?;
         told.push_str(one.as_str())?;
         drop(one);
     }
@@ -195,7 +205,12 @@ fn limits_are_hinted(rt: HostRuntime) -> Result<(), Fail> {
 
 // A word and a name over their limits, a level too many, and a long line, of which the part round the column is shown.
 fn limits(rt: &impl Runner, folder: &str) -> Result<(), Fail> {
-    write(rt, folder, "R.m", b" SET A2345678901234567890123456789012=1\n")?;
+    write(
+        rt,
+        folder,
+        "R.m",
+        b" SET A2345678901234567890123456789012=1\n",
+    )?;
     let word = "L5 R:1
      SET A2345678901234567890123456789012=1
     a word has at most 31 bytes, and a variable at most 31 subscripts
@@ -205,6 +220,14 @@ fn limits(rt: &impl Runner, folder: &str) -> Result<(), Fail> {
     let name = "L1 DIR/R2345678901234567890123456789012.m
     the name of the file, up to its last point, is a word of at most 31 letters and digits; a first `_` stands for `%`
 ";
-    comes_to(rt, folder, "check|DIR/R2345678901234567890123456789012.m", b"", "", name, 2)?;
+    comes_to(
+        rt,
+        folder,
+        "check|DIR/R2345678901234567890123456789012.m",
+        b"",
+        "",
+        name,
+        2,
+    )?;
     remove(rt, folder)
 }
