@@ -9,13 +9,13 @@ mod apart;
 mod beginning;
 mod files;
 mod listings;
-mod refused;
+mod refusing;
 mod routines;
 mod traces;
 
 pub use beginning::{Beginning, Begun, Outlet, begin};
 pub use files::{file_bytes, routine_bytes, routine_name};
 pub use listings::{listed, save};
-pub use refused::refused;
+pub use refusing::refused;
 pub use routines::loaded;
 pub use traces::{write_record, write_trace};
