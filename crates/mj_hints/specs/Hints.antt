@@ -297,9 +297,15 @@ abbrev pub named_help : Option Construct → List ℕ → List ℕ → Option He
 named_help None before there = plain_help before there
 named_help (Some c) before there = Some (construct_help c (slice_of (front_there there)))
 
+-- Whether a command may stand there that counts as an argument, for want of a blank: not where something else is left out by its name.
+abbrev pub may_hide : Option Construct → Bool
+may_hide None = true
+may_hide (Some construct.Command) = true
+may_hide (Some c) = false
+
 -- What helps where a line can't go on behind these bytes with what stands there, which is left out by this name or by none: first where a blank is missing, then
 -- by signs of other languages, then by the name, then by the rest.
 unfoldable pub help_at : Option Construct → List ℕ → List ℕ → Option Help
 help_at c before there =
-    if lacks_blank before (slice_of (front_there there)) || lacks_blank_there before there then Some (Said hint.TwoBlanks)
+    if may_hide c && (lacks_blank before (slice_of (front_there there)) || lacks_blank_there before there) then Some (Said hint.TwoBlanks)
     else first_of (foreign_help before there) (named_help c before there)

@@ -7,7 +7,7 @@ ghost use Rattle.mj_lex.specs.Seen.{token_seen};
 ghost use Rattle.mj_hints.specs.Hints.{Said, command_help, construct_help, end_help, foreign_help, front_there, function_help, help_at, help_seen};
 ghost use Rattle.mj_hints.specs.Hints.{is_brace as the_brace, is_comment_mark as the_comment_mark, is_function as the_function};
 ghost use Rattle.mj_hints.specs.Hints.{is_increase as the_increase, is_one as the_one, is_trap as the_trap, is_unequal as the_unequal, named_help};
-ghost use Rattle.mj_hints.specs.Hints.{nearly_or, other_function_help, plain_help, slice_of, token_help, variable_help};
+ghost use Rattle.mj_hints.specs.Hints.{may_hide as the_hidden, nearly_or, other_function_help, plain_help, slice_of, token_help, variable_help};
 ghost use Rattle.mj_hints.specs.Near.{near_of};
 
 use crate::around::{
@@ -34,7 +34,9 @@ pub fn hint_at(
     ensures { IfOk result (λ h. option_map help_seen h ≡ help_at construct before.now there.now) }
 {
     let front = front(alloc, there)?;
-    if lacks_blank(before, slice(front)) || lacks_blank_there(before, there) {
+    if may_hide(construct)
+        && (lacks_blank(before, slice(front)) || lacks_blank_there(before, there))
+    {
         return Ok(Some(Hint::TwoBlanks));
     }
     if let Some(hint) = foreign(before, there) {
@@ -43,6 +45,16 @@ pub fn hint_at(
     match construct {
         None => Ok(plain(before, there, front)),
         Some(construct) => Ok(Some(instead_of(alloc, construct, slice(front))?)),
+    }
+}
+
+// Whether a command may stand there that counts as an argument, for want of a blank: not where something else is left out by its name.
+fn may_hide(construct: Option<Construct>) -> bool
+    ensures { result ≡ the_hidden construct }
+{
+    match construct {
+        None | Some(Construct::Command) => true,
+        Some(_) => false,
     }
 }
 

@@ -145,13 +145,13 @@ impl Hint {
             Hint::LongRoutine => "a routine has at most 10,000 lines",
             Hint::LongWord => "a word has at most 31 bytes, and a variable at most 31 subscripts",
             Hint::Named =>
-                "the name of the file, up to its last point, is a word of at most 31 letters and digits; a first `_` stands for `%`",
+                "the name of the file, up to its last point, is a word of at most 31 letters and digits, a letter first; a first `_` stands for `%`",
             Hint::Deep => "at most 64 levels nest: a local can hold what is inside",
             Hint::Clock => "there is no clock: pass the time in, by `--stdin` or `--globals`",
             Hint::Trap => "nothing traps a fault: test first, by `$DATA`, `$GET` or `IF`",
             Hint::Principal => "the principal device is \"0\"",
             Hint::Passed =>
-                "Z variables are left out: pass the value in, by `--stdin` or `--globals`",
+                "Z variables are left out: what is to be known can come by `--stdin` or `--globals`",
             Hint::Variables =>
                 "the variables are `$IO`, `$JOB`, `$TEST`, `$TLEVEL`, `$TRESTART`, `$X` and `$Y`",
             Hint::Lines =>
@@ -166,7 +166,7 @@ impl Hint {
             Hint::Execute => "no text is run: `DO` runs the lines behind a label",
             Hint::Listed =>
                 "`--save FILE` lists the globals, and `g` and `v 1` of `mj debug` list globals and locals",
-            Hint::Extended => "Z commands and `VIEW` are left out, and nothing stands for them",
+            Hint::Extended => "Z commands and `VIEW` are left out",
             Hint::Then =>
                 "there is no `THEN`: the commands follow behind a blank, `IF X=1 SET Y=2`",
             Hint::Returned => "`QUIT` returns",

@@ -9,6 +9,8 @@ fn blanks_are_hinted(rt: HostRuntime) -> Result<(), Fail> {
         " ELSE WRITE 1 => L2 R:1:7 =>       ^ WRITE: two blanks stand behind a command that has no arguments: `ELSE  WRITE 1`
  QUIT WRITE 1 => L2 R:1:13 =>             ^ 1: two blanks stand behind a command that has no arguments: `ELSE  WRITE 1`
  QUIT:X SET Y=1 => L7 R:1:13 command =>             ^ Y: two blanks stand behind a command that has no arguments: `ELSE  WRITE 1`
+ NEW I SET $ZTRAP=\"x\" => L7 R:1:12 variable =>            ^ $ZTRAP: nothing traps a fault: test first, by `$DATA`, `$GET` or `IF`
+ IF I SET @X=1 => L7 R:1:11 indirection =>           ^ @: a name is written as it is; `V(N)` has values by names, and `DO A:N=\"A\",B:N=\"B\"` chooses
  FOR SET X=1 => L2 R:1:9 =>         ^ a blank: two blanks stand behind a command that has no arguments: `ELSE  WRITE 1`
  DO SET X=1 => L7 R:1:9 command =>         ^ X: two blanks stand behind a command that has no arguments: `ELSE  WRITE 1`
  SET X = 1 => L2 R:1:7 =>       ^ a blank: no blank stands inside arguments, or beside a comma of theirs: `SET X=1,Y=2`
@@ -65,14 +67,14 @@ fn words_are_hinted(rt: HostRuntime) -> Result<(), Fail> {
 `$LENGTH`
  WRITE $TSET => L7 R:1:8 variable =>        ^ $TSET: did you mean `$TEST`?
  WRITE $HOROLOG => L7 R:1:8 variable =>        ^ $HOROLOG: there is no clock: pass the time in, by `--stdin` or `--globals`
- WRITE $ZGBLDIR => L7 R:1:8 variable =>        ^ $ZGBLDIR: Z variables are left out: pass the value in, by `--stdin` or `--globals`
+ WRITE $ZGBLDIR => L7 R:1:8 variable =>        ^ $ZGBLDIR: Z variables are left out: what is to be known can come by `--stdin` or `--globals`
  SET $ETRAP=\"x\" => L7 R:1:6 variable =>      ^ $ETRAP: nothing traps a fault: test first, by `$DATA`, `$GET` or `IF`
  USE $PRINCIPAL => L7 R:1:6 variable =>      ^ $PRINCIPAL: the principal device is \"0\"
  WRITE $KEY => L7 R:1:8 variable =>        ^ $KEY: the variables are `$IO`, `$JOB`, `$TEST`, `$TLEVEL`, `$TRESTART`, `$X` and `$Y`
  WRIT 1 => L7 R:1:2 command =>  ^ WRIT: did you mean `WRITE`?
  XECUTE \"X\" => L7 R:1:2 command =>  ^ XECUTE: no text is run: `DO` runs the lines behind a label
  ZWRITE => L7 R:1:2 command =>  ^ ZWRITE: `--save FILE` lists the globals, and `g` and `v 1` of `mj debug` list globals and locals
- VIEW 1 => L7 R:1:2 command =>  ^ VIEW: Z commands and `VIEW` are left out, and nothing stands for them
+ VIEW 1 => L7 R:1:2 command =>  ^ VIEW: Z commands and `VIEW` are left out
  IF X THEN WRITE 1 => L7 R:1:7 command =>       ^ THEN: there is no `THEN`: the commands follow behind a blank, `IF X=1 SET Y=2`
  RETURN 1 => L7 R:1:2 command =>  ^ RETURN: `QUIT` returns
  LET X=1 => L7 R:1:2 command =>  ^ LET: did you mean `SET`?
@@ -218,7 +220,7 @@ fn limits(rt: &impl Runner, folder: &str) -> Result<(), Fail> {
     comes_to(rt, folder, "check|DIR/R.m", b"", "", word, 2)?;
     write(rt, folder, "R2345678901234567890123456789012.m", b"")?;
     let name = "L1 DIR/R2345678901234567890123456789012.m
-    the name of the file, up to its last point, is a word of at most 31 letters and digits; a first `_` stands for `%`
+    the name of the file, up to its last point, is a word of at most 31 letters and digits, a letter first; a first `_` stands for `%`
 ";
     comes_to(
         rt,

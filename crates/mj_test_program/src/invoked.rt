@@ -93,6 +93,16 @@ fn functions_in_m_stand_in_what_asks(rt: HostRuntime) -> Result<(), Fail> {
  S X=$C($$P(65),$$P(66)) W $A(X,$$P(2)),$E(X,$$P(1),$$P(1)),$F(X,$$P(\"B\"),$$P(1)),$J(1,$$P(3)) Q~P(N) Q N~ => 66A3  1 => 0
  W $TR($$P(\"ab\"),$$P(\"a\"),$$P(\"x\")),$RE($$P(\"ab\")),$P($$P(\"a,b\"),$$P(\",\"),$$P(2)) Q~P(N) Q N~ => xbbab => 0
  W $QL($$P(\"A(1)\")),$QS($$P(\"A(1)\"),$$P(1)),$L($$P(\"a,b\"),$$P(\",\")) Q~P(N) Q N~ => 112 => 0
+ J A::$$P(1) W $T Q~A Q~P(N) Q N~ => --- job 1~1~--- job 2~ => 0
+ F I=1:1 Q:$$P(I)>3  W I~ Q~P(N) Q N~ => 123 => 0
+ F I=1:$$P(2) Q:I>5  W I~ Q~P(N) Q N~ => 135 => 0
+ R ?$$P(3),X W $X Q~P(N) Q N~ =>    3 => 0
+ R *X($$P(1)) W $D(X) Q~P(N) Q N~ => 10 => 0
+ TS:$$P(0)  W $TL TS:$$P(1)  W $TL TC:$$P(1)  Q~P(N) Q N~ => 01 => 0
+ TS ():S  W 1 TRE:$$P(0)  TC  Q~P(N) Q N~ => 1 => 0
+ W 1 H:$$P(0)  W 2 H:$$P(1)  W 3~P(N) Q N~ => 12 => 0
+ S:$$P(0) X=1 S:$$P(1) Y=2 W $D(X),Y Q~P(N) Q N~ => 02 => 0
+ TS ():SERIAL  S X=$$F(3) TC  W X Q~F(N) I N Q 1+$$F(N-1)~ I $TR<2 TRE~ Q 10~ => 13 => 0
 ";
     judge(&rt, "invoked_asks", Wanted::Printed, rows)
 }
