@@ -346,8 +346,8 @@ fn limits_are_kept(rt: HostRuntime) -> Result<(), Fail> {
  W X(1<,1*29>,$$, => L5 R:1
  W X(1<,1*28>,$$, => L2 R:1:66
  W X(1<,1*29>,$$A^, => L5 R:1
- WRITE <$$A(*64>1<)*64> => ok
- WRITE <$$A(*65>1<)*65> => L6 R:1:267
+ WRITE <$$A(*64>1 => L2 R:1:265
+ WRITE <$$A(*65>1 => L6 R:1:267
  WRITE <(*65>ABCDEFGHIJKLMNOPQRSTUVWXYZABCDEF => L5 R:1
  WRITE <(*65>1,ABCDEFGHIJKLMNOPQRSTUVWXYZABCDEF => L6 R:1:72
  WRITE <-*65>1 S X(1)=ABCDEFGHIJKLMNOPQRSTUVWXYZABCDEF => L5 R:1
