@@ -103,8 +103,8 @@ impl Globals {
     }
 
     /// Makes the changes in order, all of them or none. `Limit` where one would give a name too many subscripts, and otherwise nothing
-    /// but memory can be wanting. Nothing of the store is copied: they cost what they give and what they take, and its names where a text is given again
-    /// at one that goes, or below one. Where memory is refused, stamps may rise without a change.
+    /// but memory can be wanting. The store itself is never copied: they cost what they give and what they take. Where a text is given again at a name that
+    /// goes, or below one, the nodes there are listed. Where memory is refused, stamps may rise without a change.
     pub fn apply(&mut self, changes: &[Change]) -> Result<(), Failure>
         ensures ok { OnOk result (self.new.content ≡ after_changes self.old.content changes.now) }
         ensures limit { (result ≡ Err (failure.Fault fault.Limit)) ↔ IsTrue (list_any goes_too_deep changes.now) }

@@ -61,6 +61,11 @@ unless_many (Some line) = if nat_le line routine_limit then Some line else None
 abbrev pub line_emptied : LoadError → Option ℕ
 line_emptied e = unless_many (line_refused e)
 
+-- what is refused first of the text, or that nothing is
+abbrev pub IsRefusedFirst : List ℕ → List ℕ → Option LoadError → Type 0
+IsRefusedFirst name bytes None = (r : Routine) × IsRoutineRead name bytes r
+IsRefusedFirst name bytes (Some e) = (e ≢ load.Memory) × IsRoutineRefused name bytes e
+
 -- What is refused of the text, at most so many lines of it: what is refused of the text as it stands, and then what is refused of the one in which that line is
 -- empty. If there are fewer, of the last text nothing is refused, or nothing more is told.
 abbrev pub AreRefusals : ℕ → List ℕ → List ℕ → List LoadError → Type 0

@@ -1,10 +1,7 @@
 // All that is refused of a text.
 
-ghost use Rattle.std.specs.Prelude.{◌≡◌, ◌≢◌, IfOk, MatchOption};
-ghost use Rattle.mj_ast.specs.Syntax.{Routine};
-ghost use Rattle.mj_rou.specs.Read.{IsRoutineRead, IsRoutineRefused};
-ghost use Rattle.mj_rou.specs.declared.error.LoadError.TheVariants.{Memory};
-ghost use Rattle.mj_hints.specs.Refusals.{AreRefusals, line_emptied as the_line_emptied};
+ghost use Rattle.std.specs.Prelude.{◌≡◌, IfOk};
+ghost use Rattle.mj_hints.specs.Refusals.{AreRefusals, IsRefusedFirst, line_emptied as the_line_emptied};
 
 use crate::text::with_empty;
 use mj_ast::ROUTINE_LIMIT;
@@ -41,7 +38,7 @@ pub fn refusals(
 
 // What is refused first, if the bytes aren't a routine's.
 fn refused(alloc: Global, name: &[u8], bytes: &[u8]) -> Result<Option<LoadError>, AllocError>
-    ensures { IfOk result (λ e. MatchOption e ((r : Routine) × IsRoutineRead name.now bytes.now r) (λ e. (e ≢ Memory) × IsRoutineRefused name.now bytes.now e)) }
+    ensures { IfOk result (λ e. IsRefusedFirst name.now bytes.now e) }
 {
     match read(alloc, name, bytes) {
         Ok(routine) => {

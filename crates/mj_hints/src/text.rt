@@ -2,9 +2,9 @@
 
 ghost use Rattle.std.specs.Prelude.{◌≡◌, ◌∷◌, ◌++◌, ◌≤◌, ◌<◌, [], IfNone, IfOk, IfSome, MatchOption, length, position};
 ghost use Rattle.mj_ast.specs.Routines.{lines_of};
-ghost use Rattle.mj_rou.specs.File.{is_newline, without_return};
 ghost use Rattle.mj_hints.specs.Refusals.{IsCutBehind, IsEmptied, IsOneLine, line_at as the_line, only_line};
 
+use mj_rou::{newline, stripped};
 use std::alloc::{AllocError, Global};
 
 /// The text in which the line at this place, which counts from 0, is empty.
@@ -85,23 +85,5 @@ fn cut(bytes: &[u8]) -> Option<(&[u8], &[u8])>
     match newline(bytes) {
         None => None,
         Some(end) => Some((&bytes[..end], &bytes[end + 1..])),
-    }
-}
-
-// Where the first byte 10 is.
-fn newline(bytes: &[u8]) -> Option<usize>
-    ensures { result ≡ position is_newline bytes.now }
-{
-    bytes.iter().position(|byte| *byte == b'\n')
-}
-
-// The bytes without one byte 13 at their end.
-fn stripped(line: &[u8]) -> &[u8]
-    ensures { result.now ≡ without_return line.now }
-{
-    if !line.is_empty() && line[line.len() - 1] == b'\r' {
-        &line[..line.len() - 1]
-    } else {
-        line
     }
 }

@@ -5,14 +5,14 @@ ghost use Rattle.mj_ast.specs.Routines.{lines_of};
 ghost use Rattle.mj_rou.specs.File.{is_newline, without_return};
 
 /// Where the first byte 10 is.
-fn newline(bytes: &[u8]) -> Option<usize>
+pub fn newline(bytes: &[u8]) -> Option<usize>
     ensures { result ≡ position is_newline bytes.now }
 {
     bytes.iter().position(|byte| *byte == b'\n')
 }
 
 /// The bytes without one byte 13 at their end.
-fn stripped(line: &[u8]) -> &[u8]
+pub fn stripped(line: &[u8]) -> &[u8]
     ensures { result.now ≡ without_return line.now }
 {
     if !line.is_empty() && line[line.len() - 1] == b'\r' {

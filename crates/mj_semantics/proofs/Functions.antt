@@ -121,7 +121,7 @@ formals_are_saved : says (line (assign (let_be "X" (text "1") ∷ []) ∷ write 
 unfolding digits
 formals_are_saved = refl
 
---  WRITE 1_$$F HALT / F HALT: a job ends in the middle of an expression
+--  WRITE $$F / F WRITE "a" HALT: a job ends in a function, in the middle of an expression
 halts_inside : says (line (write (call (here "F") NoActual ∷ []) ∷ []) ∷ at "F" (write (text "a" ∷ []) ∷ cmd Halt ∷ []) ∷ []) ≡ Some (codes "a")
 unfolding digits
 halts_inside = refl

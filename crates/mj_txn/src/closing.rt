@@ -7,7 +7,9 @@ ghost use Rattle.mj_ask.specs.declared.ask.Reply.TheVariants as replies;
 ghost use Rattle.mj_txlog.specs.Accesses.{unlock_reply, with_unlock};
 ghost use Rattle.mj_txlog.specs.Follows.{Follows};
 ghost use Rattle.mj_txlog.specs.Skips.{AreSkips, gone_by};
-ghost use Rattle.mj_globs.specs.Stamps.{Stamped, Rises};
+ghost use Rattle.mj_globs.specs.Changes.{are_to};
+ghost use Rattle.mj_globs.specs.Stamps.{Stamped, Rises, KeepsStamps};
+ghost use Rattle.mj_txn.specs.Commits.{changes_of};
 ghost use Rattle.mj_txlog.specs.declared.entry.Unlock.TheVariants as unlocks;
 
 use crate::changed::Changed;
@@ -116,6 +118,7 @@ pub fn close(
     ensures locks { OnOk result (locks.new.holds ≡ (committed log.now.transaction job globals.old.content locks.old.holds).locks) }
     ensures unchanged { OnErr result ((globals.new.content ≡ globals.old.content) × (locks.new.holds ≡ locks.old.holds)) }
     ensures stamps { Rises globals.old globals.new }
+    ensures others { OnOk result (KeepsStamps (are_to (changes_of log.now.transaction.accesses)) globals.old.stamps globals.new.stamps) }
 {
     match commit(log, globals)? {
         Outcome::Done => {

@@ -1,9 +1,10 @@
 // A commit.
 
-ghost use Rattle.std.specs.Prelude.{◌≡◌, ◌↔◌, IfOk, OnErr};
-ghost use Rattle.mj_globs.specs.Stamps.{Rises};
+ghost use Rattle.std.specs.Prelude.{◌≡◌, ◌↔◌, IfOk, OnOk, OnErr};
+ghost use Rattle.mj_globs.specs.Changes.{are_to};
+ghost use Rattle.mj_globs.specs.Stamps.{Rises, KeepsStamps};
 ghost use Rattle.mj_txlog.specs.Follows.{Follows, stale_of};
-ghost use Rattle.mj_txn.specs.Commits.{MayCommit, CommitsAs, after_commit};
+ghost use Rattle.mj_txn.specs.Commits.{MayCommit, CommitsAs, after_commit, changes_of};
 ghost use Rattle.mj_txn.specs.Testing.{outcome_of};
 ghost use Rattle.mj_txn.specs.declared.committing.Outcome.TheVariants as outcome;
 
@@ -25,8 +26,8 @@ pub enum Outcome {
 
 /// Commits the transaction. A SERIAL one is done exactly where each of its reads, asked now on the globals with its own writes before that
 /// read, has the answer that it had, and otherwise the first read that has another answer is named. Where it is done all writes are made,
-/// and else none. A read is asked only where the stamp of its word has changed: where none is stale the commit is done. The transaction itself stays
-/// as it is: what waits for its commit, and what a rollback gives back, is the caller's to do.
+/// and else none. A read is asked only where the stamp of its word has changed: where none is stale the commit is done. The stamps of
+/// words that it doesn't write stay. The transaction itself stays as it is: what waits for its commit, and what a rollback gives back, is the caller's to do.
 pub fn commit(log: &TxLog, globals: &mut Globals) -> Result<Outcome, AllocError>
     requires { Follows log.now globals.old }
     ensures outcome { IfOk result (λ r. CommitsAs log.now.transaction globals.old.content r) }
@@ -36,6 +37,7 @@ pub fn commit(log: &TxLog, globals: &mut Globals) -> Result<Outcome, AllocError>
     ensures fresh { stale_of log.now globals.old.stamps ≡ 0 → IfOk result (λ r. r ≡ outcome.Done) }
     ensures unchanged { OnErr result (globals.new.content ≡ globals.old.content) }
     ensures stamps { Rises globals.old globals.new }
+    ensures others { OnOk result (KeepsStamps (are_to (changes_of log.now.transaction.accesses)) globals.old.stamps globals.new.stamps) }
 {
     made(log, globals)
 }
@@ -50,6 +52,7 @@ fn made(log: &TxLog, globals: &mut Globals) -> Result<Outcome, AllocError>
     ensures fresh { stale_of log.now globals.old.stamps ≡ 0 → IfOk result (λ r. r ≡ outcome.Done) }
     ensures unchanged { OnErr result (globals.new.content ≡ globals.old.content) }
     ensures stamps { Rises globals.old globals.new }
+    ensures others { OnOk result (KeepsStamps (are_to (changes_of log.now.transaction.accesses)) globals.old.stamps globals.new.stamps) }
 {
     if log.is_serial() {
         if let Some(changed) = first_changed(log, globals)? {

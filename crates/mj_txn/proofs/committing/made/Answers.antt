@@ -1,8 +1,9 @@
-use Rattle.std.proofs.Common.{◌≡◌, false, [], Some, None, sym, ap, ◌∙◌, if◌then◌else◌}
+use Rattle.std.proofs.Common.{◌≡◌, false, List, [], Some, None, refl, sym, ap, ◌∙◌, if◌then◌else◌}
 use Rattle.std.specs.List.{list_any}
 use Rattle.mj_text.specs.declared.fault.Failure.TheVariants as failure
 use Rattle.mj_text.specs.declared.fault.Fault.TheVariants as fault
-use Rattle.mj_globs.specs.Changes.{after_changes, goes_too_deep}
+use Rattle.mj_globs.specs.declared.change.Change.{Change}
+use Rattle.mj_globs.specs.Changes.{after_changes, goes_too_deep, are_to}
 use Rattle.mj_txn.specs.declared.changed.Changed.{Changed}
 use Rattle.mj_txn.specs.declared.committing.Outcome.TheVariants as outcome
 use Rattle.mj_txn.specs.Commits.{Hold, Differs, changes_of}
@@ -29,6 +30,13 @@ returns-in-Ok-clause-globals c =
     c.in-Ok.ensures.ok
     ∙ ap (after_changes c.args.globals.now.content) (c.deref.ensures.value ∙ c.in_ok-changes.ensures ∙ ap changes_of c.entries.ensures.value)
     ∙ changes_seen c.args.log.now.transaction.accesses c.args.globals.now.content
+
+pub returns-in-Some-clause-others : goal.returns-in-Some-clause-others
+returns-in-Some-clause-others c n e = refl
+
+pub returns-in-Ok-clause-others : goal.returns-in-Ok-clause-others
+returns-in-Ok-clause-others c n e =
+    c.in-Ok.ensures.others n (ap (λ (xs : List Change). are_to xs n) (c.deref.ensures.value ∙ c.in_ok-changes.ensures ∙ ap changes_of c.entries.ensures.value) ∙ e)
 
 pub unreachable-requires : goal.unreachable-requires
 unreachable-requires c =
