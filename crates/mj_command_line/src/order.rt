@@ -6,6 +6,12 @@ use std::alloc::AllocError;
 pub const WORKERS_LIMIT: u32 = 64;
 /// How many workers there are, where the words don't say.
 pub const WORKERS: u32 = 8;
+/// The most runs by chance that the words may ask for.
+pub const RUNS_LIMIT: u32 = 1_000_000;
+/// How many there are, where the words don't say.
+pub const RUNS: u32 = 1000;
+/// What chance comes from, where the words don't say.
+pub const SEED: u32 = 1;
 
 /// What the words ask for.
 #[derive(Drop)]
@@ -14,6 +20,8 @@ pub enum Order<'a> {
     Run { run: Run<'a>, workers: u32 },
     /// to step jobs, as a file says or in turn
     Step(Run<'a>),
+    /// to make runs by chance, and to look for one that comes to something
+    Explore(Explore<'a>),
     /// to step jobs by the commands of a debugger
     Debug(Debug<'a>),
     /// to load the routines of these files, and to say how many there are
@@ -45,6 +53,23 @@ pub struct Run<'a> {
     pub why: bool,
     /// whether to tell, where routines are refused, what else is, and what helps
     pub hints: bool,
+}
+
+/// Jobs that are to run by chance, again and again.
+#[derive(Drop)]
+pub struct Explore<'a> {
+    /// the jobs; no file has their steps, nothing of them is saved, and where a file is named for steps it stands for that of the trace
+    pub run: Run<'a>,
+    /// whether the first job's input is standard input
+    pub stdin: bool,
+    /// how many runs there are at most
+    pub runs: u32,
+    /// what chance comes from
+    pub seed: u32,
+    /// what is looked for: `fault`, `stuck`, `clash`, or an expression that isn't true at the end
+    pub until: Option<&'a str>,
+    /// the file to which the steps of the run go that shows it
+    pub keep: Option<&'a str>,
 }
 
 /// Jobs that are to be stepped by the commands of a debugger.

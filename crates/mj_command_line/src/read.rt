@@ -1,6 +1,6 @@
 // The words of the command line.
 
-use crate::order::{Debug, NoOrder, Order, Replay, Run, WORKERS};
+use crate::order::{Debug, Explore, NoOrder, Order, RUNS, Replay, Run, SEED, WORKERS};
 use crate::words::command;
 use clap::error::ErrorKind;
 use clap::{ArgMatches, Command, Error};
@@ -43,6 +43,7 @@ fn order_of<'a>(
     match name {
         "run" => run_order(alloc, found),
         "step" => step_order(alloc, found),
+        "explore" => explore_order(alloc, found),
         "debug" => debug_order(alloc, found),
         "check" => check_order(alloc, found),
         "replay" => replay_order(alloc, found),
@@ -82,14 +83,33 @@ fn run_of<'a>(alloc: Global, found: &ArgMatches<'a>) -> Result<Run<'a>, AllocErr
 }
 
 fn run_order<'a>(alloc: Global, found: &ArgMatches<'a>) -> Result<Order<'a>, Error> {
-    let workers = match found.get_one::<u32>("workers") {
-        Some(workers) => workers,
-        None => WORKERS,
-    };
     Ok(Order::Run {
         run: run_of(alloc, found)?,
-        workers,
+        workers: number_given(found, "workers", WORKERS),
     })
+}
+
+// What may be written by a run is the file of the steps alone, where one is named, and standard input is read behind all files.
+fn explore_order<'a>(alloc: Global, found: &ArgMatches<'a>) -> Result<Order<'a>, Error> {
+    let keep = found.get_str("keep");
+    Ok(Order::Explore(Explore {
+        run: Run {
+            starts: value_given(alloc, found, "start")?,
+            files: value_given(alloc, found, "routines")?,
+            globals: found.get_str("globals"),
+            save: None,
+            trace: keep,
+            stdin: false,
+            devices: value_given(alloc, found, "device")?,
+            steps: None,
+            why: false,
+        },
+        stdin: found.get_flag("stdin"),
+        runs: number_given(found, "runs", RUNS),
+        seed: number_given(found, "seed", SEED),
+        until: found.get_str("until"),
+        keep,
+    }))
 }
 
 fn step_order<'a>(alloc: Global, found: &ArgMatches<'a>) -> Result<Order<'a>, Error> {
@@ -120,6 +140,14 @@ fn replay_order<'a>(alloc: Global, found: &ArgMatches<'a>) -> Result<Order<'a>, 
         files: value_given(alloc, found, "routines")?,
         globals: found.get_str("globals"),
     }))
+}
+
+// The number that was given for the argument of this name, or else this one.
+fn number_given(found: &ArgMatches<'_>, name: &str, other: u32) -> u32 {
+    match found.get_one::<u32>(name) {
+        Some(number) => number,
+        None => other,
+    }
 }
 
 // What was given for the argument of this name. One that the command hasn't counts as one that isn't given.

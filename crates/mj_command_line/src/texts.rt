@@ -12,13 +12,14 @@ Examples:
   mj run --trace TRACE --globals DATA --save DATA --start ^R R.m
   mj run --workers 2 --start A^R --start B^R R.m
   mj step --steps STEPS --start A^R --start B^R R.m
+  mj explore --until stuck --keep STEPS --start A^R --start B^R R.m
   mj debug --start ^R R.m
   mj check R.m _TOOL.m
   mj replay --trace TRACE R.m
 
 Exit statuses:
   0  all is done
-  1  a job faulted, or a trace isn't that of a run
+  1  a job faulted, a trace isn't that of a run, or a run by chance shows what it was made for
   2  a routine, a listing of globals, a trace or a file of steps was refused, or a step was
   3  the words of the command line are wrong
   4  memory was refused, a file failed, all jobs wait, or they went on for too long";
@@ -40,6 +41,13 @@ pub const STEP_EXAMPLE: &str = "\
 Examples, by the steps in a file (`1`, `2` and `1 late` are such lines), and in turn:
   mj step --steps STEPS --start A^R --start B^R R.m
   mj step --why --trace TRACE --start A^R --start B^R R.m";
+
+/// What stands below the help of `explore`.
+pub const EXPLORE_EXAMPLE: &str = "\
+Examples, of four jobs that each add 1 to ^C, and of two that take locks; the steps that are kept are made again by `mj step`, with the same other options:
+  mj explore --until '^C=4' --keep STEPS --start ^R --start ^R --start ^R --start ^R R.m
+  mj explore --runs 10000 --until stuck --keep STEPS --start A^R --start B^R R.m
+  mj step --steps STEPS --start A^R --start B^R R.m";
 
 /// What stands below the help of `debug`.
 pub const DEBUG_EXAMPLE: &str = "\

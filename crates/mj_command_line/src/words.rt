@@ -1,8 +1,9 @@
 // The commands, and what can be given to each: rows, of which the command line is built.
 
-use crate::order::WORKERS_LIMIT;
+use crate::order::{RUNS_LIMIT, WORKERS_LIMIT};
 use crate::texts::{
-    CHECK_EXAMPLE, DEBUG_EXAMPLE, EXAMPLES, REPLAY_EXAMPLE, RUN_EXAMPLE, STEP_EXAMPLE, VERSION,
+    CHECK_EXAMPLE, DEBUG_EXAMPLE, EXAMPLES, EXPLORE_EXAMPLE, REPLAY_EXAMPLE, RUN_EXAMPLE,
+    STEP_EXAMPLE, VERSION,
 };
 use clap::{Arg, ArgAction, Command, value_parser};
 use std::alloc::{AllocError, Global};
@@ -27,7 +28,7 @@ struct Choice {
     most: Option<u32>,
 }
 
-const COMMANDS: [Row; 5] = [
+const COMMANDS: [Row; 6] = [
     Row {
         name: "run",
         about: "Runs jobs at the same time, by threads, and prints what they write",
@@ -41,6 +42,12 @@ const COMMANDS: [Row; 5] = [
         options: &[
             STEPS, WHY, HINTS, START, GLOBALS, SAVE, TRACE, STDIN, DEVICE,
         ],
+    },
+    Row {
+        name: "explore",
+        about: "Makes runs by chance, counts their different ends, and finds one that faults, gets stuck, clashes or ends in what isn't true",
+        example: EXPLORE_EXAMPLE,
+        options: &[RUNS, SEED, UNTIL, KEEP, START, GLOBALS, STDIN, DEVICE],
     },
     Row {
         name: "debug",
@@ -94,6 +101,42 @@ const WHY: Choice = Choice {
     value: None,
     help: "Says, where all jobs wait, what each waits for",
     action: ArgAction::SetTrue,
+    required: false,
+    most: None,
+};
+
+const RUNS: Choice = Choice {
+    name: "runs",
+    value: Some("N"),
+    help: "How many runs there are at most: 1 to 1000000, or 1000 where it isn't said",
+    action: ArgAction::Set,
+    required: false,
+    most: Some(RUNS_LIMIT),
+};
+
+const SEED: Choice = Choice {
+    name: "seed",
+    value: Some("N"),
+    help: "What chance comes from: 1 to 4294967295, or 1 where it isn't said; the same runs come of the same number",
+    action: ArgAction::Set,
+    required: false,
+    most: Some(u32::MAX),
+};
+
+const UNTIL: Choice = Choice {
+    name: "until",
+    value: Some("fault|stuck|clash|EXPRESSION"),
+    help: "What ends the runs: a job that faults, jobs that all wait, a commit that clashes, or an expression over globals that isn't true at the end of a run",
+    action: ArgAction::Set,
+    required: false,
+    most: None,
+};
+
+const KEEP: Choice = Choice {
+    name: "keep",
+    value: Some("FILE"),
+    help: "Where the steps of the run are written that shows it, in the form that `mj step --steps` reads",
+    action: ArgAction::Set,
     required: false,
     most: None,
 };

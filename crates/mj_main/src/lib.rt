@@ -3,11 +3,12 @@
 //
 // `run` is the whole program, and its result is the exit status. It reads the words (by `mj_command_line`), then the file of steps, the files of the
 // routines, the listing of globals and standard input (`mj_begin`), and then has jobs run: by workers (`mj_threads`), or in turn or as the file says
-// (`mj_run`), or by the commands of a debugger (`mj_prompt`). Their devices are over lines and files (`mj_files`). What the jobs wrote is taken from the run's
-// history (`mj_report`); the globals that they left and the trace of the run are written last. What the jobs leave besides is forgotten, not dropped, since
-// the process ends behind `run`.
+// (`mj_run`), or by the commands of a debugger (`mj_prompt`), or again and again by chance (`mj_explore`). Their devices are over lines and files
+// (`mj_files`), those of runs by chance in memory. What the jobs wrote is taken from the run's history (`mj_report`); the globals that they left and the trace
+// of the run are written last. What the jobs leave besides is forgotten, not dropped, since the process ends behind `run`.
 #![tactic(auto)]
 
+mod explores;
 mod jobs;
 mod program;
 mod replays;

@@ -13,6 +13,7 @@ ghost use Rattle.mj_recorded.specs.Traces.{entries_of};
 ghost use Rattle.mj_report.specs.Traced.{IsHead};
 ghost use Rattle.mj_begin.specs.Words.{WereGiven};
 
+use crate::explores::explore;
 use crate::jobs::waits;
 use crate::replays::replayed;
 use crate::telling::tell_run;
@@ -58,6 +59,7 @@ where
     match read_words(rt.alloc(), words) {
         Ok(Order::Run { run, workers }) => run_order(rt, &run, Some(workers), input, out, err),
         Ok(Order::Step(order)) => run_order(rt, &order, None, input, out, err),
+        Ok(Order::Explore(order)) => explore(rt, &order, input, out, err),
         Ok(Order::Debug(order)) => debug(rt, &order, input, out, err),
         Ok(Order::Check { files }) => match check(rt, &files, out) {
             Ok(status) => status,
@@ -206,8 +208,9 @@ where
     let Some(status) = tell_core(rt, core, ending, order, outlet, out, err) else {
         return stopped(&ProgramError::Memory, err);
     };
-    // To ask what each job waits for is to step it once more, so it comes last.
-    if ending == Ending::Stuck && order.why {
+    // To ask what each job waits for is to step it once more, so it comes last. Behind the steps of a file it isn't known yet whether all wait.
+    let may_wait = ending == Ending::Stuck || order.steps.is_some() && ending == Ending::Over;
+    if may_wait && order.why {
         tell_waits(rt, core, err);
     }
     status

@@ -19,7 +19,7 @@ use std::marker::Model;
 /// The most steps that are made in turn. A step that only lets a job wait counts too, so it is another limit than that of the events in a history.
 pub const IN_TURN_LIMIT: usize = 1_000_000;
 
-// The jobs of a core.
+/// The jobs of a core.
 #[derive(Drop)]
 pub struct Jobs<D: Device, A: Answerer<Fresh<D>>, O: Opening> {
     pub core: Core<D, A, O>,
@@ -77,16 +77,16 @@ impl<D: Device, O: Opening> Jobs<D, Sessions<D>, O> {
         }
     }
 
-    // Makes these steps.
-    fn listed(&mut self, steps: &[Step]) -> Ending
+    /// Makes these steps, in order, up to the first that is refused.
+    pub fn listed(&mut self, steps: &[Step]) -> Ending
         ensures listed { ByList (StepsAs (IsToldBy D.inside D.failures D.taken D.given D.IsTold) O.opening) 0 steps.now self.old result self.new }
         ensures run { AreSteps (IsToldBy D.inside D.failures D.taken D.given D.IsTold) O.opening self.old self.new }
     {
         step_by(self, steps)
     }
 
-    // Steps the jobs in turn, no more often than that.
-    fn in_turn(&mut self, most: usize) -> Ending
+    /// Steps the jobs in turn, until all have ended or all wait, no more often than that.
+    pub fn in_turn(&mut self, most: usize) -> Ending
         ensures in_turn { IsInTurn (IsToldBy D.inside D.failures D.taken D.given D.IsTold) O.opening most self.old result self.new }
         ensures run { AreSteps (IsToldBy D.inside D.failures D.taken D.given D.IsTold) O.opening self.old self.new }
     {

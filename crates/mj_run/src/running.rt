@@ -75,3 +75,29 @@ pub fn run_jobs<D: Device, O: Opening>(
     holds(&core);
     Ok((core, ending))
 }
+
+/// The jobs of a core of which nothing was asked yet, for who steps them otherwise. The arguments, and what comes back at want of memory, are those of
+/// `Core::new`.
+pub fn begin_jobs<D: Device, O: Opening>(
+    alloc: Global,
+    image: Image,
+    globals: Globals,
+    pool: Pool<D>,
+    starts: Vec<Start>,
+) -> Result<Jobs<D, Sessions<D>, O>, Unmade<D>>
+    requires opening { opening_of globals.content pool starts.items ≡ O.opening }
+    requires global { are_global globals.content ≡ true }
+    requires some { 1 ≤ length starts.items }
+    requires few { length starts.items ≤ rows_limit }
+    requires fits { length starts.items ≤ left_of principal pool }
+    requires bare { are_bare starts.items ≡ true }
+    ensures begun { IfOk result (λ jobs. jobs ≡ begun image) }
+    ensures globals { IfErr result (λ back. back.globals ≡ globals) }
+    ensures pool { IfErr result (λ back. back.pool ≡ pool) }
+    ensures starts { IfErr result (λ back. back.starts.items ≡ starts.items) }
+{
+    none_is_held();
+    let core = Core::<D, Sessions<D>, O>::new(alloc, image, globals, pool, starts)?;
+    let jobs = Jobs { core };
+    Ok(jobs)
+}

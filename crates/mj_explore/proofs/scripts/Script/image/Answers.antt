@@ -1,0 +1,12 @@
+use Rattle.std.proofs.Common.{List, subst}
+use Rattle.mj_explore.specs.declared.scripts.Source.{Source}
+use Rattle.mj_explore.specs.Scripts.{IsUnread, sources_of}
+use Rattle.mj_explore.proofs.Loading.{for_memory}
+use Rattle.mj_explore.proofs.scripts.Script.image.Goals as goal
+
+pub unreachable-requires : goal.unreachable-requires
+unreachable-requires c =
+    let why = c.in-Err-Routine.field-0 in
+    let P : List Source → Type 0 = λ sources. IsUnread (sources_of sources) why in
+    for_memory c.read_or_refused.ensures (sources_of c.self.inside.sources.items) why c.self.invariant.loads
+    (subst P c.deref.ensures.value c.in-Err-Routine.ensures.unread) (λ e. cc (e, c.in-Err-Routine.field-0-is))

@@ -1,0 +1,5 @@
+pub mod Scripts
+pub mod Conditions
+pub mod Marks
+pub mod Ends
+pub mod Found
