@@ -1,0 +1,2 @@
+pub mod Retraced
+pub mod Noted

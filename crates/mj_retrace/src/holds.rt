@@ -1,0 +1,98 @@
+// Which event made a job hold each name.
+
+ghost use Rattle.std.specs.Prelude.{◌≡◌, ◌<◌, ◌⊎◌, ℕ, true, false, Contains, OnOk};
+ghost use Rattle.mj_subs.specs.Name.{Name as Names};
+ghost use Rattle.mj_locktab.specs.Locks.{count_of};
+ghost use Rattle.mj_retrace.specs.Retraced.{IsTaking};
+ghost use Rattle.mj_retrace.specs.Noted.{AreNoted, changes_locks};
+
+use mj_ask::{Ask, Reply, SharedAsk};
+use mj_locktab::LockTable;
+use mj_subs::Name;
+use std::alloc::AllocError;
+
+/// A name that a job holds, and the place of the event by which it came to hold it.
+pub type Hold = (u32, Name, usize);
+
+/// A name that a job held, the place of the event by which it came to hold it, and that of the event by which it gave it up.
+pub type Held = (u32, Name, usize, usize);
+
+/// Notes what an event of a job changed of what jobs hold, where the locks are so behind it: what they hold, and what they held.
+pub fn note_holds(
+    holds: &mut Vec<Hold>,
+    past: &mut Vec<Held>,
+    locks: &LockTable,
+    job: u32,
+    ask: &Ask,
+    reply: &Reply,
+    place: usize,
+) -> Result<(), AllocError>
+    ensures { OnOk result (AreNoted locks.now.holds job ask.now reply.now place holds.old.items holds.new.items) }
+{
+    if !changes_locks(ask) {
+        return Ok(());
+    }
+    for hold in holds.iter() {
+        note_past(past, locks, hold, place)?;
+    }
+    holds.retain(|hold| locks.count(hold.0, &hold.1) > 0);
+    match (ask, reply) {
+        (Ask::Shared(SharedAsk::Try(names, _)), Reply::Got) => {
+            note_names(holds, locks, job, names.as_slice(), place)
+        }
+        _ => Ok(()),
+    }
+}
+
+// Whether an ask may change who holds what.
+fn changes_locks(ask: &Ask) -> bool
+    ensures { result ≡ changes_locks ask.now }
+{
+    match ask {
+        Ask::Shared(SharedAsk::Try(_, _))
+        | Ask::Shared(SharedAsk::Unlock(_))
+        | Ask::Shared(SharedAsk::UnlockAll)
+        | Ask::Shared(SharedAsk::Commit)
+        | Ask::Shared(SharedAsk::Rollback)
+        | Ask::Shared(SharedAsk::Halt(_)) => true,
+        _ => false,
+    }
+}
+
+// Notes that a job held a name up to the event at a place, if it doesn't hold it any more.
+fn note_past(
+    past: &mut Vec<Held>,
+    locks: &LockTable,
+    hold: &Hold,
+    place: usize,
+) -> Result<(), AllocError> {
+    let (job, name, since) = hold;
+    if locks.count(*job, name) == 0 {
+        past.push((*job, name.try_clone()?, *since, place))?;
+    }
+    Ok(())
+}
+
+// Notes names that a job took by the event at a place, if it holds them, and hasn't held them before.
+fn note_names(
+    holds: &mut Vec<Hold>,
+    locks: &LockTable,
+    job: u32,
+    names: &[Name],
+    place: usize,
+) -> Result<(), AllocError>
+    ensures { OnOk result ((h : ℕ × Names × ℕ) → Contains holds.new.items h
+        → Contains holds.old.items h ⊎ ((h.0 ≡ job) × (h.2 ≡ place) × Contains names.now h.1 × (0 < count_of locks.now.holds h.0 h.1))) }
+{
+    for name in names {
+        if locks.count(job, name) > 0 && !is_noted(holds, job, name) {
+            holds.push((job, name.try_clone()?, place))?;
+        }
+    }
+    Ok(())
+}
+
+// Whether it is noted that a job holds a name.
+fn is_noted(holds: &[Hold], job: u32, name: &Name) -> bool {
+    holds.iter().any(|hold| hold.0 == job && hold.1 == *name)
+}
