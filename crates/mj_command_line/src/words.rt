@@ -3,8 +3,7 @@
 use crate::order::{RUNS_LIMIT, WORKERS_LIMIT};
 use crate::texts::{
     CHECK_EXAMPLE, DEBUG_EXAMPLE, EXAMPLES, EXPLAIN_EXAMPLE, EXPLORE_EXAMPLE, REPLAY_EXAMPLE,
-    RUN_EXAMPLE,
-    STEP_EXAMPLE, VERSION,
+    RUN_EXAMPLE, STEP_EXAMPLE, VERSION,
 };
 use clap::{Arg, ArgAction, Command, value_parser};
 use std::alloc::{AllocError, Global};
