@@ -14,8 +14,8 @@ abbrev pub outputs_of : (ℕ → List ℕ) → ℕ → List ℕ
 outputs_of output zero = []
 outputs_of output (suc jobs) = outputs_of output jobs ++ (decimal (length (output (suc jobs))) ++ 10 ∷ output (suc jobs))
 
--- The end of a run: whether all jobs have ended, what each wrote to its principal device, and the globals that are left. Two runs have one end where all of this
--- is the same.
+-- The end of a run: whether all jobs have ended, what each wrote to its principal device, and the globals that are left. Two runs have one end where
+-- all of this is the same.
 abbrev pub end_text : Shared → History → List ℕ
 end_text opening history =
     (if is_over opening history then 43 else 45)

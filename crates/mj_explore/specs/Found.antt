@@ -44,8 +44,8 @@ abbrev pub IsStuck : List Routine → Shared → History → Type 0
 IsStuck routines opening history =
     (is_over opening history ≡ false) × ((job : ℕ) → IsLive (state_of opening history).rows job → IsHeld routines opening history job)
 
--- An expression was judged over the globals with which this opening begins: a run of the script that writes 1 where it is true came to its end, and wrote that or
--- something else.
+-- An expression was judged over the globals with which this opening begins: a run of the script that writes 1 where it is true came to its end, and
+-- wrote that or something else.
 abbrev pub IsJudged : Scripted → Shared → Bool → Type 0
 IsJudged script opening untrue =
     (image : Loaded) × (history : History) × IsImageOf script.sources image × IsRun (routines_of image) opening history × (is_over opening history ≡ true)
