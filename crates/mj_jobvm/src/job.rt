@@ -227,6 +227,20 @@ impl Job {
         }
     }
 
+    /// Its `$TEST`.
+    pub fn test(&self) -> bool
+        ensures { result ≡ self.now.run.at.state.test }
+    {
+        self.machine.test
+    }
+
+    /// Its `$TLEVEL`.
+    pub fn level(&self) -> u8
+        ensures { result ≡ self.now.run.at.state.level }
+    {
+        self.machine.level
+    }
+
     /// The turns that it was let go on for since the last reply, by calls of `advance` that used their fuel up.
     pub fn spent(&self) -> u64
         ensures { result ≡ self.now.run.spent }
