@@ -23,6 +23,7 @@ ghost use Rattle.mj_replica.specs.InTurn.{IsTurnOf};
 ghost use Rattle.mj_replica.specs.Replicas.{AreWhole, Replayed, IsReplica, IsFull, IsUnshown};
 ghost use Rattle.mj_replica.specs.Shows.{HasStood};
 ghost use Rattle.mj_replica.specs.Views.{view_of, IsView, AreViews};
+ghost use Rattle.mj_debug.specs.Breaks as breaks;
 ghost use Rattle.mj_debug.specs.Breaks.{AreMarked, is_there};
 ghost use Rattle.mj_debug.specs.Goes.{GoGives, IsStop, IsUnasked, IsPassed, IsLeftUnmade, line_in};
 ghost use Rattle.mj_debug.specs.Walks.{front, StepGives, IsOn, GoesBack, GoesForth};
@@ -333,6 +334,13 @@ impl<D: Device, O: Opening> Debugger<D, Sessions<D>, O> {
         ensures err { OnErr result (self.new.marks ≡ self.old.marks) }
     {
         put_mark(&mut self.marks, routine, line, false)
+    }
+
+    /// Whether a job stops at a line.
+    pub fn is_breakpoint(&self, routine: &Text, line: u32) -> bool
+        ensures { result ≡ breaks.is_breakpoint self.now.core.image self.now.marks (record { routine = routine.now; line = line }) }
+    {
+        is_breakpoint(self.core.image(), &self.marks, routine, line)
     }
 
     /// Makes the next step of a `go`, `first` at its first: the next job that hasn't ended is stepped by Go, unless it comes to a breakpoint. To find
