@@ -25,11 +25,14 @@ use mj_core::Core;
 use mj_dev::Device;
 use mj_drafts::{Lockable, ProgramError, WORDS, print, stopped};
 use mj_files::Port;
+use mj_load::Image;
 use mj_prompt::debug;
 use mj_run::run_jobs;
 use mj_sessions::Sessions;
 use mj_steps::Ending;
 use mj_sys::Opening;
+use mj_warnings::put_warnings;
+use std::alloc::Global;
 use std::convert::AsStr;
 use std::io::{Read, Write};
 use std::marker::Brand;
@@ -62,7 +65,7 @@ where
         Ok(Order::Step(order)) => run_order(rt, &order, None, input, out, err),
         Ok(Order::Explore(order)) => explore(rt, &order, input, out, err),
         Ok(Order::Debug(order)) => debug(rt, &order, input, out, err),
-        Ok(Order::Check { files }) => match check(rt, &files, out) {
+        Ok(Order::Check { files }) => match check(rt, &files, out, err) {
             Ok(status) => status,
             Err(stop) => refused(rt, &files, true, &stop, err),
         },
@@ -274,18 +277,29 @@ where
 }
 
 // Loads the routines of these files, and says how many they are.
-fn check<'a, R: Files + AllocGlobal, O: Write>(
+fn check<'a, R: Files + AllocGlobal, O: Write, E: Write>(
     rt: &R,
     files: &[&'a str],
     out: &mut O,
+    err: &mut E,
 ) -> Result<u8, ProgramError<'a>>
     ensures { IfOk result (λ status. status ≤ 1) }
 {
-    loaded(rt, files)?;
+    let image = loaded(rt, files)?;
     let count = files.len();
     let told = format!(in rt.alloc(); "ok {count}\n")?;
     print(told.as_bytes(), out)?;
+    warn(rt.alloc(), &image, err);
     Ok(0)
+}
+
+// Tells what is doubtful of routines. Where memory is refused, or this can't be written, nothing more is told.
+fn warn<E: Write>(alloc: Global, image: &Image, err: &mut E) {
+    let mut bytes = Vec::new(alloc);
+    if put_warnings(alloc, &mut bytes, image).is_ok() {
+        let _ = err.write_all(&bytes);
+    }
+    drop(bytes);
 }
 
 // Replays a trace, and says whether it is that of a run.

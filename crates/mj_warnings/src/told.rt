@@ -1,0 +1,206 @@
+// What is told of doubtful routines.
+
+use crate::doubts::{Doubt, doubt_at};
+use crate::locks::{Pair, pairs, turned, was_told};
+use crate::reached::reached_lines;
+use mj_ask::Entry;
+use mj_ast::{Routine, Scope};
+use mj_load::Image;
+use mj_pcode::{Instr, Reference, Unit};
+use mj_text::{Digits, Text};
+use std::alloc::{AllocError, Global};
+
+/// Puts what is doubtful of routines to the end of some bytes, a line each: what commands name that isn't there, or has too few formals; the first line of each
+/// run of lines that nothing reaches; and the names that LOCK takes in two orders. Where memory is refused a part of it may stand there.
+pub fn put_warnings(alloc: Global, bytes: &mut Vec<u8>, image: &Image) -> Result<(), AllocError> {
+    for (unit, routine) in image.units().iter().zip(image.routines().iter()) {
+        put_doubts(alloc, bytes, image.units(), unit)?;
+        put_unreached(alloc, bytes, unit, routine)?;
+    }
+    put_orders(alloc, bytes, image)
+}
+
+// Puts what is doubtful of the instructions of a unit to the end.
+fn put_doubts(
+    alloc: Global,
+    bytes: &mut Vec<u8>,
+    units: &[Unit],
+    unit: &Unit,
+) -> Result<(), AllocError> {
+    let mut number = 0;
+    for instr in unit.instrs.iter() {
+        if let Instr::Line(start) = instr {
+            number = start.line;
+        }
+        if let Some(doubt) = doubt_at(units, unit, instr) {
+            put_place(alloc, bytes, &unit.name, number)?;
+            put_doubt(alloc, bytes, unit, instr, doubt)?;
+        }
+    }
+    Ok(())
+}
+
+// Puts a line of a routine to the end, and that a warning follows.
+fn put_place(
+    alloc: Global,
+    bytes: &mut Vec<u8>,
+    routine: &Text,
+    number: u32,
+) -> Result<(), AllocError> {
+    put_text(bytes, routine)?;
+    let place = format!(in alloc; ":{number} warning: ")?;
+    let done = bytes.extend_from_slice(place.as_bytes());
+    drop(place);
+    done
+}
+
+fn put_text(bytes: &mut Vec<u8>, text: &Text) -> Result<(), AllocError> {
+    bytes.extend_from_slice(text.bytes(&mut Digits::new()))
+}
+
+// Puts what is doubtful of an instruction to the end.
+fn put_doubt(
+    alloc: Global,
+    bytes: &mut Vec<u8>,
+    unit: &Unit,
+    instr: &Instr,
+    doubt: Doubt,
+) -> Result<(), AllocError> {
+    match instr {
+        Instr::Do(entry, _) => put_of(alloc, bytes, "DO names ", entry, doubt),
+        Instr::StartJob(entry, _, _) => put_of(alloc, bytes, "JOB names ", entry, doubt),
+        Instr::Goto(entry) => put_of(alloc, bytes, "GOTO names ", entry, doubt),
+        Instr::Invoke(target, _) => {
+            bytes.extend_from_slice(b"a function is called as $$")?;
+            put_label(bytes, &target.label)?;
+            bytes.push(b'^')?;
+            match &target.routine {
+                None => put_text(bytes, &unit.name)?,
+                Some(routine) => put_text(bytes, routine)?,
+            }
+            put_why(bytes, doubt)
+        }
+        _ => bytes.push(b'\n'),
+    }
+}
+
+// Puts what is doubtful of an entry to the end.
+fn put_of(
+    alloc: Global,
+    bytes: &mut Vec<u8>,
+    command: &str,
+    entry: &Entry,
+    doubt: Doubt,
+) -> Result<(), AllocError> {
+    bytes.extend_from_slice(command.as_bytes())?;
+    let spelled = entry.spell(alloc)?;
+    let done = bytes.extend_from_slice(spelled.as_slice());
+    drop(spelled);
+    done?;
+    put_why(bytes, doubt)
+}
+
+fn put_label(bytes: &mut Vec<u8>, label: &Option<Text>) -> Result<(), AllocError> {
+    match label {
+        None => Ok(()),
+        Some(label) => put_text(bytes, label),
+    }
+}
+
+// Puts what is wrong to the end, and ends the line.
+fn put_why(bytes: &mut Vec<u8>, doubt: Doubt) -> Result<(), AllocError> {
+    bytes.extend_from_slice(match doubt {
+        Doubt::NoRoutine => b", and none of these routines has that name\n".as_slice(),
+        Doubt::NoLine => b", and the routine has no such label\n".as_slice(),
+        Doubt::Deeper => b", which stands in a block\n".as_slice(),
+        Doubt::Values => b", which has fewer formals than there are values\n".as_slice(),
+    })
+}
+
+// Puts the first of each run of lines that nothing reaches to the end.
+fn put_unreached(
+    alloc: Global,
+    bytes: &mut Vec<u8>,
+    unit: &Unit,
+    routine: &Routine,
+) -> Result<(), AllocError> {
+    let reached = reached_lines(alloc, unit, &routine.lines)?;
+    let done = put_firsts(alloc, bytes, unit, &reached);
+    drop(reached);
+    done
+}
+
+fn put_firsts(
+    alloc: Global,
+    bytes: &mut Vec<u8>,
+    unit: &Unit,
+    reached: &[bool],
+) -> Result<(), AllocError> {
+    let mut before = true;
+    let mut number = 0u32;
+    for is in reached {
+        number = number.saturating_add(1);
+        if before && !*is {
+            put_place(alloc, bytes, &unit.name, number)?;
+            bytes.extend_from_slice(b"nothing reaches this line\n")?;
+        }
+        before = *is;
+    }
+    Ok(())
+}
+
+// Puts the names that are taken in two orders to the end.
+fn put_orders(alloc: Global, bytes: &mut Vec<u8>, image: &Image) -> Result<(), AllocError> {
+    let pairs = pairs(alloc, image)?;
+    let done = put_pairs(alloc, bytes, image, &pairs);
+    drop(pairs);
+    done
+}
+
+fn put_pairs<'a>(
+    alloc: Global,
+    bytes: &mut Vec<u8>,
+    image: &'a Image,
+    pairs: &[Pair<'a>],
+) -> Result<(), AllocError> {
+    for (at, pair) in pairs.iter().enumerate() {
+        if !was_told(pairs, at, pair) {
+            if let Some(other) = turned(pairs, pair) {
+                put_order(alloc, bytes, image, pair, other)?;
+            }
+        }
+    }
+    Ok(())
+}
+
+fn put_order<'a>(
+    alloc: Global,
+    bytes: &mut Vec<u8>,
+    image: &'a Image,
+    pair: &Pair<'a>,
+    other: &Pair<'a>,
+) -> Result<(), AllocError> {
+    let (Some(one), Some(two)) = (image.units().get(pair.unit), image.units().get(other.unit))
+    else {
+        return Ok(());
+    };
+    put_place(alloc, bytes, &one.name, pair.line)?;
+    bytes.extend_from_slice(b"LOCK takes ")?;
+    put_name(bytes, pair.taken)?;
+    bytes.extend_from_slice(b" while ")?;
+    put_name(bytes, pair.held)?;
+    bytes.extend_from_slice(b" is held, and in the other order at ")?;
+    put_text(bytes, &two.name)?;
+    let number = other.line;
+    let line = format!(in alloc; ":{number}\n")?;
+    let done = bytes.extend_from_slice(line.as_bytes());
+    drop(line);
+    done
+}
+
+fn put_name(bytes: &mut Vec<u8>, reference: &Reference) -> Result<(), AllocError> {
+    if reference.scope == Scope::Global {
+        bytes.push(b'^')?;
+    }
+    put_text(bytes, &reference.word)
+}
