@@ -49,7 +49,12 @@ fn words(rt: &HostRuntime) -> io::Result<Vec<String>> {
         ask_for(rt, &mut words, &["debug"], "--prompt")?;
     }
     if rt.stderr().is_terminal() {
-        ask_for(rt, &mut words, &["run", "step", "debug"], "--hints")?;
+        ask_for(
+            rt,
+            &mut words,
+            &["run", "step", "explore", "debug"],
+            "--hints",
+        )?;
     }
     Ok(words)
 }

@@ -1,6 +1,6 @@
 // Files that are written are apart from all others of a run.
 
-use mj_command_line::Run;
+use mj_command_line::{Replay, Run};
 use mj_drafts::{Place, ProgramError, is_stream, path_of, place_of};
 use mj_files::Named;
 use std::fs;
@@ -25,6 +25,21 @@ pub fn written_apart<'a, R: Files + AllocGlobal>(
     apart_from(rt, trace, order.save)
 }
 
+/// Sees that a page on a trace goes to no file that is read for it: not to that of the trace, of a routine or of the globals; and not to that of a standard
+/// stream.
+pub fn page_apart<'a, R: Files + AllocGlobal>(
+    rt: &R,
+    page: &'a str,
+    record: &Replay<'_>,
+) -> Result<(), ProgramError<'a>> {
+    for file in &record.files {
+        apart_from(rt, page, Some(*file))?;
+    }
+    apart_from(rt, page, Some(record.trace))?;
+    apart_from(rt, page, record.globals)?;
+    apart_from_streams(rt, page)
+}
+
 // Sees that a file isn't one of a routine, of the steps, of a device or of a standard stream.
 fn apart_from_read<'a, R: Files + AllocGlobal>(
     rt: &R,
@@ -39,8 +54,15 @@ fn apart_from_read<'a, R: Files + AllocGlobal>(
         apart_from(rt, name, Some(device.file))?;
     }
     apart_from(rt, name, order.steps)?;
+    apart_from_streams(rt, name)
+}
+
+// Sees that a file isn't one of a standard stream. What goes to a stream by its own name is meant to.
+fn apart_from_streams<'a, R: Files + AllocGlobal>(
+    rt: &R,
+    name: &'a str,
+) -> Result<(), ProgramError<'a>> {
     if is_stream(name) {
-        // What goes to a stream by its own name is meant to.
         return Ok(());
     }
     for stream in ["/dev/stdin", "/dev/stdout", "/dev/stderr"] {

@@ -28,7 +28,7 @@ struct Choice {
     most: Option<u32>,
 }
 
-const COMMANDS: [Row; 6] = [
+const COMMANDS: [Row; 7] = [
     Row {
         name: "run",
         about: "Runs jobs at the same time, by threads, and prints what they write",
@@ -47,7 +47,9 @@ const COMMANDS: [Row; 6] = [
         name: "explore",
         about: "Makes runs by chance, counts their different ends, and finds one that faults, gets stuck, clashes or ends in what isn't true",
         example: EXPLORE_EXAMPLE,
-        options: &[RUNS, SEED, UNTIL, KEEP, START, GLOBALS, STDIN, DEVICE],
+        options: &[
+            RUNS, SEED, UNTIL, KEEP, HINTS, START, GLOBALS, STDIN, DEVICE,
+        ],
     },
     Row {
         name: "debug",

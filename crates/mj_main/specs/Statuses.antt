@@ -1,4 +1,4 @@
--- Why the program stops where workers ran jobs, and the exit status of a replay.
+-- Why the program stops where workers ran jobs, and the exit status of a replay and of runs by chance.
 use Rattle.std.specs.Prelude.{ℕ, Option, Some, None}
 use Rattle.mj_replica.specs.declared.replaying.Verdict.{Verdict}
 use Rattle.mj_replica.specs.declared.replaying.Verdict.TheVariants as verdicts
@@ -26,3 +26,8 @@ ungathered_stop ungathered.Memory = stops.Memory
 abbrev pub verdict_status : Verdict → ℕ
 verdict_status verdicts.Same = 0
 verdict_status (verdicts.Differs at) = 1
+
+-- the status of runs by chance, where one showed what is looked for, and where none did
+abbrev pub found_status : {A : Type 0} → Option A → ℕ
+found_status None = 0
+found_status (Some found) = 1

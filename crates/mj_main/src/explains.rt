@@ -5,7 +5,7 @@ ghost use Rattle.mj_sys.specs.Shared.{are_global};
 ghost use Rattle.mj_trace.specs.Lines.{IsTrace};
 
 use crate::replays::{recorded, verdict_text};
-use mj_begin::{listed, loaded};
+use mj_begin::{listed, loaded, page_apart};
 use mj_command_line::Explain;
 use mj_drafts::{Lockable, ProgramError, print, write_file};
 use mj_explain::{Shown, Standing, Story, page, story_of, words};
@@ -28,7 +28,7 @@ struct Told {
 }
 
 /// Tells what a trace shows, or which line of it isn't made, and gives the exit status. The trace is read first, then the routines, then the globals. A page is
-/// written behind what is printed, where one is wanted and the trace is that of a run.
+/// written behind what is printed, where one is wanted and the trace is that of a run. It takes the place of no file that is read.
 pub fn explain<'a, R: Files + AllocGlobal, O: Write>(
     rt: &R,
     order: &Explain<'a>,
@@ -38,6 +38,9 @@ where
     R::File: Lockable,
     ensures { IfOk result (λ status. status ≤ 1) }
 {
+    if let Some(page) = order.html {
+        page_apart(rt, page, &order.record)?;
+    }
     let trace = recorded(rt, order.record.trace)?;
     let told = explained(rt, order, &trace);
     forget(trace);

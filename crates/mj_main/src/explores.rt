@@ -1,14 +1,17 @@
 // Runs by chance.
 
-ghost use Rattle.std.specs.Prelude.{◌≡◌, ◌≢◌, ◌≤◌, All, IfOk, true};
+ghost use Rattle.std.specs.Prelude.{◌≡◌, ◌≢◌, ◌≤◌, ◌++◌, All, IfOk, IfNone, IfSome, length, option_map, true};
+ghost use Rattle.std.specs.String.{string_bytes};
 ghost use Rattle.mj_dev.specs.Shelves.{principal};
 ghost use Rattle.mj_sys.specs.Shared.{are_global};
 ghost use Rattle.mj_explore.specs.Scripts.{opening_in, supply_names};
+ghost use Rattle.mj_main.specs.Printed.{runs_line, found_line, goal_word};
+ghost use Rattle.mj_main.specs.Statuses.{found_status};
 
-use mj_begin::{Beginning, begin, file_bytes, routine_bytes, routine_name};
+use mj_begin::{Beginning, begin, file_bytes, refused, routine_bytes, routine_name};
 use mj_chance::put_steps;
 use mj_command_line::Explore;
-use mj_drafts::{Lockable, ProgramError, Word, print, stopped, write_file};
+use mj_drafts::{Lockable, ProgramError, Word, print, stopped, tell_trouble, write_file};
 use mj_explore::{Explored, Goal, Script, Search, Source, Supply, Unread, condition};
 use mj_files::{BYTES_LIMIT, Side, Trouble, read_device, whole};
 use mj_globs::Globals;
@@ -21,7 +24,7 @@ use std::rt::Files;
 // The exit status where a run shows what is looked for.
 const FOUND: u8 = 1;
 
-/// Makes the runs that are ordered, keeps the steps of one that shows what is looked for, tells of them, and gives the exit status.
+/// Makes the runs that are ordered, tells of them, keeps the steps of one that shows what is looked for, and gives the exit status.
 pub fn explore<R, I, O, E>(
     rt: R,
     order: &Explore<'_>,
@@ -37,25 +40,26 @@ where
     E: Write,
     ensures { result ≤ 4 }
 {
-    match told(rt, order, input, out) {
-        Ok(status) => status,
-        Err(stop) => stopped(&stop, err),
+    match explored(rt, order, input) {
+        Ok(explored) => {
+            let status = tell(&rt, order, &explored, out, err);
+            drop(explored);
+            status
+        }
+        Err(stop) => refused(&rt, &order.run.files, order.run.hints, &stop, err),
     }
 }
 
-// Makes the runs, and tells of them.
-fn told<'a, R, I, O>(
+// Makes the runs.
+fn explored<'a, R, I>(
     rt: R,
     order: &Explore<'a>,
     input: &mut I,
-    out: &mut O,
-) -> Result<u8, ProgramError<'a>>
+) -> Result<Explored, ProgramError<'a>>
 where
     R: Files + AllocGlobal + Copy + Drop,
     R::File: Lockable,
     I: Read,
-    O: Write,
-    ensures { IfOk result (λ status. status ≤ 1) }
 {
     let goal = goal_of(rt.alloc(), order.until)?;
     let (script, globals) = script_of(rt, order, input)?;
@@ -63,11 +67,11 @@ where
         seed: order.seed,
         runs: order.runs,
     };
-    let explored = explored(rt.alloc(), &script, &globals, &goal, search)?;
+    let explored = runs_over(rt.alloc(), &script, &globals, &goal, search);
     drop(goal);
     drop(script);
     drop(globals);
-    tell(&rt, order, &explored, out)
+    Ok(explored?)
 }
 
 // What is looked for, by the word for it.
@@ -86,7 +90,7 @@ fn goal_of<'a>(alloc: Global, until: Option<&'a str>) -> Result<Option<Goal>, Pr
     }
 }
 
-// What the runs begin with, read as for any run, and the globals.
+// What the runs begin with, read as for any run, and the globals. Standard input is read behind all files.
 fn script_of<'a, R, I>(
     rt: R,
     order: &Explore<'a>,
@@ -100,9 +104,9 @@ where
 {
     let (beginning, outlet) = begin(rt, &order.run, input)?;
     drop(outlet);
-    let lines = lines(rt.alloc(), order.stdin, input)?;
     let sources = sources(&rt, &order.run.files)?;
     let supplies = supplies(&rt, &order.run.devices)?;
+    let lines = lines(rt.alloc(), order.stdin, input)?;
     let Beginning {
         steps,
         image,
@@ -182,8 +186,8 @@ fn supplies<'a, R: Files + AllocGlobal>(
     Ok(supplies)
 }
 
-// Makes the runs.
-fn explored(
+// Makes the runs over these globals.
+fn runs_over(
     alloc: Global,
     script: &Script,
     globals: &Globals,
@@ -192,11 +196,11 @@ fn explored(
 ) -> Result<Explored, AllocError>
     requires { are_global globals.now.content ≡ true }
 {
-    explored_from::<Brand>(alloc, script, globals, goal, search)
+    runs_from::<Brand>(alloc, script, globals, goal, search)
 }
 
 // Makes the runs from an opening.
-fn explored_from<G: Opening>(
+fn runs_from<G: Opening>(
     alloc: Global,
     script: &Script,
     globals: &Globals,
@@ -209,38 +213,88 @@ fn explored_from<G: Opening>(
     mj_explore::explore::<G>(alloc, script, globals, goal.as_ref(), search)
 }
 
-// Keeps the steps that were found, where a file is named for them, and then prints how many runs and how many different ends there were, and what was found.
-fn tell<'a, R, O>(
-    rt: &R,
-    order: &Explore<'a>,
-    explored: &Explored,
-    out: &mut O,
-) -> Result<u8, ProgramError<'a>>
+// Prints what is told of the runs, and then keeps the steps that were found, where a file is named for them. Where the one can't be done the other still is,
+// unless memory was refused.
+fn tell<R, O, E>(rt: &R, order: &Explore<'_>, explored: &Explored, out: &mut O, err: &mut E) -> u8
 where
     R: Files + AllocGlobal,
     R::File: Lockable,
     O: Write,
-    ensures { IfOk result (λ status. status ≤ 1) }
+    E: Write,
+    ensures { result ≤ 4 }
 {
-    let (runs, ends) = (explored.runs, explored.ends);
-    let counts = format!(in rt.alloc(); "runs {runs}, ends {ends}\n")?;
-    let Some(steps) = &explored.found else {
-        print(counts.as_bytes(), out)?;
-        return Ok(0);
+    let Ok((text, found)) = explored_text(rt.alloc(), explored, order.until) else {
+        return stopped(&ProgramError::Memory, err);
     };
-    if let Some(file) = order.keep {
-        let bytes = put_steps(rt.alloc(), steps)?;
-        write_file(rt, file, &bytes)?;
-    }
-    let what = word_of(order.until);
-    let length = steps.len();
-    let told = format!(in rt.alloc(); "{counts}{what} in run {runs}, steps {length}\n")?;
-    print(told.as_bytes(), out)?;
-    Ok(FOUND)
+    let printed = tell_trouble(print(&text, out), err);
+    drop(text);
+    let kept = tell_trouble(keep(rt, order, explored), err);
+    found.max(printed).max(kept)
+}
+
+// Writes the steps that were found to the file that is named for them.
+fn keep<'a, R: Files + AllocGlobal>(
+    rt: &R,
+    order: &Explore<'a>,
+    explored: &Explored,
+) -> Result<(), ProgramError<'a>>
+where
+    R::File: Lockable,
+{
+    let (Some(file), Some(steps)) = (order.keep, &explored.found) else {
+        return Ok(());
+    };
+    let bytes = put_steps(rt.alloc(), steps)?;
+    let kept = write_file(rt, file, &bytes);
+    drop(bytes);
+    kept
+}
+
+// What is printed of the runs, and the exit status: how many there were, and how many different ends they had; and behind that, where one showed what is
+// looked for, which it was, and how many steps are found to show it.
+fn explored_text(
+    alloc: Global,
+    explored: &Explored,
+    until: Option<&str>,
+) -> Result<(Vec<u8>, u8), AllocError>
+    ensures none { IfOk result (λ told. IfNone explored.now.found (told.0.items ≡ runs_line explored.now.runs explored.now.ends)) }
+    ensures some { IfOk result (λ told. IfSome explored.now.found (λ steps. told.0.items
+        ≡ runs_line explored.now.runs explored.now.ends
+        ++ found_line (goal_word (option_map (λ word. word.now) until.entry)) explored.now.runs (length steps.items))) }
+    ensures which { IfOk result (λ told. told.1 ≡ found_status explored.now.found) }
+    ensures bound { IfOk result (λ told. told.1 ≤ 1) }
+{
+    let mut text = Vec::new(alloc);
+    let counts = runs_line(alloc, explored.runs, explored.ends)?;
+    text.extend_from_slice(counts.as_bytes())?;
+    let Some(steps) = &explored.found else {
+        return Ok((text, 0));
+    };
+    let found = found_line(alloc, word_of(until), explored.runs, steps.len())?;
+    text.extend_from_slice(found.as_bytes())?;
+    Ok((text, FOUND))
+}
+
+// The line on how many runs there were, and how many different ends they had.
+fn runs_line(alloc: Global, runs: u32, ends: usize) -> Result<String, AllocError>
+    ensures { IfOk result (λ line. string_bytes line ≡ runs_line runs ends) }
+{
+    let line = format!(in alloc; "runs {runs}, ends {ends}\n")?;
+    Ok(line)
+}
+
+// The line on what the last run showed, and how many steps show it.
+fn found_line(alloc: Global, what: &str, run: u32, steps: usize) -> Result<String, AllocError>
+    ensures { IfOk result (λ line. string_bytes line ≡ found_line what.now run steps) }
+{
+    let line = format!(in alloc; "{what} in run {run}, steps {steps}\n")?;
+    Ok(line)
 }
 
 // The word for what was found.
-fn word_of<'a>(until: Option<&'a str>) -> &'a str {
+fn word_of<'a>(until: Option<&'a str>) -> &'a str
+    ensures { result.now ≡ goal_word (option_map (λ word. word.now) until.entry) }
+{
     match until {
         Some(word) if matches!(word, "fault" | "stuck" | "clash") => word,
         _ => "untrue",
