@@ -80,7 +80,10 @@ fn put_doubt(
             }
             put_why(bytes, doubt)
         }
-        _ => bytes.push(b'\n'),
+        _ => {
+            bytes.push(b'\n')?;
+            Ok(())
+        }
     }
 }
 
