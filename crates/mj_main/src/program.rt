@@ -41,14 +41,13 @@ use std::rt::{Clock, Files};
 use std::sync::Wait;
 use std::thread::Threads;
 
-/// Does what the words ask for, of which the first is the program's name, and gives the exit status: 0; 1 where a job faulted, a trace
-/// isn't that of a run, or a run by chance shows what is looked for; 2 where a routine, a listing, a trace, a file of steps or a step is refused; 3 where the words are wrong; 4 where
-/// memory or a file fails, where all jobs wait, or where they went on for too long; the greatest where several apply. What the jobs write
-/// goes to `out`; a refusal goes to `err`, on one line, but the text on wrong words, which is clap's. Behind the refusal of a routine the words may ask for
-/// hints, and to check routines is to ask for them. Where the words ask for it, `input`
-/// is read whole before the run, and its lines are those of the first job's principal session. The globals that are left and the trace of
-/// the run are written after the output. Of a debugger the input has the commands, each of which is answered on `out` before the next is
-/// read.
+/// Does what the words ask for, of which the first is the program's name, and gives the exit status: 0; 1 where a job faulted, a trace isn't that of a run, or
+/// a run by chance shows what is looked for; 2 where a routine, a listing, a trace, a file of steps or a step is refused; 3 where the words are wrong; 4 where
+/// memory or a file fails, where all jobs wait, or where they went on for too long; the greatest where several apply. What the jobs write goes to `out`; a
+/// refusal goes to `err`, on one line, but the text on wrong words, which is clap's. Behind the refusal of a routine the words may ask for hints, and to check
+/// routines is to ask for them. Where the words ask for it, `input` is read whole before the run, and its lines are those of the first job's principal session.
+/// The globals that are left, the trace of the run and steps that are kept are written after the output. Of a debugger the input has the commands, each of
+/// which is answered on `out` before the next is read.
 pub fn run<R, S, I, O, E>(rt: &R, words: &[S], input: &mut I, out: &mut O, err: &mut E) -> u8
 where
     R: Files + AllocGlobal + Clock + Threads + Wait + Sync,

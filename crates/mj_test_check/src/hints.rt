@@ -151,7 +151,7 @@ L2 T:2:8
     let told = comes_to(rt, folder, all, b"", "", both.as_str(), 2);
     drop(both);
     told?;
-    for words in ["run", "step", "debug"] {
+    for words in ["run", "step", "explore", "debug"] {
         with_hints(rt, folder, words, first)?;
     }
     remove(rt, folder)

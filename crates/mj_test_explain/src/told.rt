@@ -1,6 +1,6 @@
 // What is told of traces.
 
-use mj_test_runs::{Runner, comes_to, folder, left, remove, run_text, write};
+use mj_test_runs::{Runner, comes_to, folder, judge_file, left, remove, run_text, write};
 use std::test::Fail;
 
 // Fails where something else is told of the trace of jobs of the routine R, which start so, from these globals and by these steps, in turn where there
@@ -199,7 +199,48 @@ fn differs(rt: &impl Runner, folder: &str) -> Result<(), Fail> {
         b"mj-trace 1\npool \"0\" 255\nstart ^R\n1 dev \"0\" begin done\n1 set ^A \"2\" done\n";
     write(rt, folder, "R.m", b" SET ^A=1\n")?;
     write(rt, folder, "trace", trace)?;
-    let words = "explain|DIR/trace|DIR/R.m";
+    let words = "explain|--html|DIR/page|DIR/trace|DIR/R.m";
     comes_to(rt, folder, words, b"", "differs at line 5\n", "", 1)?;
+    judge_file(rt, folder, "page", None)?;
     remove(rt, folder)
+}
+
+// A page takes the place of no file that is read. Where it can't be written, what the trace shows is told all the same.
+#[test]
+fn a_page_has_a_file_of_its_own(rt: HostRuntime) -> Result<(), Fail> {
+    let folder = folder(&rt, "explain")?;
+    let done = is_kept_apart(&rt, folder.as_str());
+    drop(folder);
+    done
+}
+
+fn is_kept_apart(rt: &impl Runner, folder: &str) -> Result<(), Fail> {
+    let routine = " SET ^A=1\n";
+    write(rt, folder, "R.m", routine.as_bytes())?;
+    write(rt, folder, "globals", b"mj-globals 1\n")?;
+    trace(rt, folder, "--start|^R", true)?;
+    for name in ["R.m", "trace", "globals"] {
+        is_bad(rt, folder, name)?;
+    }
+    judge_file(rt, folder, "R.m", Some(routine))?;
+    let told = "events: 4, clashes: 0, deadlocks: 0, lost updates: 0\n";
+    let words = "explain|--html|DIR/none/page|DIR/trace|DIR/R.m";
+    comes_to(rt, folder, words, b"", told, "file DIR/none/page\n", 4)?;
+    remove(rt, folder)
+}
+
+fn is_bad(rt: &impl Runner, folder: &str, name: &str) -> Result<(), Fail> {
+    let words = format!(in rt.alloc();
+        "explain|--html|DIR/{name}|--globals|DIR/globals|DIR/trace|DIR/R.m"
+    )?;
+    let done = is_refused(rt, folder, words.as_str(), name);
+    drop(words);
+    done
+}
+
+fn is_refused(rt: &impl Runner, folder: &str, words: &str, name: &str) -> Result<(), Fail> {
+    let err = format!(in rt.alloc(); "bad DIR/{name}\n")?;
+    let done = comes_to(rt, folder, words, b"", "", err.as_str(), 3);
+    drop(err);
+    done
 }

@@ -89,3 +89,31 @@ fn reads_and_writes(rt: &impl Runner, folder: &str) -> Result<(), Fail> {
     comes_to(rt, folder, missing, b"", "", "file DIR/none\n", 4)?;
     remove(rt, folder)
 }
+
+// Steps aren't written over a file that is read, and that is said before any run is made. Where they can't be written, what was found is told all the same.
+#[test]
+fn steps_have_a_file_of_their_own(rt: HostRuntime) -> Result<(), Fail> {
+    let folder = folder(&rt, "own")?;
+    let told = are_kept_apart(&rt, folder.as_str());
+    drop(folder);
+    told
+}
+
+fn are_kept_apart(rt: &impl Runner, folder: &str) -> Result<(), Fail> {
+    let routine = " SET X=1/2\n";
+    write(rt, folder, "R.m", routine.as_bytes())?;
+    let over = "explore|--until|fault|--keep|DIR/R.m|--start|^R|DIR/R.m";
+    comes_to(rt, folder, over, b"", "", "bad DIR/R.m\n", 3)?;
+    judge_file(rt, folder, "R.m", Some(routine))?;
+    let nowhere = "explore|--until|fault|--keep|DIR/none/steps|--start|^R|DIR/R.m";
+    comes_to(
+        rt,
+        folder,
+        nowhere,
+        b"",
+        "runs 1, ends 1\nfault in run 1, steps 4\n",
+        "file DIR/none/steps\n",
+        4,
+    )?;
+    remove(rt, folder)
+}
