@@ -1,8 +1,8 @@
 mod Names
 mod Loading
-mod Untaken
+pub mod Untaken
 mod Worded
 mod Content
-mod Starting
+pub mod Starting
 mod Devices
 mod Principals

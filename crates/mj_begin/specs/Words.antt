@@ -1,11 +1,12 @@
 -- What a run begins with, by the words of the command line and the bytes of files.
-use Rattle.std.specs.Prelude.{◌≡◌, ℕ, true, List, [], map, option_map, All, Option, Some, None, Vec}
+use Rattle.std.specs.Prelude.{◌≡◌, ℕ, true, List, [], ◌∷◌, map, option_map, All, Option, Some, None, Vec}
 use Rattle.std.specs.List.{list_all, AllZip}
 use Rattle.std.specs.Global.{Global}
 use Rattle.std.specs.Borrow.{Bor}
 use Rattle.mj_ask.specs.Started.{Started}
 use Rattle.mj_ask.specs.Written.{is_entry, entry_of}
 use Rattle.mj_dev.specs.Shelves.{Shelf}
+use Rattle.mj_subs.specs.Name.{is_word}
 use Rattle.mj_files.specs.Named.{IsDevice, names_of, with_principals, with_devices}
 use Rattle.mj_files.specs.declared.devices.Named.{Named}
 use Rattle.mj_jobs.specs.Rows.{rows_limit}
@@ -38,6 +39,17 @@ pub record WereStarts (words : List (Bor (List ℕ))) (starts : List Started) : 
   pub entries : list_all is_entry (entries_of starts) ≡ true
   pub bare : starts ≡ map bare_start (entries_of starts)
 
+-- one job starts at the first line of the routine in the first of these files, without values
+abbrev pub StartsAtFirst : List (Bor (List ℕ)) → List Started → Type 0
+StartsAtFirst [] starts = ⊥
+StartsAtFirst (file ∷ files) starts =
+    (is_word (name_at file.now) ≡ true) × (starts ≡ bare_start (record { label = None; routine = name_at file.now }) ∷ [])
+
+-- The first jobs start where the words say; where there are no words, one starts with the first file's routine.
+abbrev pub WereBegun : List (Bor (List ℕ)) → List (Bor (List ℕ)) → List Started → Type 0
+WereBegun [] files starts = StartsAtFirst files starts
+WereBegun (word ∷ words) files starts = WereStarts (word ∷ words) starts
+
 -- the word names the device
 abbrev pub IsNamedBy : Bor (List ℕ) → Named → Type 0
 IsNamedBy word device = IsDevice word.now device.name device.side device.file.now
@@ -68,7 +80,7 @@ WereSteps file steps = AreOrdered file (option_map (λ (steps : Vec Step Global)
 
 -- what a run begins with is what the words ask for: the starts of its first jobs, its devices, its routines, its globals and its steps
 pub record WereGiven (order : Run) (starts : List Started) (pool : List Shelf) (routines : List Routine) (globals : Content) (steps : Option (Vec Step Global)) : Type 0 where
-  pub begun : WereStarts order.starts.items starts
+  pub begun : WereBegun order.starts.items order.files.items starts
   pub devices : IsPoolOf order.devices.items pool
   pub read : WereRead order.files.items routines
   pub listed : WereListed order.globals globals

@@ -1,6 +1,6 @@
 // What a run begins with: the starts, the devices, the steps, the routines and the globals.
 
-ghost use Rattle.std.specs.Prelude.{◌≡◌, ◌≤◌, true, length, map, option_map, IfOk, IfSome};
+ghost use Rattle.std.specs.Prelude.{◌≡◌, ◌≤◌, ◌∷◌, [], true, length, map, None, option_map, IfOk, IfSome};
 ghost use Rattle.std.specs.List.{list_all};
 ghost use Rattle.mj_ask.specs.Fitting.{is_content};
 ghost use Rattle.mj_rou.specs.Words.{Each, IsRoutineWorded};
@@ -14,10 +14,13 @@ ghost use Rattle.mj_jobs.specs.Rows.{rows_limit};
 ghost use Rattle.mj_sys.specs.Opening.{are_bare};
 ghost use Rattle.mj_sys.specs.Shared.{are_global};
 ghost use Rattle.mj_replica.specs.Replicas.{AreWhole};
-ghost use Rattle.mj_begin.specs.Words.{WereRead, WereListed, WereStarts, WereSteps, WereGiven, AreDevices, IsPoolOf};
+ghost use Rattle.mj_subs.specs.Name.{is_word};
+ghost use Rattle.mj_replay.specs.Traces.{bare_start};
+ghost use Rattle.mj_begin.specs.Names.{name_at};
+ghost use Rattle.mj_begin.specs.Words.{WereRead, WereListed, WereStarts, WereBegun, WereSteps, WereGiven, AreDevices, IsPoolOf};
 
 use crate::apart::written_apart;
-use crate::files::{file_bytes, whole};
+use crate::files::{file_bytes, routine_name, whole};
 use crate::listings::listed;
 use crate::routines::loaded;
 use mj_ask::{Entry, Start};
@@ -30,6 +33,7 @@ use mj_jobs::ROWS_LIMIT;
 use mj_load::Image;
 use mj_report::{Trace, trace_of};
 use mj_steps::{Step, StepsError};
+use mj_text::Text;
 use std::alloc::Global;
 use std::io::Read;
 use std::rt::Files;
@@ -80,7 +84,13 @@ where
 {
     let starts = starts(rt.alloc(), &order.starts)?;
     match begin_at(rt, order, input) {
-        Ok(rest) => begun(rt.alloc(), order, starts, rest),
+        Ok(rest) => match or_first(rt.alloc(), order, starts) {
+            Ok(starts) => begun(rt.alloc(), order, starts, rest),
+            Err(stop) => {
+                drop(rest);
+                Err(stop)
+            }
+        },
         Err(stop) => {
             drop(starts);
             Err(stop)
@@ -96,7 +106,7 @@ fn begun<'a, R: Files + AllocGlobal + Copy + Drop>(
     starts: Vec<Start>,
     rest: (Option<Vec<Step>>, Stored<R>),
 ) -> Result<Begun<'a, R>, ProgramError<'a>>
-    requires starts { WereStarts order.now.starts.items starts.items }
+    requires starts { WereBegun order.now.starts.items order.now.files.items starts.items }
     requires few { length starts.items ≤ rows_limit }
     requires routines { WereRead order.now.files.items rest.1.0.routines }
     requires worded { Each IsRoutineWorded (routines_of rest.1.0) }
@@ -269,6 +279,50 @@ fn starts<'a>(alloc: Global, words: &[&'a str]) -> Result<Vec<Start>, ProgramErr
         if starts.push(Start::new(entry, Vec::new(alloc))).is_err() {
             return Err(ProgramError::Memory);
         }
+    }
+    Ok(starts)
+}
+
+// These starts, or where the words name none, that of a job at the first line of the first file's routine.
+fn or_first<'a>(
+    alloc: Global,
+    order: &Run<'a>,
+    starts: Vec<Start>,
+) -> Result<Vec<Start>, ProgramError<'a>>
+    requires named { WereStarts order.now.starts.items starts.items }
+    requires few { length starts.items ≤ rows_limit }
+    ensures begun { IfOk result (λ all. WereBegun order.now.starts.items order.now.files.items all.items) }
+    ensures few { IfOk result (λ all. length all.items ≤ rows_limit) }
+{
+    if !order.starts.is_empty() {
+        return Ok(starts);
+    }
+    drop(starts);
+    let [file, ..] = order.files.as_slice() else {
+        return Err(ProgramError::Memory);
+    };
+    first_start(alloc, *file)
+}
+
+// The start of a job at the first line of the routine in a file. One whose name is no word has none.
+fn first_start<'a>(alloc: Global, file: &'a str) -> Result<Vec<Start>, ProgramError<'a>>
+    ensures { IfOk result (λ starts. (is_word (name_at file.now) ≡ true)
+        × (starts.items ≡ bare_start (record { label = None; routine = name_at file.now }) ∷ [])) }
+{
+    let name = routine_name(alloc, file)?;
+    if !mj_subs::is_word(&name) {
+        return Err(ProgramError::Value(file));
+    }
+    let Ok(routine) = Text::from(alloc, &name) else {
+        return Err(ProgramError::Memory);
+    };
+    let entry = Entry {
+        label: None,
+        routine,
+    };
+    let mut starts = Vec::new(alloc);
+    if starts.push(Start::new(entry, Vec::new(alloc))).is_err() {
+        return Err(ProgramError::Memory);
     }
     Ok(starts)
 }

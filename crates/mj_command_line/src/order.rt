@@ -35,7 +35,7 @@ pub enum Order<'a> {
 /// Jobs that are to run.
 #[derive(Drop)]
 pub struct Run<'a> {
-    /// where the first jobs start, one for each; at least one
+    /// where the first jobs start, one for each; none is one at the first line of the first routine
     pub starts: Vec<&'a str>,
     /// the files of the routines
     pub files: Vec<&'a str>,

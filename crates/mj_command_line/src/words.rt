@@ -89,9 +89,9 @@ const WORKERS: Choice = Choice {
 const START: Choice = Choice {
     name: "start",
     value: Some("ENTRY"),
-    help: "Where a job starts: label^ROUTINE or ^ROUTINE; once for each of 1 to 255 jobs",
+    help: "Where a job starts: label^ROUTINE or ^ROUTINE; once for each of 1 to 255 jobs, or one at the first routine",
     action: ArgAction::Append,
-    required: true,
+    required: false,
     most: None,
 };
 

@@ -17,17 +17,18 @@ use Rattle.mj_trace.specs.Trace.{opening_text}
 use Rattle.mj_trace.specs.Sized.{device_count_fits}
 use Rattle.mj_recorded.specs.Traces.{entries_of, IsBeginning}
 use Rattle.mj_report.specs.Traced.{IsHead}
-use Rattle.mj_begin.specs.Words.{WereStarts}
+use Rattle.mj_begin.specs.Words.{WereBegun}
+use Rattle.mj_begin.proofs.Starting.{entries_so, bare_so}
 
-module _ (globals : Content) (pool : List Shelf) (starts : List Started) (words : List (Bor (List ℕ))) (were : WereStarts words starts) (content : is_content globals ≡ true)
+module _ (globals : Content) (pool : List Shelf) (starts : List Started) (words files : List (Bor (List ℕ))) (were : WereBegun words files starts) (content : is_content globals ≡ true)
     (whole : AreWhole pool) (some : 1 ≤ length starts) (few : length starts ≤ rows_limit) (fits : length starts ≤ left_of principal pool) where
   begins_so : AreRising pool → IsBeginning globals pool starts
   begins_so rising = record {
     listed = content;
     rising = rising;
     whole = whole;
-    entries = were.entries;
-    bare = were.bare;
+    entries = entries_so words files starts were;
+    bare = bare_so words files starts were;
     some = some;
     few = few;
     fits = fits;

@@ -32,10 +32,38 @@ fn words_that_are_missing_are_told(rt: HostRuntime) -> Result<(), Fail> {
     let told = is_told("mj", &ran);
     drop(ran);
     told?;
-    for words in ["run|R.m", "run|--start|^R", "check"] {
+    for words in ["run", "run|--start|^R", "check"] {
         are_missing(&rt, words)?;
     }
     Ok(())
+}
+
+#[test]
+fn a_job_starts_at_the_first_routine(rt: HostRuntime) -> Result<(), Fail> {
+    let folder = folder(&rt, "first")?;
+    let told = starts_first(&rt, folder.as_str());
+    drop(folder);
+    told
+}
+
+fn starts_first(rt: &impl Runner, folder: &str) -> Result<(), Fail> {
+    write(rt, folder, "R.m", b" WRITE \"R\",$JOB DO ^S\n")?;
+    write(rt, folder, "S.m", b" WRITE \"S\",$JOB\n")?;
+    for command in ["run", "step"] {
+        starts_first_by(rt, folder, command)?;
+    }
+    remove(rt, folder)
+}
+
+fn starts_first_by(rt: &impl Runner, folder: &str, command: &str) -> Result<(), Fail> {
+    let words = format!(in rt.alloc(); "{command}|DIR/R.m|DIR/S.m")?;
+    let told = comes_to(rt, folder, words.as_str(), b"", "R1S1", "", 0);
+    drop(words);
+    told?;
+    let words = format!(in rt.alloc(); "{command}|DIR/S.m|DIR/R.m")?;
+    let told = comes_to(rt, folder, words.as_str(), b"", "S1", "", 0);
+    drop(words);
+    told
 }
 
 #[test]
