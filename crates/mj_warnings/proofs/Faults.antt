@@ -40,20 +40,20 @@ call_faults : (units : List unit.Unit) (routine : List ℕ) (function : Bool) (t
 call_faults units routine function None shape vs below next doubt e = missing_faults units routine doubt e
 call_faults units routine function (Some to) shape vs below next doubt e =
     by (nat_eq to.head.level 1) (nat_lt (length to.head.formals) (length shape)) (nat_lt (length to.head.formals) (length (spread shape vs)))
-    (ap (nat_lt (length to.head.formals)) (spread_length shape vs)) doubt e
+    (ap (nat_lt (length to.head.formals)) (spread_length shape vs)) doubt e _
   where
     by : (a b b' : Bool) → b' ≡ b → (d : Doubt) → (if a then (if b then Some Values else None) else Some Deeper) ≡ Some d
-        → {more : Timed} → (if a then (if b' then fault faults.Params else more) else fault faults.NoLine) ≡ fault (fault_of d)
-    by true true true s Values h = refl
-    by true true true s NoLine h = absurd cc
-    by true true true s NoRoutine h = absurd cc
-    by true true true s Deeper h = absurd cc
-    by true true false s d h = absurd cc
-    by true false b' s d h = absurd cc
-    by false b b' s Deeper h = refl
-    by false b b' s NoLine h = absurd cc
-    by false b b' s NoRoutine h = absurd cc
-    by false b b' s Values h = absurd cc
+        → (more : Timed) → (if a then (if b' then fault faults.Params else more) else fault faults.NoLine) ≡ fault (fault_of d)
+    by true true true s Values h more = refl
+    by true true true s NoLine h more = absurd cc
+    by true true true s NoRoutine h more = absurd cc
+    by true true true s Deeper h more = absurd cc
+    by true true false s d h more = absurd cc
+    by true false b' s d h more = absurd cc
+    by false b b' s Deeper h more = refl
+    by false b b' s NoLine h more = absurd cc
+    by false b b' s NoRoutine h more = absurd cc
+    by false b b' s Values h more = absurd cc
 
 jump_faults : (units : List unit.Unit) (routine : List ℕ) (to : Option Found) (below : List Suspended) (next : Next) (doubt : Doubt)
     → jump_doubt units routine to ≡ Some doubt → jumps to below next ≡ fault (fault_of doubt)
@@ -67,59 +67,59 @@ doubts_fault units u (Invoke target shape) doubt next c pc stack leads e =
     call_faults units (entry_in u.name (target_of target)).routine true (found units (entry_in u.name (target_of target))) shape _ _ next doubt e
 doubts_fault units u (Goto entry) doubt next c pc stack leads e = jump_faults units entry.routine (found units entry) _ next doubt e
 doubts_fault units u (StartJob entry shape wait) doubt next c pc stack leads e = absurd leads
-doubts_fault units u (Line a) doubt next c pc stack leads e = absurd cc
-doubts_fault units u (Push a) doubt next c pc stack leads e = absurd cc
-doubts_fault units u (PushSpecial a) doubt next c pc stack leads e = absurd cc
-doubts_fault units u (Load a) doubt next c pc stack leads e = absurd cc
-doubts_fault units u (Unary a) doubt next c pc stack leads e = absurd cc
-doubts_fault units u (Binary a) doubt next c pc stack leads e = absurd cc
-doubts_fault units u (CallFunction a b) doubt next c pc stack leads e = absurd cc
-doubts_fault units u (CheckNamed a b) doubt next c pc stack leads e = absurd cc
-doubts_fault units u (CallNameFunction a b c) doubt next c pc stack leads e = absurd cc
-doubts_fault units u (CheckName a) doubt next c pc stack leads e = absurd cc
-doubts_fault units u (Store a b) doubt next c pc stack leads e = absurd cc
-doubts_fault units u (SetPiece a b c) doubt next c pc stack leads e = absurd cc
-doubts_fault units u (Discard a) doubt next c pc stack leads e = absurd cc
-doubts_fault units u (Kill a) doubt next c pc stack leads e = absurd cc
-doubts_fault units u (KillExcept a) doubt next c pc stack leads e = absurd cc
-doubts_fault units u (MergeTake a b) doubt next c pc stack leads e = absurd cc
-doubts_fault units u (MergePut a) doubt next c pc stack leads e = absurd cc
+doubts_fault units u (Line x) doubt next c pc stack leads e = absurd cc
+doubts_fault units u (Push x) doubt next c pc stack leads e = absurd cc
+doubts_fault units u (PushSpecial x) doubt next c pc stack leads e = absurd cc
+doubts_fault units u (Load x) doubt next c pc stack leads e = absurd cc
+doubts_fault units u (Unary x) doubt next c pc stack leads e = absurd cc
+doubts_fault units u (Binary x) doubt next c pc stack leads e = absurd cc
+doubts_fault units u (CallFunction x y) doubt next c pc stack leads e = absurd cc
+doubts_fault units u (CheckNamed x y) doubt next c pc stack leads e = absurd cc
+doubts_fault units u (CallNameFunction x y z) doubt next c pc stack leads e = absurd cc
+doubts_fault units u (CheckName x) doubt next c pc stack leads e = absurd cc
+doubts_fault units u (Store x y) doubt next c pc stack leads e = absurd cc
+doubts_fault units u (SetPiece x y z) doubt next c pc stack leads e = absurd cc
+doubts_fault units u (Discard x) doubt next c pc stack leads e = absurd cc
+doubts_fault units u (Kill x) doubt next c pc stack leads e = absurd cc
+doubts_fault units u (KillExcept x) doubt next c pc stack leads e = absurd cc
+doubts_fault units u (MergeTake x y) doubt next c pc stack leads e = absurd cc
+doubts_fault units u (MergePut x) doubt next c pc stack leads e = absurd cc
 doubts_fault units u Write doubt next c pc stack leads e = absurd cc
-doubts_fault units u (WriteFormat a) doubt next c pc stack leads e = absurd cc
-doubts_fault units u (WriteTab a) doubt next c pc stack leads e = absurd cc
+doubts_fault units u (WriteFormat x) doubt next c pc stack leads e = absurd cc
+doubts_fault units u (WriteTab x) doubt next c pc stack leads e = absurd cc
 doubts_fault units u WriteByte doubt next c pc stack leads e = absurd cc
-doubts_fault units u (JumpUnless a) doubt next c pc stack leads e = absurd cc
-doubts_fault units u (Jump a) doubt next c pc stack leads e = absurd cc
+doubts_fault units u (JumpUnless x) doubt next c pc stack leads e = absurd cc
+doubts_fault units u (Jump x) doubt next c pc stack leads e = absurd cc
 doubts_fault units u SelectFails doubt next c pc stack leads e = absurd cc
 doubts_fault units u Halt doubt next c pc stack leads e = absurd cc
 doubts_fault units u CheckNumber doubt next c pc stack leads e = absurd cc
 doubts_fault units u Hang doubt next c pc stack leads e = absurd cc
 doubts_fault units u UnlockAll doubt next c pc stack leads e = absurd cc
-doubts_fault units u (Lock a b) doubt next c pc stack leads e = absurd cc
-doubts_fault units u (Unlock a b) doubt next c pc stack leads e = absurd cc
-doubts_fault units u (OpenDevice a) doubt next c pc stack leads e = absurd cc
+doubts_fault units u (Lock x y) doubt next c pc stack leads e = absurd cc
+doubts_fault units u (Unlock x y) doubt next c pc stack leads e = absurd cc
+doubts_fault units u (OpenDevice x) doubt next c pc stack leads e = absurd cc
 doubts_fault units u BeginSession doubt next c pc stack leads e = absurd cc
 doubts_fault units u UseDevice doubt next c pc stack leads e = absurd cc
 doubts_fault units u EndSession doubt next c pc stack leads e = absurd cc
 doubts_fault units u GiveUpFailedDevice doubt next c pc stack leads e = absurd cc
 doubts_fault units u GiveUpDevice doubt next c pc stack leads e = absurd cc
-doubts_fault units u (Read a b) doubt next c pc stack leads e = absurd cc
-doubts_fault units u (SetTest a) doubt next c pc stack leads e = absurd cc
-doubts_fault units u (JumpUnlessTest a) doubt next c pc stack leads e = absurd cc
-doubts_fault units u (JumpIfTest a) doubt next c pc stack leads e = absurd cc
-doubts_fault units u (ForOpen a b c) doubt next c pc stack leads e = absurd cc
+doubts_fault units u (Read x y) doubt next c pc stack leads e = absurd cc
+doubts_fault units u (SetTest x) doubt next c pc stack leads e = absurd cc
+doubts_fault units u (JumpUnlessTest x) doubt next c pc stack leads e = absurd cc
+doubts_fault units u (JumpIfTest x) doubt next c pc stack leads e = absurd cc
+doubts_fault units u (ForOpen x y z) doubt next c pc stack leads e = absurd cc
 doubts_fault units u ForForever doubt next c pc stack leads e = absurd cc
-doubts_fault units u (ForBegin a) doubt next c pc stack leads e = absurd cc
+doubts_fault units u (ForBegin x) doubt next c pc stack leads e = absurd cc
 doubts_fault units u ForAgain doubt next c pc stack leads e = absurd cc
-doubts_fault units u (ForClose a) doubt next c pc stack leads e = absurd cc
-doubts_fault units u (DoBlock a) doubt next c pc stack leads e = absurd cc
+doubts_fault units u (ForClose x) doubt next c pc stack leads e = absurd cc
+doubts_fault units u (DoBlock x) doubt next c pc stack leads e = absurd cc
 doubts_fault units u Quit doubt next c pc stack leads e = absurd cc
 doubts_fault units u CheckFunction doubt next c pc stack leads e = absurd cc
 doubts_fault units u FailQuit doubt next c pc stack leads e = absurd cc
 doubts_fault units u GiveValue doubt next c pc stack leads e = absurd cc
-doubts_fault units u (New a) doubt next c pc stack leads e = absurd cc
-doubts_fault units u (NewExcept a) doubt next c pc stack leads e = absurd cc
-doubts_fault units u (StartTransaction a b) doubt next c pc stack leads e = absurd cc
+doubts_fault units u (New x) doubt next c pc stack leads e = absurd cc
+doubts_fault units u (NewExcept x) doubt next c pc stack leads e = absurd cc
+doubts_fault units u (StartTransaction x y) doubt next c pc stack leads e = absurd cc
 doubts_fault units u MarkRestart doubt next c pc stack leads e = absurd cc
 doubts_fault units u Commit doubt next c pc stack leads e = absurd cc
 doubts_fault units u RollBackForRestart doubt next c pc stack leads e = absurd cc

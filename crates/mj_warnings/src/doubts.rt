@@ -58,7 +58,7 @@ fn call_doubt(
     found: Option<Target<'_>>,
     count: usize,
 ) -> Option<Doubt>
-    ensures { result ≡ call_doubt units.now routine.now (seen found) count }
+    ensures { result ≡ call_doubt units.now routine.now (seen found.entry) count }
 {
     match found {
         None => Some(missing(units, routine)),
@@ -76,7 +76,7 @@ fn call_doubt(
 
 // Why a GOTO fails to the line that was found.
 fn jump_doubt(units: &[Unit], routine: &Text, found: Option<Target<'_>>) -> Option<Doubt>
-    ensures { result ≡ jump_doubt units.now routine.now (seen found) }
+    ensures { result ≡ jump_doubt units.now routine.now (seen found.entry) }
 {
     match found {
         None => Some(missing(units, routine)),
