@@ -1,2 +1,2 @@
-mod Sessions
-mod Opened
+pub mod Sessions
+pub mod Opened

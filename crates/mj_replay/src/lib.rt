@@ -6,4 +6,4 @@
 
 mod replaying;
 
-pub use replaying::replay_trace;
+pub use replaying::{opened, replay_trace};

@@ -41,8 +41,8 @@ pub fn replay_trace(
     }
 }
 
-// The devices and the starts of a trace.
-fn opened(alloc: Global, trace: &Trace) -> Result<(Pool<Blank>, Vec<Start>), AllocError>
+/// The devices and the starts with which the run of a trace begins.
+pub fn opened(alloc: Global, trace: &Trace) -> Result<(Pool<Blank>, Vec<Start>), AllocError>
     ensures pool { IfOk result (λ x. x.0 ≡ shelves_of trace.now.pool) }
     ensures starts { IfOk result (λ x. x.1.items ≡ map bare_start trace.now.starts) }
 {
