@@ -14,7 +14,7 @@ use Rattle.mj_sys.specs.Shared.{Shared}
 use Rattle.mj_sys.specs.History.{History, after, state_of}
 use Rattle.mj_retrace.specs.Retraced.{locked_by, IsTaken, IsHeldFrom, IsHeldSince, WasHeld, AreAllHeld}
 use Rattle.mj_retrace.specs.Noted.{Noted, Gone, changes_locks, is_held, is_noted, with_names, noted, gone}
-use Rattle.mj_retrace.proofs.Listed.{get_last, get_front, less_or_next, take_front, take_next}
+use Rattle.mj_retrace.proofs.Listed.{get_last, get_front, less_or_next, take_whole, take_front, take_next}
 use Rattle.mj_retrace.proofs.Locking.{IsToldSo, unchanged, takes}
 use Rattle.mj_retrace.proofs.Noting.{true_not, held_some, held_none, place_noted, noted_held, IsNew, with_names_on, with_names_noted, with_names_all, gone_all, held_all}
 
@@ -138,7 +138,7 @@ module _ (opening : Shared) (history : History) (e : Event) where
       still : (h : Noted) → IsHeldSince opening history h → IsHeldSince opening longer h
       still h is =
           let less = slice_get_within history h.2 is.taken.event is.taken.there in
-          let whole : at history (length history) ≡ before = ap (λ (x : History). (state_of opening x).locks) (Rattle.mj_retrace.proofs.Listed.take_whole history) in
+          let whole : at history (length history) ≡ before = ap (λ (x : History). (state_of opening x).locks) (take_whole history) in
           since_on h is (subst (λ (l : Locks). 0 < count_of l h.0 h.1) (whole ∙ sym same) (is.held (length history) less (omega arith)))
 
       held_still : AreHeld opening longer holds (past ++ [])

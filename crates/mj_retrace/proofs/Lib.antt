@@ -4,3 +4,4 @@ pub mod Standing
 pub mod Locking
 pub mod Noting
 pub mod Holding
+pub mod Through

@@ -1,23 +1,23 @@
 -- The line at which a job stands, and what it asks there.
-use Rattle.std.specs.Prelude.{Result, Ok, Err, IfOk, IfSome, IfNone, take, slice_get}
-use Rattle.std.specs.Option.{option_map}
-use Rattle.std.specs.Borrow.{Bor}
-use Rattle.std.proofs.Common.{◌≡◌, ℕ, ◌+◌, ◌≤◌, ◌⊎◌, inl, inr, List, [], ◌∷◌, ◌++◌, length, Option, Some, None, refl, sym, ap, ◌∙◌, subst, arith}
-use Rattle.std.proofs.lemmas.Option.{none-some, same_Some, slice_get_within}
+use Rattle.std.specs.Prelude.{Result, Ok, Err, IfOk, IfSome, take, slice_get}
+use Rattle.std.proofs.Common.{◌≡◌, ℕ, ◌+◌, ◌≤◌, ◌⊎◌, inl, inr, List, [], ◌∷◌, ◌++◌, length, map, Option, Some, None, refl, sym, ap, ◌∙◌, subst, arith}
+use Rattle.std.proofs.lemmas.Option.{same_Some, slice_get_within}
 use Rattle.std.proofs.lemmas.List.{take-append-le, length-append}
+use Rattle.std.proofs.lemmas.List.Elements.{AllZip-push}
 use Rattle.mj_ask.specs.declared.ask.Ask.{Ask}
-use Rattle.mj_ask.specs.declared.ask.Reply.{Reply}
 use Rattle.mj_ast.specs.Syntax.{Routine}
 use Rattle.mj_semantics.specs.State.{State, Frame, Place, places, place_of}
 use Rattle.mj_semantics.specs.Outcome as outcomes
 use Rattle.mj_load.specs.Image.{Loaded, routines_of}
+use Rattle.mj_jobvm.specs.Run.{Run}
 use Rattle.mj_jobvm.specs.Jobs.{Running}
 use Rattle.mj_sys.specs.declared.event.Event.{Event}
 use Rattle.mj_sys.specs.Shared.{Shared}
 use Rattle.mj_sys.specs.History.{History}
-use Rattle.mj_core.specs.Asking.{IsAtAsk}
+use Rattle.mj_core.specs.Shown.{AtAsk}
+use Rattle.mj_core.specs.Asking.{IsAtAsk, IsSeenAt}
 use Rattle.mj_retrace.specs.Made.{SeesAsk}
-use Rattle.mj_retrace.specs.Retraced.{Spot, innermost, AsksFrom, IsSpot, AreSpots}
+use Rattle.mj_retrace.specs.Retraced.{Spot, innermost, AsksFrom, IsSpot, AreSpots, AreAsked}
 use Rattle.mj_retrace.proofs.Listed.{get_last, get_front, get_cases, take_front}
 
 -- ---- the innermost line
@@ -29,7 +29,7 @@ spot_at (Some p) = Some (p.routine, p.line)
 
 innermost_is : (s : State) → innermost (places s) ≡ spot_at (place_of s)
 innermost_is s = by s.frames where
-  by : (fs : List Frame) → innermost (Rattle.std.specs.Prelude.map (λ (f : Frame). f.place) fs) ≡ spot_at (elim fs as (λ _. Option Place) [ [] ↦ None | f ∷ fs ↦ Some f.place ])
+  by : (fs : List Frame) → innermost (map (λ (f : Frame). f.place) fs) ≡ spot_at (elim fs as (λ _. Option Place) [ [] ↦ None | f ∷ fs ↦ Some f.place ])
   by [] = refl
   by (f ∷ fs) = refl
 
@@ -62,6 +62,21 @@ pub asks_next : (image : Loaded) (opening : Shared) (history : History) (job : �
     → IfOk seen (λ next. IfSome next (λ a. AsksFrom (routines_of image) opening history job a.0 a.1))
 asks_next image opening history job (Ok next) is = asks_by image opening history job is.0 is.1 next is.2
 asks_next image opening history job (Err e) is = tt
+
+-- where a job stands that is shown at an ask is the line of that
+pub spot_shown : {E : Type 0} (told : Result Spot E) (run : Run) (stand : Option AtAsk) (at : AtAsk) → stand ≡ Some at → (a : AtAsk) × (stand ≡ Some a) × IsSeenAt run a
+    → IfOk told (λ spot. spot ≡ innermost (places run.at.state)) → IfOk told (λ spot. spot ≡ innermost at.places)
+spot_shown (Ok spot) run stand at there shown is =
+    let same : shown.0 ≡ at = same_Some shown.0 at (sym shown.1 ∙ there) in
+    is ∙ ap innermost (sym shown.2.1) ∙ ap (λ (a : AtAsk). innermost a.places) same
+spot_shown (Err e) run stand at there shown is = tt
+
+-- one ask more
+pub asked_on : (image : List Routine) (opening : Shared) (history : History) (asked : List (ℕ × Ask)) (stands : List Spot) (job : ℕ) (ask : Ask) (spot : Spot)
+    → AreAsked image opening history asked stands → AsksFrom image opening history job ask spot
+    → AreAsked image opening history (asked ++ (job, ask) ∷ []) (stands ++ spot ∷ [])
+asked_on image opening history asked stands job ask spot are asks =
+    AllZip-push (λ (a : ℕ × Ask) (s : Spot). AsksFrom image opening history a.0 a.1 s) asked stands (job, ask) spot are asks
 
 -- ---- one event more
 

@@ -1,6 +1,6 @@
 // Where jobs stand, and what those that go on ask next.
 
-ghost use Rattle.std.specs.Prelude.{◌≡◌, ◌++◌, ◌∷◌, [], IfOk, OnOk, IfSome, Some, option_copied};
+ghost use Rattle.std.specs.Prelude.{◌≡◌, IfOk, OnOk, IfSome, Some};
 ghost use Rattle.mj_load.specs.Image.{routines_of};
 ghost use Rattle.mj_semantics.specs.State.{places};
 ghost use Rattle.mj_jobvm.specs.Jobs.{Running};
@@ -103,20 +103,14 @@ fn seen(job: &Job) -> Result<Option<(Ask, Spot)>, AllocError>
     }
 }
 
-/// Adds where a job stands in the routines that stands at an ask.
-pub fn add_spot<O: Opening>(
-    spots: &mut Vec<Spot>,
-    core: &Core<Blank, Heeds, O>,
-    job: u32,
-) -> Result<(), AllocError>
-    ensures { (at : AtAsk) → stand_at core.now.stands job ≡ Some at → OnOk result (spots.new.items ≡ spots.old.items ++ innermost at.places ∷ []) }
+/// Where in the routines a job stands that stands at an ask.
+pub fn spot_at<O: Opening>(core: &Core<Blank, Heeds, O>, job: u32) -> Result<Spot, AllocError>
+    ensures { (at : AtAsk) → stand_at core.now.stands job ≡ Some at → IfOk result (λ spot. spot ≡ innermost at.places) }
 {
-    let spot = match core.job(job) {
-        None => None,
-        Some(job) => spot_of(job)?,
-    };
-    spots.push(spot)?;
-    Ok(())
+    match core.job(job) {
+        None => Ok(None),
+        Some(job) => spot_of(job),
+    }
 }
 
 // Where a job stands in the routines.

@@ -12,7 +12,7 @@ ghost use Rattle.mj_replay.specs.Traces.{opening_in};
 ghost use Rattle.mj_retrace.specs.Retraced.{IsRetraced};
 
 use crate::again::make_again;
-use crate::ends::{add_spot, next_asks};
+use crate::ends::{next_asks, spot_at};
 use crate::holds::{Held, Hold, note_holds};
 use mj_ask::{Ask, Reply, Start};
 use mj_core::Core;
@@ -142,7 +142,8 @@ fn through<O: Opening>(
     core: &mut Core<Blank, Heeds, O>,
     events: &[(u32, Ask, Reply)],
 ) -> Result<Retraced, Untraced>
-    requires { core.old.history ≡ [] }
+    requires none { core.old.history ≡ [] }
+    requires free { O.opening.locks ≡ [] }
     ensures { IfOk result (λ told. IsRetraced (routines_of core.old.image) O.opening (history_of events.now)
         told.spots.items told.asked.items told.stands.items told.holds.items told.past.items) }
 {
@@ -153,7 +154,7 @@ fn through<O: Opening>(
         if !make_again(core, *job, ask, reply)? {
             return Err(Untraced::Differs(place));
         }
-        add_spot(&mut spots, core, *job)?;
+        spots.push(spot_at(core, *job)?)?;
         note_holds(&mut holds, &mut past, core.locks(), *job, ask, reply, place)?;
     }
     let _events = core.len(); // for the proof
