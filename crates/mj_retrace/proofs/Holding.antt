@@ -35,7 +35,7 @@ all_held opening history holds past are job name some = place_noted holds job na
 pub none_held : (opening : Shared) → ((job : ℕ) (name : Name) → count_of opening.locks job name ≡ 0) → AreHeld opening [] [] []
 none_held opening none = record {
   since = All-nil (IsHeldSince opening []);
-  all = λ job name some. absurd (let no = none job name in omega (arith, no, some));
+  all = λ job name some. absurd (let isnt = none job name in omega (arith, isnt, some));
   held = All-nil (WasHeld opening []);
 }
 
@@ -131,9 +131,9 @@ module _ (opening : Shared) (history : History) (e : Event) where
 
   module _ (holds : List Noted) (past : List Gone) (are : AreHeld opening history holds past) (told : IsToldSo (state_of opening history) e) where
     -- an event that may not change who holds what
-    module _ (no : changes_locks e.ask ≡ false) where
+    module _ (isnt : changes_locks e.ask ≡ false) where
       same : behind ≡ before
-      same = ap (λ (s : Shared). s.locks) (state_more opening history e) ∙ unchanged (state_of opening history) e no
+      same = ap (λ (s : Shared). s.locks) (state_more opening history e) ∙ unchanged (state_of opening history) e isnt
 
       still : (h : Noted) → IsHeldSince opening history h → IsHeldSince opening longer h
       still h is =

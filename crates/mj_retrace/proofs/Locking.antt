@@ -98,14 +98,14 @@ contained n m names is = (suc is.0, omega (arith, is.1), is.2)
 
 counted : (m : Name) (names : List Name) → 0 < count_by (names_eq m) names → Contains names m
 counted m [] some = absurd (omega (arith, some))
-counted m (n ∷ names) some = by (names_eq m n) refl
+counted m (n ∷ names) some = by (names_eq m n) refl (λ more. counted m names more)
   where
-    by : (b : Bool) → names_eq m n ≡ b → Contains (n ∷ names) m
-    by true is = (0, omega arith, sym ((names_eq-Decides m n).0 is))
-    by false is =
+    by : (b : Bool) → names_eq m n ≡ b → (0 < count_by (names_eq m) names → Contains names m) → Contains (n ∷ names) m
+    by true is rest = (0, omega arith, sym ((names_eq-Decides m n).0 is))
+    by false is rest =
         let more : count_by (names_eq m) (n ∷ names) ≡ cond (names_eq m n) 1 0 + count_by (names_eq m) names = sum_by-cons (λ (x : Name). cond (names_eq m x) 1 0) n names in
         let none : cond (names_eq m n) 1 0 ≡ 0 = ap (λ (b : Bool). cond b 1 0) is in
-        contained n m names (counted m names (omega (arith, more, none, some)))
+        contained n m names (rest (omega (arith, more, none, some)))
 
 placed : (j : ℕ) (m : Name) (job : ℕ) (names : List Name) → 0 < places_of j m job names → (j ≡ job) × Contains names m
 placed j m job names some = by (j == job) refl some
@@ -181,17 +181,17 @@ module _ (s : Shared) (job : ℕ) where
 
   -- an ask that changes nothing of who holds what
   same_locks : (a : SharedAsk) → changes_locks (asks.Shared a) ≡ false → Leaves (answered s job a true)
-  same_locks (shared_asks.Access a) no = refl
-  same_locks (shared_asks.Try names timeout) no = absurd (true_not no)
-  same_locks (shared_asks.Unlock names) no = absurd (true_not no)
-  same_locks shared_asks.UnlockAll no = absurd (true_not no)
-  same_locks (shared_asks.Begin kind) no = refl
-  same_locks shared_asks.Commit no = absurd (true_not no)
-  same_locks shared_asks.Rollback no = absurd (true_not no)
-  same_locks (shared_asks.Open name timeout) no = named_leaves name timeout
-  same_locks (shared_asks.Close name) no = refl
-  same_locks (shared_asks.Start start timeout) no = start_leaves start
-  same_locks (shared_asks.Halt fault) no = absurd (true_not no)
+  same_locks (shared_asks.Access a) isnt = refl
+  same_locks (shared_asks.Try names timeout) isnt = absurd (true_not isnt)
+  same_locks (shared_asks.Unlock names) isnt = absurd (true_not isnt)
+  same_locks shared_asks.UnlockAll isnt = absurd (true_not isnt)
+  same_locks (shared_asks.Begin kind) isnt = refl
+  same_locks shared_asks.Commit isnt = absurd (true_not isnt)
+  same_locks shared_asks.Rollback isnt = absurd (true_not isnt)
+  same_locks (shared_asks.Open name timeout) isnt = named_leaves name timeout
+  same_locks (shared_asks.Close name) isnt = refl
+  same_locks (shared_asks.Start start timeout) isnt = start_leaves start
+  same_locks (shared_asks.Halt fault) isnt = absurd (true_not isnt)
 
   -- a try of names: by what is in their way, and by whether a limit is passed
   module _ (names : List Name) (timeout : Option ℤ) (reply : Reply) (t : Shared) where
@@ -240,12 +240,12 @@ module _ (s : Shared) (job : ℕ) where
 
 -- an event that may not change who holds what doesn't
 pub unchanged : (s : Shared) (e : Event) → changes_locks e.ask ≡ false → (after s e).locks ≡ s.locks
-unchanged s e no = by e.ask no
+unchanged s e isnt = by e.ask isnt
   where
     by : (a : Ask) → changes_locks a ≡ false → (left_by s (served s e.job a true)).locks ≡ s.locks
-    by (asks.Shared a) no = same_locks s e.job a no
-    by (asks.Device device a) no = refl
-    by (asks.Rest time) no = refl
+    by (asks.Shared a) isnt = same_locks s e.job a isnt
+    by (asks.Device device a) isnt = refl
+    by (asks.Rest time) isnt = refl
 
 -- the reply to an event is one that it is told, where it is one to what all jobs share
 abbrev pub IsToldSo : Shared → Event → Type 0

@@ -14,16 +14,13 @@ pub true_not : true ≡ false → ⊥
 true_not e = cc
 
 pub held_so : (n : ℕ) → 0 < n → nat_lt 0 n ≡ true
-held_so zero some = absurd (omega (arith, some))
-held_so (suc n) some = refl
+held_so n some = grind (arith, some)
 
 pub held_some : (n : ℕ) → nat_lt 0 n ≡ true → 0 < n
-held_some zero is = absurd (true_not (sym is))
-held_some (suc n) is = omega arith
+held_some n is = grind (arith, is)
 
 pub held_none : (n : ℕ) → nat_lt 0 n ≡ false → n ≡ 0
-held_none zero is = refl
-held_none (suc n) is = absurd (true_not is)
+held_none n is = grind (arith, is)
 
 either : (a b : Bool) → (a || b) ≡ true → (a ≡ true) ⊎ (b ≡ true)
 either true b e = inl refl
@@ -62,22 +59,24 @@ own_note job name place = and_true (job == job) (names_eq name name) (eq-eqb job
 -- a job and a name that are noted are noted with a place
 pub place_noted : (holds : List Noted) (job : ℕ) (name : Name) → is_noted holds job name ≡ true → (place : ℕ) × Contains holds (job, name, place)
 place_noted [] job name is = absurd (true_not (sym is))
-place_noted (h ∷ holds) job name is = by (either (is_note job name h) (is_noted holds job name) is)
+place_noted (h ∷ holds) job name is = by (either (is_note job name h) (is_noted holds job name) is) (λ later. place_noted holds job name later)
   where
-    by : (is_note job name h ≡ true) ⊎ (is_noted holds job name ≡ true) → (place : ℕ) × Contains (h ∷ holds) (job, name, place)
-    by (inl here) =
+    by : (is_note job name h ≡ true) ⊎ (is_noted holds job name ≡ true) → (is_noted holds job name ≡ true → (place : ℕ) × Contains holds (job, name, place))
+        → (place : ℕ) × Contains (h ∷ holds) (job, name, place)
+    by (inl here) rest =
         let same = note_is job name h here in
         (h.2, (0, omega arith, (λ i. (same.0 i, same.1 i, h.2))))
-    by (inr later) = let rest = place_noted holds job name later in (rest.0, (suc rest.1.0, (let less = rest.1.1 in omega (arith, less)), rest.1.2))
+    by (inr later) rest = let found = rest later in (found.0, (suc found.1.0, (let less = found.1.1 in omega (arith, less)), found.1.2))
 
 -- one more leaves what is noted
 noted_on : (holds more : List Noted) (job : ℕ) (name : Name) → is_noted holds job name ≡ true → is_noted (holds ++ more) job name ≡ true
 noted_on [] more job name is = absurd (true_not (sym is))
-noted_on (h ∷ holds) more job name is = by (either (is_note job name h) (is_noted holds job name) is)
+noted_on (h ∷ holds) more job name is = by (either (is_note job name h) (is_noted holds job name) is) (λ later. noted_on holds more job name later)
   where
-    by : (is_note job name h ≡ true) ⊎ (is_noted holds job name ≡ true) → is_noted (h ∷ (holds ++ more)) job name ≡ true
-    by (inl here) = or_left (is_note job name h) (is_noted (holds ++ more) job name) here
-    by (inr later) = or_right (is_note job name h) (is_noted (holds ++ more) job name) (noted_on holds more job name later)
+    by : (is_note job name h ≡ true) ⊎ (is_noted holds job name ≡ true) → (is_noted holds job name ≡ true → is_noted (holds ++ more) job name ≡ true)
+        → is_noted (h ∷ (holds ++ more)) job name ≡ true
+    by (inl here) rest = or_left (is_note job name h) (is_noted (holds ++ more) job name) here
+    by (inr later) rest = or_right (is_note job name h) (is_noted (holds ++ more) job name) (rest later)
 
 -- and is noted
 noted_now : (holds : List Noted) (job : ℕ) (name : Name) (place : ℕ) → is_noted (holds ++ (job, name, place) ∷ []) job name ≡ true
@@ -88,17 +87,19 @@ noted_now (h ∷ holds) job name place = or_right (is_note job name h) (is_noted
 pub noted_held : (locks : Locks) (holds : List Noted) (job : ℕ) (name : Name) → is_noted holds job name ≡ true → 0 < count_of locks job name
     → is_noted (filter (is_held locks) holds) job name ≡ true
 noted_held locks [] job name is some = absurd (true_not (sym is))
-noted_held locks (h ∷ holds) job name is some = by (either (is_note job name h) (is_noted holds job name) is) (is_held locks h) refl
+noted_held locks (h ∷ holds) job name is some =
+    by (either (is_note job name h) (is_noted holds job name) is) (is_held locks h) refl (λ later. noted_held locks holds job name later some)
   where
     by : (is_note job name h ≡ true) ⊎ (is_noted holds job name ≡ true) → (b : Bool) → is_held locks h ≡ b
+        → (is_noted holds job name ≡ true → is_noted (filter (is_held locks) holds) job name ≡ true)
         → is_noted (cond b (h ∷ filter (is_held locks) holds) (filter (is_held locks) holds)) job name ≡ true
-    by (inl here) true k = or_left (is_note job name h) (is_noted (filter (is_held locks) holds) job name) here
-    by (inl here) false k =
+    by (inl here) true k rest = or_left (is_note job name h) (is_noted (filter (is_held locks) holds) job name) here
+    by (inl here) false k rest =
         let same = note_is job name h here in
         let so : is_held locks h ≡ nat_lt 0 (count_of locks job name) = (λ i. nat_lt 0 (count_of locks (same.0 i) (same.1 i))) in
         absurd (true_not (sym (held_so (count_of locks job name) some) ∙ sym so ∙ k))
-    by (inr later) true k = or_right (is_note job name h) (is_noted (filter (is_held locks) holds) job name) (noted_held locks holds job name later some)
-    by (inr later) false k = noted_held locks holds job name later some
+    by (inr later) true k rest = or_right (is_note job name h) (is_noted (filter (is_held locks) holds) job name) (rest later)
+    by (inr later) false k rest = rest later
 
 -- ---- names that are noted anew
 

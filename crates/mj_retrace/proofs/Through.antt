@@ -26,9 +26,9 @@ use Rattle.mj_retrace.proofs.Holding.{AreHeld, all_held, none_held, held_next}
 -- so many events of a trace were made again, and what was noted of them is so
 pub record IsThrough (image : Loaded) (opening : Shared) (events : List (ℕ × Ask × Reply)) (k : ℕ) (core : Shown) (spots : List Spot) (holds : List Noted) (past : List Gone)
     : Type 0 where
-  pub image : core.image ≡ image
-  pub history : core.history ≡ take k (history_of events)
-  pub spots : AreSpots (routines_of image) opening core.history spots
+  pub same : core.image ≡ image
+  pub made : core.history ≡ take k (history_of events)
+  pub come : AreSpots (routines_of image) opening core.history spots
   pub held : AreHeld opening core.history holds past
 
 no_spots : (image : Loaded) (opening : Shared) → AreSpots (routines_of image) opening [] []
@@ -40,9 +40,9 @@ through_none opening events core none free =
     let P : History → Type 0 = λ h. AreSpots (routines_of core.image) opening h [] in
     let Q : History → Type 0 = λ h. AreHeld opening h [] [] in
     record {
-      image = refl;
-      history = none;
-      spots = subst P (sym none) (no_spots core.image opening);
+      same = refl;
+      made = none;
+      come = subst P (sym none) (no_spots core.image opening);
       held = subst Q (sym none) (none_held opening (λ job name. ap (λ (l : Locks). count_of l job name) free));
     }
 
@@ -56,18 +56,18 @@ module _ (image : Loaded) (opening : Shared) (events : List (ℕ × Ask × Reply
   in_history = slice_get-map event_of events k ∙ ap (option_map event_of) there
 
   long : length old.history ≡ k
-  long = ap (λ (h : History). length h) is.history ∙ take_length (history_of events) k event in_history
+  long = ap (λ (h : History). length h) is.made ∙ take_length (history_of events) k event in_history
 
   grown : new.history ≡ take (k + 1) (history_of events)
   grown =
       let next : suc k ≡ k + 1 = omega arith in
-      made.more ∙ ap (λ (h : History). h ++ event ∷ []) is.history ∙ sym (take_more (history_of events) k event in_history) ∙ ap (λ n. take n (history_of events)) next
+      made.more ∙ ap (λ (h : History). h ++ event ∷ []) is.made ∙ sym (take_more (history_of events) k event in_history) ∙ ap (λ n. take n (history_of events)) next
 
   more_spots : AreSpots (routines_of image) opening new.history (spots ++ innermost made.at.places ∷ [])
   more_spots =
       let P : History → Type 0 = λ h. AreSpots (routines_of image) opening h (spots ++ innermost made.at.places ∷ []) in
       let Q : Loaded → Type 0 = λ i. AsksFrom (routines_of i) opening old.history e.0 e.1 (innermost made.at.places) in
-      subst P (sym made.more) (spots_on (routines_of image) opening old.history event spots (innermost made.at.places) is.spots (subst Q is.image made.asks))
+      subst P (sym made.more) (spots_on (routines_of image) opening old.history event spots (innermost made.at.places) is.come (subst Q is.same made.asks))
 
   told : IsToldSo (state_of opening old.history) event
   told = λ shared. (let so = made.told shared in (so.0, state_of opening new.history, so.1))
@@ -89,9 +89,9 @@ module _ (image : Loaded) (opening : Shared) (events : List (ℕ × Ask × Reply
       → spot ≡ innermost made.at.places → spots' ≡ spots ++ spot ∷ [] → locks ≡ (state_of opening new.history).locks → holds' ≡ noted locks e.0 e.1 e.2 k holds
       → past' ≡ past ++ (if changes_locks e.1 then gone locks k holds else []) → IsThrough image opening events (k + 1) new spots' holds' past'
   through_on spot spots' locks holds' past' same at put so notes was = record {
-    image = same ∙ is.image;
-    history = grown;
-    spots = subst (λ (s : List Spot). AreSpots (routines_of image) opening new.history s) (sym (put ∙ ap (λ (s : Spot). spots ++ s ∷ []) at)) more_spots;
+    same = same ∙ is.same;
+    made = grown;
+    come = subst (λ (s : List Spot). AreSpots (routines_of image) opening new.history s) (sym (put ∙ ap (λ (s : Spot). spots ++ s ∷ []) at)) more_spots;
     held = subst (λ (h : List Noted). AreHeld opening new.history h past') (sym notes)
         (subst (λ (p : List Gone). AreHeld opening new.history (noted locks e.0 e.1 e.2 k holds) p) (sym was) (more_held locks so));
   }
@@ -103,14 +103,14 @@ pub all_told : (image : Loaded) (opening : Shared) (events : List (ℕ × Ask ×
     → IsRetraced (routines_of image) opening (history_of events) spots asked stands holds past
 all_told image opening events k core spots holds past asked stands is all run ask =
     let long : length (history_of events) ≤ k = (let same = length-map events event_of in omega (arith, same, all)) in
-    let whole : core.history ≡ history_of events = is.history ∙ take_all k (history_of events) long in
+    let whole : core.history ≡ history_of events = is.made ∙ take_all k (history_of events) long in
     let told : IsRetraced (routines_of image) opening core.history spots asked stands holds past =
     (let P : Loaded → Type 0 = λ i. IsRun (routines_of i) opening core.history in
     let Q : Loaded → Type 0 = λ i. AreAsked (routines_of i) opening core.history asked stands in
     record {
-      run = subst P is.image run;
-      come = is.spots;
-      ask = subst Q is.image ask;
+      run = subst P is.same run;
+      come = is.come;
+      ask = subst Q is.same ask;
       hold = is.held.since;
       all = all_held opening core.history holds past is.held;
       held = is.held.held;

@@ -80,11 +80,11 @@ pub record IsHeldSince (opening : Shared) (history : History) (hold : ℕ × Nam
   pub held : IsHeldFrom opening history hold.0 hold.1 hold.2 (length history)
 
 -- a job came to hold the name by the event at the first place, has held it up to that at the second, and doesn't hold it behind that
-pub record WasHeld (opening : Shared) (history : History) (held : ℕ × Name × ℕ × ℕ) : Type 0 where
-  pub taken : IsTaken opening history held.0 held.1 held.2
-  pub held : IsHeldFrom opening history held.0 held.1 held.2 held.3
-  pub within : held.3 < length history
-  pub ends : count_of (state_of opening (take (suc held.3) history)).locks held.0 held.1 ≡ 0
+pub record WasHeld (opening : Shared) (history : History) (past : ℕ × Name × ℕ × ℕ) : Type 0 where
+  pub taken : IsTaken opening history past.0 past.1 past.2
+  pub held : IsHeldFrom opening history past.0 past.1 past.2 past.3
+  pub within : past.3 < length history
+  pub ends : count_of (state_of opening (take (suc past.3) history)).locks past.0 past.1 ≡ 0
 
 -- that is all that jobs hold: each name that one holds is there
 abbrev pub AreAllHeld : Shared → History → List (ℕ × Name × ℕ) → Type 0
