@@ -1,5 +1,5 @@
 -- What is noted of who holds what: it grows by names that weren't noted, and what is held still stays.
-use Rattle.std.specs.Prelude.{T, ◌==◌, ◌&&◌, ◌||◌, ◌⊎◌, nat_lt, not, if◌then◌else◌}
+use Rattle.std.specs.Prelude.{T, ◌==◌, ◌&&◌, ◌||◌, ◌⊎◌, nat_lt, not, if◌then◌else◌, Result, Ok, Err, OnOk}
 use Rattle.std.specs.List.{All, Contains, filter, list_any}
 use Rattle.std.proofs.Common.{◌≡◌, ℕ, zero, suc, ◌<◌, Bool, true, false, cond, List, [], ◌∷◌, ◌++◌, length, refl, sym, ap, ◌∙◌, subst, inl, inr, arith, eq-eqb, eqb→eq}
 use Rattle.std.proofs.lemmas.List.Elements.{All-nil, All-cons, All-head, All-tail, All-push, All-append, Contains-append_left, Contains-append_right}
@@ -7,6 +7,11 @@ use Rattle.mj_subs.specs.Name.{Name, names_eq}
 use Rattle.mj_subs.specs.Laws.Tests.{names_eq-Decides}
 use Rattle.mj_locktab.specs.Locks.{Locks, count_of}
 use Rattle.mj_retrace.specs.Noted.{Noted, Gone, is_held, is_noted, with_name, with_names, gone_of, gone}
+
+-- what holds is so of whichever result
+pub whichever : {A E P : Type 0} (r : Result A E) → P → OnOk r P
+whichever (Ok a) p = p
+whichever (Err e) p = tt
 
 -- ---- tests
 

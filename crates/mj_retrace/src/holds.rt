@@ -1,6 +1,7 @@
 // Which event made a job hold each name.
 
 ghost use Rattle.std.specs.Prelude.{◌≡◌, ◌++◌, [], OnOk, if◌then◌else◌};
+ghost use Rattle.mj_retrace.specs.Retraced.{locked_by};
 ghost use Rattle.mj_retrace.specs.Noted.{changes_locks, is_noted, with_names, noted, gone};
 
 use mj_ask::{Ask, Reply, SharedAsk};
@@ -33,11 +34,16 @@ pub fn note_holds(
     }
     note_gone(past, locks, holds, place)?;
     holds.retain(|hold| locks.count(hold.0, &hold.1) > 0);
+    note_names(holds, locks, job, locked_by(ask, reply), place)
+}
+
+// The names that are locked by an ask which is told this.
+fn locked_by<'a>(ask: &'a Ask, reply: &Reply) -> &'a [Name]
+    ensures { result.now ≡ locked_by ask.now reply.now }
+{
     match (ask, reply) {
-        (Ask::Shared(SharedAsk::Try(names, _)), Reply::Got) => {
-            note_names(holds, locks, job, names.as_slice(), place)
-        }
-        _ => Ok(()),
+        (Ask::Shared(SharedAsk::Try(names, _)), Reply::Got) => names.as_slice(),
+        _ => &[],
     }
 }
 
