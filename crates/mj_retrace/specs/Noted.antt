@@ -1,15 +1,20 @@
--- What is noted of an event: who holds which names behind it.
-use Rattle.std.specs.Prelude.{◌≡◌, ℕ, ◌<◌, ◌⊎◌, Bool, true, false, List, Contains, if◌then◌else◌}
-use Rattle.mj_subs.specs.Name.{Name}
+-- What is noted of an event: who holds which names behind it, and who held which before.
+use Rattle.std.specs.Prelude.{ℕ, nat_lt, ◌==◌, Bool, true, false, not, ◌&&◌, List, [], ◌∷◌, ◌++◌, if◌then◌else◌}
+use Rattle.std.specs.List.{filter, list_any}
+use Rattle.mj_subs.specs.Name.{Name, names_eq}
 use Rattle.mj_ask.specs.declared.ask.Ask.{Ask}
 use Rattle.mj_ask.specs.declared.ask.Ask.TheVariants as asks
 use Rattle.mj_ask.specs.declared.ask.SharedAsk.TheVariants as shared_asks
 use Rattle.mj_ask.specs.declared.ask.Reply.{Reply}
 use Rattle.mj_locktab.specs.Locks.{Locks, count_of}
-use Rattle.mj_retrace.specs.Retraced.{IsTaking}
+use Rattle.mj_retrace.specs.Retraced.{locked_by}
 
-abbrev pub Hold : Type 0
-Hold = ℕ × Name × ℕ
+-- a job, a name that it holds, and the place of the event by which it came to hold it; and that of the event behind which it doesn't hold it
+abbrev pub Noted : Type 0
+Noted = ℕ × Name × ℕ
+
+abbrev pub Gone : Type 0
+Gone = ℕ × Name × ℕ × ℕ
 
 -- whether an ask may change who holds what
 abbrev pub changes_locks : Ask → Bool
@@ -21,12 +26,34 @@ changes_locks (asks.Shared shared_asks.Rollback) = true
 changes_locks (asks.Shared (shared_asks.Halt fault)) = true
 changes_locks _ = false
 
--- what is noted behind an event was noted before, or was taken by it; and it is held
-abbrev pub IsNoted : Locks → ℕ → Ask → Reply → ℕ → List Hold → Hold → Type 0
-IsNoted locks job ask reply place old h =
-    (0 < count_of locks h.0 h.1) × (Contains old h ⊎ ((h.0 ≡ job) × (h.2 ≡ place) × IsTaking ask reply h.1))
+-- whether what is noted is held still
+abbrev pub is_held : Locks → Noted → Bool
+is_held locks h = nat_lt 0 (count_of locks h.0 h.1)
 
--- where an event changes nothing of who holds what, the same is noted; else all that is noted is so
-abbrev pub AreNoted : Locks → ℕ → Ask → Reply → ℕ → List Hold → List Hold → Type 0
-AreNoted locks job ask reply place old new =
-    ((changes_locks ask ≡ false) × (new ≡ old)) ⊎ ((h : Hold) → Contains new h → IsNoted locks job ask reply place old h)
+-- whether it is noted that a job holds a name
+abbrev pub is_noted : List Noted → ℕ → Name → Bool
+is_noted holds job name = list_any (λ h. (h.0 == job) && names_eq h.1 name) holds
+
+-- a name is noted that a job holds, if it wasn't
+abbrev pub with_name : Locks → ℕ → ℕ → Name → List Noted → List Noted
+with_name locks job place name holds =
+    if nat_lt 0 (count_of locks job name) && not (is_noted holds job name) then holds ++ (job, name, place) ∷ [] else holds
+
+-- and each of these names
+abbrev pub with_names : Locks → ℕ → ℕ → List Name → List Noted → List Noted
+with_names locks job place [] holds = holds
+with_names locks job place (name ∷ names) holds = with_names locks job place names (with_name locks job place name holds)
+
+-- what is noted behind an event of a job: what is held of what was noted, and the names that were locked by it, where it may change who holds what
+abbrev pub noted : Locks → ℕ → Ask → Reply → ℕ → List Noted → List Noted
+noted locks job ask reply place holds =
+    if changes_locks ask then with_names locks job place (locked_by ask reply) (filter (is_held locks) holds) else holds
+
+-- what isn't held any more behind the event at a place
+abbrev pub gone_of : Bool → ℕ → Noted → List Gone
+gone_of true place h = []
+gone_of false place h = (h.0, h.1, h.2, place) ∷ []
+
+abbrev pub gone : Locks → ℕ → List Noted → List Gone
+gone locks place [] = []
+gone locks place (h ∷ holds) = gone_of (is_held locks h) place h ++ gone locks place holds

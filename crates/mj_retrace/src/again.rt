@@ -1,6 +1,7 @@
 // One event, made again.
 
-ghost use Rattle.std.specs.Prelude.{◌≡◌, ◌++◌, ◌∷◌, [], ℕ, true, IfOk, Some, slice_get};
+ghost use Rattle.std.specs.Prelude.{◌≡◌, ℕ, true, IfOk, Some, slice_get};
+ghost use Rattle.mj_retrace.specs.Made.{MakesAgain};
 
 use mj_ask::{Ask, Reply, is_same_ask, is_same_reply};
 use mj_core::{Core, Refusal, Seen, Step, Way};
@@ -20,9 +21,11 @@ pub fn make_again<O: Opening>(
     reply: &Reply,
 ) -> Result<bool, AllocError>
     ensures image { core.new.image ≡ core.old.image }
-    ensures made { IfOk result (λ made. made ≡ true
-        → core.new.history ≡ core.old.history ++ record { job = job; ask = ask.now; reply = reply.now } ∷ []) }
+    ensures made { IfOk result (λ made. made ≡ true → MakesAgain core.old.image O.opening core.old.history job ask.now reply.now core.new) }
 {
+    // each job that there may be has a place
+    let _events = core.len(); // for the proof
+    let _jobs = core.jobs(); // for the proof
     let step = Step {
         job,
         way: way_of(ask, reply),
@@ -50,7 +53,7 @@ fn way_of(ask: &Ask, reply: &Reply) -> Way {
     }
 }
 
-// Whether the event at a place of the history is this.
+// Whether the event at a place of the history is this, of whichever job.
 fn is_event<O: Opening>(
     core: &Core<Blank, Heeds, O>,
     place: usize,

@@ -1,9 +1,13 @@
-// What the jobs that go on ask next.
+// Where jobs stand, and what those that go on ask next.
 
-ghost use Rattle.std.specs.Prelude.{◌≡◌, All, IfOk, IfSome, option_map, option_copied};
+ghost use Rattle.std.specs.Prelude.{◌≡◌, IfOk, OnOk, IfSome, Some};
 ghost use Rattle.mj_load.specs.Image.{routines_of};
-ghost use Rattle.mj_semantics.specs.State.{place_of};
-ghost use Rattle.mj_retrace.specs.Retraced.{IsNextAsk};
+ghost use Rattle.mj_semantics.specs.State.{places};
+ghost use Rattle.mj_jobvm.specs.Jobs.{Running};
+ghost use Rattle.mj_core.specs.Asking.{IfAsks, IsAtAsk};
+ghost use Rattle.mj_core.specs.Shown.{AtAsk, stand_at};
+ghost use Rattle.mj_retrace.specs.Made.{SeesAsk};
+ghost use Rattle.mj_retrace.specs.Retraced.{innermost, AsksFrom, AreAsked};
 
 use crate::retracing::{Asked, Spot};
 use mj_ask::Ask;
@@ -23,30 +27,49 @@ pub fn next_asks<O: Opening>(
     core: &mut Core<Blank, Heeds, O>,
 ) -> Result<(Vec<Asked>, Vec<Spot>), AllocError>
     ensures history { core.new.history ≡ core.old.history }
-    ensures asked { IfOk result (λ ends. All (IsNextAsk (routines_of core.old.image) O.opening core.old.history) ends.0.items) }
+    ensures asked { IfOk result (λ ends. AreAsked (routines_of core.old.image) O.opening core.old.history ends.0.items ends.1.items) }
 {
     let mut asked = Vec::new(alloc);
-    let mut spots = Vec::new(alloc);
+    let mut stands = Vec::new(alloc);
     for done in 0..core.jobs() as u32 {
-        if let Some((ask, spot)) = next_ask(core, done + 1)? {
-            asked.push((done + 1, ask))?;
-            spots.push(spot)?;
-        }
+        add_ask(core, done + 1, &mut asked, &mut stands)?;
     }
-    Ok((asked, spots))
+    Ok((asked, stands))
 }
 
-// What a job asks next, if it goes on and asks soon.
+// Adds what a job asks next, and where it stands there, if it goes on and asks soon.
+fn add_ask<O: Opening>(
+    core: &mut Core<Blank, Heeds, O>,
+    job: u32,
+    asked: &mut Vec<Asked>,
+    stands: &mut Vec<Spot>,
+) -> Result<(), AllocError>
+    ensures image { core.new.image ≡ core.old.image }
+    ensures history { core.new.history ≡ core.old.history }
+    ensures asked { AreAsked (routines_of core.old.image) O.opening core.old.history asked.old.items stands.old.items
+        → OnOk result (AreAsked (routines_of core.old.image) O.opening core.old.history asked.new.items stands.new.items) }
+{
+    match next_ask(core, job)? {
+        None => Ok(()),
+        Some((ask, spot)) => {
+            asked.push((job, ask))?;
+            stands.push(spot)?;
+            Ok(())
+        }
+    }
+}
+
+// What a job asks next, and where it stands there, if it goes on and asks soon.
 fn next_ask<O: Opening>(
     core: &mut Core<Blank, Heeds, O>,
     job: u32,
 ) -> Result<Option<(Ask, Spot)>, AllocError>
     ensures image { core.new.image ≡ core.old.image }
     ensures history { core.new.history ≡ core.old.history }
-    ensures asks { IfOk result (λ next. IfSome next (λ ask. IsNextAsk (routines_of core.old.image) O.opening core.old.history (job, ask.0))) }
+    ensures asks { IfOk result (λ next. IfSome next (λ ask. AsksFrom (routines_of core.old.image) O.opening core.old.history job ask.0 ask.1)) }
 {
     for _ in 0..RUNS {
-        match core.ready_job(job, seen) {
+        match ready_on(core, job) {
             Ok(Ready::Ran) => {}
             Ok(Ready::Asks(seen)) => return seen,
             Ok(Ready::Ended) => return Ok(None),
@@ -57,26 +80,45 @@ fn next_ask<O: Opening>(
     Ok(None)
 }
 
+// Lets a job go on to its next ask, and copies that, with where it stands there. The history stays as it is.
+fn ready_on<O: Opening>(
+    core: &mut Core<Blank, Heeds, O>,
+    job: u32,
+) -> Result<Ready<Result<Option<(Ask, Spot)>, AllocError>>, Refusal>
+    ensures image { core.new.image ≡ core.old.image }
+    ensures history { core.new.history ≡ core.old.history }
+    ensures asks { IfAsks result (λ seen. IfOk seen (λ next. (found : Running)
+        × IsAtAsk core.old.image O.opening core.old.history job found × SeesAsk found.run next)) }
+{
+    core.ready_job(job, seen)
+}
+
 // What a job asks that waits, and where it stands.
 fn seen(job: &Job) -> Result<Option<(Ask, Spot)>, AllocError>
-    ensures { IfOk result (λ next. option_map (λ ask. ask.0) next ≡ job.now.run.pending) }
+    ensures { IfOk result (λ next. SeesAsk job.now.run next) }
 {
     match job.ask() {
         None => Ok(None),
-        Some(ask) => Ok(Some((ask.try_clone()?, spot_of(Some(job))?))),
+        Some(ask) => Ok(Some((ask.try_clone()?, spot_of(job)?))),
     }
 }
 
-/// Where a job stands in the routines.
-pub fn spot_of(job: Option<&Job>) -> Result<Spot, AllocError>
-    ensures { IfSome (option_copied job.entry)
-        (λ j. IfOk result (λ spot. option_map (λ s. record { routine = s.0; line = s.1 }) spot ≡ place_of j.run.at.state)) }
+/// Where in the routines a job stands that stands at an ask.
+pub fn spot_at<O: Opening>(core: &Core<Blank, Heeds, O>, job: u32) -> Result<Spot, AllocError>
+    ensures { (at : AtAsk) → stand_at core.now.stands job ≡ Some at → IfOk result (λ spot. spot ≡ innermost at.places) }
 {
-    match job {
+    match core.job(job) {
         None => Ok(None),
-        Some(job) => match job.place() {
-            None => Ok(None),
-            Some((routine, line)) => Ok(Some((routine.try_clone()?, line))),
-        },
+        Some(job) => spot_of(job),
+    }
+}
+
+// Where a job stands in the routines.
+fn spot_of(job: &Job) -> Result<Spot, AllocError>
+    ensures { IfOk result (λ spot. spot ≡ innermost (places job.now.run.at.state)) }
+{
+    match job.place() {
+        None => Ok(None),
+        Some((routine, line)) => Ok(Some((routine.try_clone()?, line))),
     }
 }

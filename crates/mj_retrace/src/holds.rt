@@ -1,10 +1,8 @@
 // Which event made a job hold each name.
 
-ghost use Rattle.std.specs.Prelude.{◌≡◌, ◌<◌, ◌⊎◌, ℕ, true, false, Contains, OnOk};
-ghost use Rattle.mj_subs.specs.Name.{Name as Names};
-ghost use Rattle.mj_locktab.specs.Locks.{count_of};
-ghost use Rattle.mj_retrace.specs.Retraced.{IsTaking};
-ghost use Rattle.mj_retrace.specs.Noted.{AreNoted, changes_locks};
+ghost use Rattle.std.specs.Prelude.{◌≡◌, ◌++◌, [], OnOk, if◌then◌else◌};
+ghost use Rattle.mj_retrace.specs.Retraced.{locked_by};
+ghost use Rattle.mj_retrace.specs.Noted.{changes_locks, is_noted, with_names, noted, gone};
 
 use mj_ask::{Ask, Reply, SharedAsk};
 use mj_locktab::LockTable;
@@ -27,20 +25,25 @@ pub fn note_holds(
     reply: &Reply,
     place: usize,
 ) -> Result<(), AllocError>
-    ensures { OnOk result (AreNoted locks.now.holds job ask.now reply.now place holds.old.items holds.new.items) }
+    ensures holds { OnOk result (holds.new.items ≡ noted locks.now.holds job ask.now reply.now place holds.old.items) }
+    ensures past { OnOk result (past.new.items
+        ≡ past.old.items ++ (if changes_locks ask.now then gone locks.now.holds place holds.old.items else [])) }
 {
     if !changes_locks(ask) {
         return Ok(());
     }
-    for hold in holds.iter() {
-        note_past(past, locks, hold, place)?;
-    }
+    note_gone(past, locks, holds, place)?;
     holds.retain(|hold| locks.count(hold.0, &hold.1) > 0);
+    note_names(holds, locks, job, locked_by(ask, reply), place)
+}
+
+// The names that are locked by an ask which is told this.
+fn locked_by<'a>(ask: &'a Ask, reply: &Reply) -> &'a [Name]
+    ensures { result.now ≡ locked_by ask.now reply.now }
+{
     match (ask, reply) {
-        (Ask::Shared(SharedAsk::Try(names, _)), Reply::Got) => {
-            note_names(holds, locks, job, names.as_slice(), place)
-        }
-        _ => Ok(()),
+        (Ask::Shared(SharedAsk::Try(names, _)), Reply::Got) => names.as_slice(),
+        _ => &[],
     }
 }
 
@@ -59,16 +62,19 @@ fn changes_locks(ask: &Ask) -> bool
     }
 }
 
-// Notes that a job held a name up to the event at a place, if it doesn't hold it any more.
-fn note_past(
+// Notes of each name that isn't held any more that a job held it up to the event at a place.
+fn note_gone(
     past: &mut Vec<Held>,
     locks: &LockTable,
-    hold: &Hold,
+    holds: &[Hold],
     place: usize,
-) -> Result<(), AllocError> {
-    let (job, name, since) = hold;
-    if locks.count(*job, name) == 0 {
-        past.push((*job, name.try_clone()?, *since, place))?;
+) -> Result<(), AllocError>
+    ensures { OnOk result (past.new.items ≡ past.old.items ++ gone locks.now.holds place holds.now) }
+{
+    for (job, name, since) in holds {
+        if locks.count(*job, name) == 0 {
+            past.push((*job, name.try_clone()?, *since, place))?;
+        }
     }
     Ok(())
 }
@@ -81,8 +87,7 @@ fn note_names(
     names: &[Name],
     place: usize,
 ) -> Result<(), AllocError>
-    ensures { OnOk result ((h : ℕ × Names × ℕ) → Contains holds.new.items h
-        → Contains holds.old.items h ⊎ ((h.0 ≡ job) × (h.2 ≡ place) × Contains names.now h.1 × (0 < count_of locks.now.holds h.0 h.1))) }
+    ensures { OnOk result (holds.new.items ≡ with_names locks.now.holds job place names.now holds.old.items) }
 {
     for name in names {
         if locks.count(job, name) > 0 && !is_noted(holds, job, name) {
@@ -93,6 +98,8 @@ fn note_names(
 }
 
 // Whether it is noted that a job holds a name.
-fn is_noted(holds: &[Hold], job: u32, name: &Name) -> bool {
+fn is_noted(holds: &[Hold], job: u32, name: &Name) -> bool
+    ensures { result ≡ is_noted holds.now job name.now }
+{
     holds.iter().any(|hold| hold.0 == job && hold.1 == *name)
 }

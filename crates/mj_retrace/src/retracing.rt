@@ -1,27 +1,26 @@
 // A trace, run again.
 
-ghost use Rattle.std.specs.Prelude.{◌≡◌, ◌≤◌, [], length, map, true, IfOk};
+ghost use Rattle.std.specs.Prelude.{◌≡◌, ◌≤◌, [], length, true, IfOk};
 ghost use Rattle.mj_dev.specs.Shelves.{principal, left_of};
-ghost use Rattle.mj_dev.specs.Pools.{shelves_of};
 ghost use Rattle.mj_jobs.specs.Rows.{rows_limit};
 ghost use Rattle.mj_sys.specs.Opening.{opening_of, are_bare};
 ghost use Rattle.mj_sys.specs.Shared.{are_global};
 ghost use Rattle.mj_trace.specs.Lines.{IsTrace};
 ghost use Rattle.mj_load.specs.Image.{routines_of};
 ghost use Rattle.mj_replica.specs.Replays.{history_of};
-ghost use Rattle.mj_replay.specs.Traces.{bare_start, opening_in};
+ghost use Rattle.mj_replay.specs.Traces.{opening_in};
 ghost use Rattle.mj_retrace.specs.Retraced.{IsRetraced};
 
 use crate::again::make_again;
-use crate::ends::{next_asks, spot_of};
+use crate::ends::{next_asks, spot_at};
 use crate::holds::{Held, Hold, note_holds};
-use mj_ask::{Ask, Entry, Reply, Start};
+use mj_ask::{Ask, Reply, Start};
 use mj_core::Core;
-use mj_dev::Blank;
+use mj_dev::{Blank, Pool};
 use mj_expect::Heeds;
 use mj_globs::Globals;
-use mj_jobvm::Job;
 use mj_load::Image;
+use mj_replay::opened;
 use mj_sys::Opening;
 use mj_text::Text;
 use mj_trace::Trace;
@@ -74,12 +73,10 @@ pub fn retrace(
     requires global { are_global globals.content ≡ true }
     requires written { IsTrace trace.now }
     ensures { IfOk result (λ told. IsRetraced (routines_of image) (opening_in globals.content trace.now) (history_of trace.now.events)
-        told.spots.items told.asked.items told.holds.items) }
+        told.spots.items told.asked.items told.stands.items told.holds.items told.past.items) }
 {
     match opened(alloc, trace) {
-        Ok((sessions, starts)) => {
-            retrace_over(alloc, image, globals, sessions, starts, trace.events())
-        }
+        Ok((pool, starts)) => retrace_over(alloc, image, globals, pool, starts, trace.events()),
         Err(_) => {
             drop(image);
             drop(globals);
@@ -88,61 +85,24 @@ pub fn retrace(
     }
 }
 
-// The devices and the starts of a trace.
-fn opened(alloc: Global, trace: &Trace) -> Result<(Vec<(Text, u32)>, Vec<Start>), AllocError>
-    ensures pool { IfOk result (λ x. x.0.items ≡ trace.now.pool) }
-    ensures starts { IfOk result (λ x. x.1.items ≡ map bare_start trace.now.starts) }
-{
-    let starts = starts_of(alloc, trace.starts())?;
-    match sessions_of(alloc, trace.pool()) {
-        Ok(sessions) => Ok((sessions, starts)),
-        Err(error) => {
-            drop(starts);
-            Err(error)
-        }
-    }
-}
-
-// Copies of devices, each with the number of its sessions.
-fn sessions_of(alloc: Global, pool: &[(Text, u32)]) -> Result<Vec<(Text, u32)>, AllocError>
-    ensures { IfOk result (λ copies. copies.items ≡ pool.now) }
-{
-    let mut copies = Vec::with_capacity(alloc, pool.len())?;
-    for (name, count) in pool {
-        copies.push((name.try_clone()?, *count))?;
-    }
-    Ok(copies)
-}
-
-// Starts at these entries, without values.
-fn starts_of(alloc: Global, entries: &[Entry]) -> Result<Vec<Start>, AllocError>
-    ensures { IfOk result (λ starts. starts.items ≡ map bare_start entries.now) }
-{
-    let mut starts = Vec::with_capacity(alloc, entries.len())?;
-    for entry in entries {
-        starts.push(Start::new(entry.try_clone()?, Vec::new(alloc)))?;
-    }
-    Ok(starts)
-}
-
 // Runs events again over an opening.
 fn retrace_over(
     alloc: Global,
     image: Image,
     globals: Globals,
-    sessions: Vec<(Text, u32)>,
+    pool: Pool<Blank>,
     starts: Vec<Start>,
     events: &[(u32, Ask, Reply)],
 ) -> Result<Retraced, Untraced>
     requires global { are_global globals.content ≡ true }
     requires some { 1 ≤ length starts.items }
     requires few { length starts.items ≤ rows_limit }
-    requires fits { length starts.items ≤ left_of principal (shelves_of sessions.items) }
+    requires fits { length starts.items ≤ left_of principal pool }
     requires bare { are_bare starts.items ≡ true }
-    ensures { IfOk result (λ told. IsRetraced (routines_of image) (opening_of globals.content (shelves_of sessions.items) starts.items) (history_of events.now)
-        told.spots.items told.asked.items told.holds.items) }
+    ensures { IfOk result (λ told. IsRetraced (routines_of image) (opening_of globals.content pool starts.items) (history_of events.now)
+        told.spots.items told.asked.items told.stands.items told.holds.items told.past.items) }
 {
-    retrace_in::<Brand>(alloc, image, globals, sessions, starts, events)
+    retrace_in::<Brand>(alloc, image, globals, pool, starts, events)
 }
 
 // Runs them again in a core of that opening.
@@ -150,33 +110,30 @@ fn retrace_in<O: Opening>(
     alloc: Global,
     image: Image,
     globals: Globals,
-    sessions: Vec<(Text, u32)>,
+    pool: Pool<Blank>,
     starts: Vec<Start>,
     events: &[(u32, Ask, Reply)],
 ) -> Result<Retraced, Untraced>
-    requires opening { opening_of globals.content (shelves_of sessions.items) starts.items ≡ O.opening }
+    requires opening { opening_of globals.content pool starts.items ≡ O.opening }
     requires global { are_global globals.content ≡ true }
     requires some { 1 ≤ length starts.items }
     requires few { length starts.items ≤ rows_limit }
-    requires fits { length starts.items ≤ left_of principal (shelves_of sessions.items) }
+    requires fits { length starts.items ≤ left_of principal pool }
     requires bare { are_bare starts.items ≡ true }
-    ensures { IfOk result (λ told. IsRetraced (routines_of image) (O.opening) (history_of events.now)
-        told.spots.items told.asked.items told.holds.items) }
+    ensures { IfOk result (λ told. IsRetraced (routines_of image) O.opening (history_of events.now)
+        told.spots.items told.asked.items told.stands.items told.holds.items told.past.items) }
 {
-    match Core::<Blank, Heeds, O>::blank(alloc, image, globals, sessions, starts) {
+    match Core::<Blank, Heeds, O>::new(alloc, image, globals, pool, starts) {
         Ok(mut core) => {
             let told = through(alloc, &mut core, events);
             drop(core);
             told
         }
-        Err(_) => Err(Untraced::Memory),
+        Err(back) => {
+            drop(back);
+            Err(Untraced::Memory)
+        }
     }
-}
-
-// Adds where a job stands.
-fn add_spot(spots: &mut Vec<Spot>, job: Option<&Job>) -> Result<(), AllocError> {
-    spots.push(spot_of(job)?)?;
-    Ok(())
 }
 
 // Goes through all events, and to what the jobs ask behind them.
@@ -185,9 +142,10 @@ fn through<O: Opening>(
     core: &mut Core<Blank, Heeds, O>,
     events: &[(u32, Ask, Reply)],
 ) -> Result<Retraced, Untraced>
-    requires { core.old.history ≡ [] }
-    ensures { IfOk result (λ told. IsRetraced (routines_of core.old.image) (O.opening) (history_of events.now)
-        told.spots.items told.asked.items told.holds.items) }
+    requires none { core.old.history ≡ [] }
+    requires free { O.opening.locks ≡ [] }
+    ensures { IfOk result (λ told. IsRetraced (routines_of core.old.image) O.opening (history_of events.now)
+        told.spots.items told.asked.items told.stands.items told.holds.items told.past.items) }
 {
     let mut spots = Vec::new(alloc);
     let mut holds = Vec::new(alloc);
@@ -196,9 +154,10 @@ fn through<O: Opening>(
         if !make_again(core, *job, ask, reply)? {
             return Err(Untraced::Differs(place));
         }
-        add_spot(&mut spots, core.job(*job))?;
+        spots.push(spot_at(core, *job)?)?;
         note_holds(&mut holds, &mut past, core.locks(), *job, ask, reply, place)?;
     }
+    let _events = core.len(); // for the proof
     let (asked, stands) = next_asks(alloc, core)?;
     Ok(Retraced {
         spots,

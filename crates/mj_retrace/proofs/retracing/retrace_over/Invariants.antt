@@ -1,7 +1,6 @@
-use Rattle.mj_dev.specs.Pools.{shelves_of}
 use Rattle.mj_sys.specs.Opening.{opening_of}
 use Rattle.mj_retrace.proofs.retracing.retrace_over.Given as goal
 
--- the opening is that of these globals, sessions and starts
+-- the opening is that of these globals, devices and starts
 abbrev pub ghosts-retrace_in : goal.ghosts-retrace_in
-ghosts-retrace_in a = record { opening = opening_of a.globals.content (shelves_of a.sessions.items) a.starts.items }
+ghosts-retrace_in a = record { opening = opening_of a.globals.content a.pool a.starts.items }
