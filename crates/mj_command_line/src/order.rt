@@ -28,8 +28,6 @@ pub enum Order<'a> {
     Check { files: Vec<&'a str> },
     /// to say whether a trace is that of a run
     Replay(Replay<'a>),
-    /// to tell what a trace shows
-    Explain(Explain<'a>),
 }
 
 /// Jobs that are to run.
@@ -92,15 +90,6 @@ pub struct Replay<'a> {
     pub files: Vec<&'a str>,
     /// the file that lists the globals that were there at first
     pub globals: Option<&'a str>,
-}
-
-/// A trace of which is to be told what it shows.
-#[derive(Drop)]
-pub struct Explain<'a> {
-    /// the trace, its routines, and the globals that were there at first
-    pub record: Replay<'a>,
-    /// the file to which a page goes that shows it
-    pub html: Option<&'a str>,
 }
 
 /// Why words are no order.

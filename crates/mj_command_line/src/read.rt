@@ -1,6 +1,6 @@
 // The words of the command line.
 
-use crate::order::{Debug, Explain, Explore, NoOrder, Order, RUNS, Replay, Run, SEED, WORKERS};
+use crate::order::{Debug, Explore, NoOrder, Order, RUNS, Replay, Run, SEED, WORKERS};
 use crate::words::command;
 use clap::error::ErrorKind;
 use clap::{ArgMatches, Command, Error};
@@ -47,7 +47,6 @@ fn order_of<'a>(
         "debug" => debug_order(alloc, found),
         "check" => check_order(alloc, found),
         "replay" => replay_order(alloc, found),
-        "explain" => explain_order(alloc, found),
         _ => no_order(command),
     }
 }
@@ -150,22 +149,6 @@ fn number_given(found: &ArgMatches<'_>, name: &str, other: u32) -> u32 {
         Some(number) => number,
         None => other,
     }
-}
-
-// The trace is required here too.
-fn explain_order<'a>(alloc: Global, found: &ArgMatches<'a>) -> Result<Order<'a>, Error> {
-    let trace = match found.get_str("record") {
-        Some(trace) => trace,
-        None => "",
-    };
-    Ok(Order::Explain(Explain {
-        record: Replay {
-            trace,
-            files: value_given(alloc, found, "routines")?,
-            globals: found.get_str("globals"),
-        },
-        html: found.get_str("html"),
-    }))
 }
 
 // What was given for the argument of this name. One that the command hasn't counts as one that isn't given.

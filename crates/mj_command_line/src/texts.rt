@@ -16,7 +16,6 @@ Examples:
   mj debug --start ^R R.m
   mj check R.m _TOOL.m
   mj replay --trace TRACE R.m
-  mj explain TRACE R.m
 
 Exit statuses:
   0  all is done
@@ -74,9 +73,3 @@ Example, which prints `ok 2`, or up to 20 lines of each file that are refused, w
 pub const REPLAY_EXAMPLE: &str = "\
 Example, which prints `same`, or `differs at line 6` where the event in line 6 of the trace isn't made, over the globals that were there at first:
   mj replay --trace TRACE --globals DATA R.m";
-
-/// What stands below the help of `explain`.
-pub const EXPLAIN_EXAMPLE: &str = "\
-Examples, in words, and as a page beside them, over the globals that were there at first:
-  mj explain TRACE R.m
-  mj explain --globals DATA --html PAGE.html TRACE R.m";

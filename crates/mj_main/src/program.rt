@@ -13,7 +13,6 @@ ghost use Rattle.mj_recorded.specs.Traces.{entries_of};
 ghost use Rattle.mj_report.specs.Traced.{IsHead};
 ghost use Rattle.mj_begin.specs.Words.{WereGiven};
 
-use crate::explains::explain;
 use crate::explores::explore;
 use crate::jobs::waits;
 use crate::replays::replayed;
@@ -69,10 +68,6 @@ where
             Err(stop) => refused(rt, &files, true, &stop, err),
         },
         Ok(Order::Replay(order)) => match replay(rt, &order, out) {
-            Ok(status) => status,
-            Err(stop) => stopped(&stop, err),
-        },
-        Ok(Order::Explain(order)) => match explain(rt, &order, out) {
             Ok(status) => status,
             Err(stop) => stopped(&stop, err),
         },

@@ -40,11 +40,8 @@ pub fn replayed<'a, R: Files + AllocGlobal>(
     }
 }
 
-/// Reads the trace in a file.
-pub fn recorded<'a, R: Files + AllocGlobal>(
-    rt: &R,
-    file: &'a str,
-) -> Result<Trace, ProgramError<'a>>
+// Reads the trace in a file.
+fn recorded<'a, R: Files + AllocGlobal>(rt: &R, file: &'a str) -> Result<Trace, ProgramError<'a>>
     ensures { IfOk result IsTrace }
 {
     let bytes = file_bytes(rt, file)?;
@@ -85,12 +82,8 @@ fn replay_verdict<'a>(
     Ok(replay_trace(alloc, image, globals, trace)?)
 }
 
-/// What is printed of a verdict, and the exit status. Lines count from 1: before the events stand the header, and a line for each device and each start.
-pub fn verdict_text(
-    alloc: Global,
-    trace: &Trace,
-    verdict: Verdict,
-) -> Result<(String, u8), AllocError>
+// What is printed of a verdict, and the exit status. Lines count from 1: before the events stand the header, and a line for each device and each start.
+fn verdict_text(alloc: Global, trace: &Trace, verdict: Verdict) -> Result<(String, u8), AllocError>
     ensures text { IfOk result (λ told. string_bytes told.0 ≡ verdict_text trace.now verdict) }
     ensures which { IfOk result (λ told. told.1 ≡ verdict_status verdict) }
     ensures bound { IfOk result (λ told. told.1 ≤ 1) }

@@ -1,7 +1,0 @@
-pub mod Events
-pub mod Landings
-pub mod Clashes
-pub mod Losses
-pub mod Waiting
-pub mod Words
-pub mod Escaped

@@ -1,3 +1,0 @@
-pub mod Retraced
-pub mod Made
-pub mod Noted
