@@ -28,7 +28,7 @@ struct Choice {
     most: Option<u32>,
 }
 
-const COMMANDS: [Row; 7] = [
+const COMMANDS: [Row; 6] = [
     Row {
         name: "run",
         about: "Runs jobs at the same time, by threads, and prints what they write",
