@@ -7,7 +7,7 @@ use Rattle.mj_load.specs.Image.{routines_of}
 use Rattle.mj_sys.specs.Shared.{Shared}
 use Rattle.mj_replica.specs.Replays.{history_of}
 use Rattle.mj_replay.specs.Traces.{opening_in}
-use Rattle.mj_replay.proofs.Opened as opened
+use Rattle.mj_replay.proofs.Beginning as opened
 use Rattle.mj_retrace.specs.Retraced.{IsRetraced}
 use Rattle.mj_retrace.proofs.retracing.retrace.Goals as goal
 
