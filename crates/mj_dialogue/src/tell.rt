@@ -61,7 +61,7 @@ fn put_held(bytes: &mut Vec<u8>, held: &Held) -> Result<(), AllocError>
     }
 }
 
-/// Puts a line of a routine to the end: `R:L`, and a line's end.
+// Puts a line of a routine to the end: `R:L`, and a line's end.
 pub fn put_spot(bytes: &mut Vec<u8>, routine: &Text, line: u32) -> Result<(), AllocError>
     ensures { OnOk result (bytes.new.items ≡ bytes.old.items ++ spot_line routine.now line) }
 {

@@ -55,7 +55,7 @@ fn nothing_is_told_of_others(rt: HostRuntime) -> Result<(), Fail> {
     warns(
         &rt,
         "warnings_none",
-        b"R(X,Y) DO R(1),R(1,2),^R QUIT:X WRITE $$F(1)\n GOTO R:Y\n QUIT\n\n ; the end of it\nF(X) IF X QUIT 1\n QUIT 2\n",
+        b"R(X,Y) DO R(1),R(1,2),^R QUIT:X  WRITE $$F(1)\n GOTO R:Y\n QUIT\n\n ; the end of it\nF(X) IF X QUIT 1\n QUIT 2\n",
         "",
     )
 }

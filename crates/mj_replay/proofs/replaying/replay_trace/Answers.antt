@@ -8,7 +8,7 @@ use Rattle.mj_sys.specs.Shared.{Shared}
 use Rattle.mj_sys.specs.System.{history_limit}
 use Rattle.mj_replica.specs.Replays.{history_of, Says}
 use Rattle.mj_replay.specs.Traces.{opening_in}
-use Rattle.mj_replay.proofs.Opened as opened
+use Rattle.mj_replay.proofs.Beginning as opened
 use Rattle.mj_replay.proofs.replaying.replay_trace.Goals as goal
 
 pub replay_over-requires-clause-some : goal.replay_over-requires-clause-some
