@@ -47,9 +47,9 @@ label_has_none : (l : List ℕ) → is_label l ≡ true → has_none l ≡ true
 label_has_none [] h = absurd cc
 label_has_none (c ∷ cs) h = by (is_word (c ∷ cs)) refl h
   where
-    by : (b : Bool) → is_word (c ∷ cs) ≡ b → (b || (list_all is_ascii_digit (c ∷ cs) && nat_le (length (c ∷ cs)) 32767)) ≡ true → has_none (c ∷ cs) ≡ true
+    by : (b : Bool) → is_word (c ∷ cs) ≡ b → (b || (list_all is_ascii_digit (c ∷ cs) && nat_le (length (c ∷ cs)) 1048576)) ≡ true → has_none (c ∷ cs) ≡ true
     by true e k = word_has_none c cs e
-    by false e k = none_of is_ascii_digit (c ∷ cs) refl (both_true (list_all is_ascii_digit (c ∷ cs)) (nat_le (length (c ∷ cs)) 32767) k).0
+    by false e k = none_of is_ascii_digit (c ∷ cs) refl (both_true (list_all is_ascii_digit (c ∷ cs)) (nat_le (length (c ∷ cs)) 1048576) k).0
 
 -- ---- the first caret
 

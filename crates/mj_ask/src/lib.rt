@@ -6,15 +6,19 @@
 #![tactic(auto)]
 
 mod ask;
+mod bounds;
 mod clash;
 mod entry;
 mod formed;
 mod late;
 mod names;
+mod noted;
 mod same;
 mod start;
+mod within;
 
 pub use ask::{Ask, DeviceAsk, Kind, Reply, SharedAsk};
+pub use bounds::{Bounds, EVENTS_LIMIT};
 pub use clash::{BoxedClash, Clash, Kept};
 pub use entry::Entry;
 pub use formed::{
@@ -22,5 +26,6 @@ pub use formed::{
 };
 pub use late::is_timed_out;
 pub use names::Names;
+pub use noted::{Noted, Spot};
 pub use same::{is_same_ask, is_same_reply, is_same_start};
 pub use start::Start;

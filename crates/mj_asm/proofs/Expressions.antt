@@ -8,7 +8,7 @@ use Rattle.mj_text.specs.declared.fault.Fault.TheVariants.{Select as NoTrue}
 use Rattle.mj_ast.specs.Syntax.{Expr, Chain, Tails, Done, Then, Operand, Literal, Value, Intrinsic, Unary, Group, Call, Select, Variable, Var, Exprs, No, More, Choices, Last, Before, About, Extrinsic, Target, Actuals, NoActual, Given, Omitted}
 use Rattle.mj_semantics.specs.Functions.{call_value, optional}
 use Rattle.mj_semantics.specs.State.{special_value, popped}
-use Rattle.mj_semantics.specs.Outcome.{Timed, turn, change, given, fault}
+use Rattle.mj_semantics.specs.Outcome.{Timed, turn, change, given, composed, fault}
 use Rattle.mj_semantics.specs.Lines.{Here, entry_in, entry_of}
 use Rattle.mj_semantics.specs.Points.{Points, Called}
 use Rattle.mj_semantics.specs.Evaluation.{ev, ev_tails, ev_operand, ev_choices, ev_name, ev_all, name_of, read, when, ev_named, ev_local, ev_actuals, plain_values, named_for, about}
@@ -24,7 +24,7 @@ use Rattle.mj_pcode.specs.Machine as machine
 use Rattle.mj_pcode.specs.Machine.{Stack, act, act_in, exec, operands, spread, given_count}
 use Rattle.mj_asm.specs.Code.{count, reference, expr_code, tails_code, operand_code, choices_code, subscripts_code, exprs_code, code_if, actuals_code, shape_of, plain_shape, kept_target, timeout_code}
 use Rattle.mj_asm.specs.Correct.{Agree}
-use Rattle.mj_pcode.proofs.Agree.{if_at, look_at, given_at, read_at, about_at}
+use Rattle.mj_pcode.proofs.Agree.{if_at, look_at, given_at, composed_at, read_at, about_at}
 use Rattle.mj_asm.proofs.Lies.{onto, rest_below, operands_are, both_below, LiesWait}
 use Rattle.mj_asm.proofs.Actuals.{plain_spread, plain_count}
 
@@ -110,7 +110,7 @@ module _ (units : List unit.Unit) (u : unit.Unit) (ctx : Context) (there : slice
             let len : pc + length cx + 1 + length ct ≡ pc + length (cx ++ i ∷ ct) = omega (arith, length-append cx (i ∷ ct)) in
             operand_follows x pc (v ∷ stack) _ (has_front code pc cx _ has) (λ w.
             one (pc + length cx) (w ∷ v ∷ stack) i _ back.0 (λ n lt.
-            given_at n (binary_value op v w) _ _ (λ r e.
+            composed_at n (λ limit. binary_value limit op v w) _ _ (λ r.
             (tails_follow ts (pc + length cx + 1) r stack rest back.1 (λ q. moved _ _ (q ∷ stack) (rest q) len (k q))).by n (omega arith))))
 
         operand_follows : (x : Operand) (pc : ℕ) (stack : Stack) (rest : List ℕ → Timed) → HasAt code pc (operand_code pc x)
@@ -140,9 +140,9 @@ module _ (units : List unit.Unit) (u : unit.Unit) (ctx : Context) (there : slice
             let i = instr.CallFunction f (count es) in
             all_follow es pc stack _ (has_front code pc ce _ has) (λ vs many.
             one (pc + length ce) (onto vs stack) i _ (has_back code pc ce _ has).0 (λ n lt.
-            ap (λ l. given (call_value f l) (λ w. exec units n ctx (pc + length ce + 1) (w ∷ drop (count es) (onto vs stack))) n) (operands_are vs stack _ many)
-            ∙ ap (λ st. given (call_value f vs) (λ w. exec units n ctx (pc + length ce + 1) (w ∷ st)) n) (rest_below vs stack _ many)
-            ∙ given_at n (call_value f vs) _ _ (λ r e. (moved _ _ (r ∷ stack) (rest r) (end_of pc ce i) (k r)).by n (omega arith))))
+            ap (λ l. composed (λ limit. call_value limit f l) (λ w. exec units n ctx (pc + length ce + 1) (w ∷ drop (count es) (onto vs stack))) n) (operands_are vs stack _ many)
+            ∙ ap (λ st. composed (λ limit. call_value limit f vs) (λ w. exec units n ctx (pc + length ce + 1) (w ∷ st)) n) (rest_below vs stack _ many)
+            ∙ composed_at n (λ limit. call_value limit f vs) _ _ (λ r. (moved _ _ (r ∷ stack) (rest r) (end_of pc ce i) (k r)).by n (omega arith))))
         operand_follows (About f v es) pc stack rest has k =
             let r = reference v in
             let total = r.count + count es in

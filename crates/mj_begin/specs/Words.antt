@@ -15,8 +15,9 @@ use Rattle.mj_ast.specs.Routines.{IsName}
 use Rattle.mj_ast.specs.Trees.{routine_of}
 use Rattle.mj_rou.specs.Read.{IsRoutineRead}
 use Rattle.mj_store.specs.Questions.{Content}
-use Rattle.mj_gfile.specs.Spelling.{listing_of}
-use Rattle.mj_gfile.specs.Listing.{AreGlobals}
+use Rattle.mj_text.specs.declared.limit.Limit.{Limit}
+use Rattle.mj_text.specs.declared.limit.Limit.TheVariants.{V2}
+use Rattle.mj_gfile.specs.Listing.{IsListed}
 use Rattle.mj_steps.specs.Steps.{AreSpelled}
 use Rattle.mj_steps.specs.declared.step.Step.{Step}
 use Rattle.mj_command_line.specs.declared.order.Run.{Run}
@@ -62,10 +63,10 @@ AreDevices words devices = AllZip IsNamedBy words devices
 abbrev pub IsPoolOf : List (Bor (List ℕ)) → List Shelf → Type 0
 IsPoolOf words pool = (devices : List Named) × AreDevices words devices × (pool ≡ with_devices (names_of devices) (with_principals rows_limit))
 
--- the globals are those that the file lists, where one is named; else there are none
-abbrev pub WereListed : Option (Bor (List ℕ)) → Content → Type 0
-WereListed None globals = globals ≡ []
-WereListed (Some file) globals = (bytes : List ℕ) × (bytes ≡ listing_of globals) × AreGlobals globals
+-- the globals are those that the file lists, where one is named and texts have this limit; else there are none
+abbrev pub WereListed : Limit → Option (Bor (List ℕ)) → Content → Type 0
+WereListed limit None globals = globals ≡ []
+WereListed limit (Some file) globals = (bytes : List ℕ) × IsListed limit bytes globals
 
 -- the steps are those of the file, where one is named; else there are none to make
 abbrev pub AreOrdered : Option (Bor (List ℕ)) → Option (List Step) → Type 0
@@ -83,5 +84,5 @@ pub record WereGiven (order : Run) (starts : List Started) (pool : List Shelf) (
   pub begun : WereBegun order.starts.items order.files.items starts
   pub devices : IsPoolOf order.devices.items pool
   pub read : WereRead order.files.items routines
-  pub listed : WereListed order.globals globals
+  pub listed : WereListed V2 order.globals globals
   pub ordered : WereSteps order.steps steps

@@ -2,10 +2,13 @@
 
 ghost use Rattle.std.specs.Prelude.{◌≡◌, ◌≤◌, ◌∷◌, [], true, length, map, None, option_map, IfOk, IfSome};
 ghost use Rattle.std.specs.List.{list_all};
+ghost use Rattle.mj_text.specs.declared.limit.Limit.TheVariants.{V2};
 ghost use Rattle.mj_ask.specs.Fitting.{is_content};
+ghost use Rattle.mj_ask.specs.declared.bounds.TheConstants.{EVENTS_LIMIT};
 ghost use Rattle.mj_rou.specs.Words.{Each, IsRoutineWorded};
 ghost use Rattle.mj_load.specs.Image.{routines_of};
 ghost use Rattle.mj_dev.specs.Shelves.{AreRising, count_of, principal, left_of};
+ghost use Rattle.mj_trace.specs.declared.form.Form.TheVariants.{Second};
 ghost use Rattle.mj_trace.specs.Trace.{opening_text};
 ghost use Rattle.mj_trace.specs.Sized.{device_count_fits};
 ghost use Rattle.mj_recorded.specs.Traces.{entries_of};
@@ -33,12 +36,12 @@ use mj_jobs::ROWS_LIMIT;
 use mj_load::Image;
 use mj_report::{Trace, trace_of};
 use mj_steps::{Step, StepsError};
-use mj_text::Text;
+use mj_text::{Limit, Text};
 use std::alloc::Global;
 use std::io::Read;
 use std::rt::Files;
 
-/// What a run begins with.
+/// What a run begins with. Its texts have the greater limit, and it has 1,000,000 events at most.
 #[derive(Drop)]
 pub struct Beginning<D: Device> {
     pub steps: Option<Vec<Step>>,
@@ -46,6 +49,8 @@ pub struct Beginning<D: Device> {
     pub globals: Globals,
     pub pool: Pool<D>,
     pub starts: Vec<Start>,
+    ghost long: { image.bounds.limit ≡ V2 },
+    ghost events: { image.bounds.events ≡ EVENTS_LIMIT },
     ghost global: { are_global globals.content ≡ true },
     ghost content: { is_content globals.content ≡ true },
     ghost bare: { are_bare starts.items ≡ true },
@@ -77,7 +82,7 @@ where
     ensures given { IfOk result (λ b. WereGiven order.now b.0.starts.items b.0.pool b.0.image.routines b.0.globals.content b.0.steps) }
     ensures worded { IfOk result (λ b. Each IsRoutineWorded (routines_of b.0.image)) }
     ensures whole { IfOk result (λ b. AreWhole b.0.pool) }
-    ensures text { IfOk result (λ b. IfSome b.1.trace (λ t. t.opening.items ≡ opening_text (map count_of b.0.pool) (entries_of b.0.starts.items))) }
+    ensures text { IfOk result (λ b. IfSome b.1.trace (λ t. t.opening.items ≡ opening_text (Second V2) (map count_of b.0.pool) (entries_of b.0.starts.items))) }
     ensures sized { IfOk result (λ b. IfSome b.1.trace (λ t. list_all device_count_fits (map count_of b.0.pool) ≡ true)) }
     ensures rising { IfOk result (λ b. IfSome b.1.trace (λ t. AreRising b.0.pool)) }
     ensures traced { IfOk result (λ b. option_map (λ t. t.file.now) b.1.trace ≡ option_map (λ word. word.now) order.now.trace) }
@@ -110,7 +115,9 @@ fn begun<'a, R: Files + AllocGlobal + Copy + Drop>(
     requires few { length starts.items ≤ rows_limit }
     requires routines { WereRead order.now.files.items rest.1.0.routines }
     requires worded { Each IsRoutineWorded (routines_of rest.1.0) }
-    requires listed { WereListed order.now.globals rest.1.1.content }
+    requires long { rest.1.0.bounds.limit ≡ V2 }
+    requires events { rest.1.0.bounds.events ≡ EVENTS_LIMIT }
+    requires listed { WereListed V2 order.now.globals rest.1.1.content }
     requires global { are_global rest.1.1.content ≡ true }
     requires content { is_content rest.1.1.content ≡ true }
     requires steps { WereSteps order.now.steps rest.0 }
@@ -119,7 +126,7 @@ fn begun<'a, R: Files + AllocGlobal + Copy + Drop>(
     ensures given { IfOk result (λ b. WereGiven order.now b.0.starts.items b.0.pool b.0.image.routines b.0.globals.content b.0.steps) }
     ensures worded { IfOk result (λ b. Each IsRoutineWorded (routines_of b.0.image)) }
     ensures whole { IfOk result (λ b. AreWhole b.0.pool) }
-    ensures text { IfOk result (λ b. IfSome b.1.trace (λ t. t.opening.items ≡ opening_text (map count_of b.0.pool) (entries_of b.0.starts.items))) }
+    ensures text { IfOk result (λ b. IfSome b.1.trace (λ t. t.opening.items ≡ opening_text (Second V2) (map count_of b.0.pool) (entries_of b.0.starts.items))) }
     ensures sized { IfOk result (λ b. IfSome b.1.trace (λ t. list_all device_count_fits (map count_of b.0.pool) ≡ true)) }
     ensures rising { IfOk result (λ b. IfSome b.1.trace (λ t. AreRising b.0.pool)) }
     ensures traced { IfOk result (λ b. option_map (λ t. t.file.now) b.1.trace ≡ option_map (λ word. word.now) order.now.trace) }
@@ -157,7 +164,9 @@ where
     R::File: Lockable,
     ensures routines { IfOk result (λ x. WereRead order.now.files.items x.1.0.routines) }
     ensures worded { IfOk result (λ x. Each IsRoutineWorded (routines_of x.1.0)) }
-    ensures globals { IfOk result (λ x. WereListed order.now.globals x.1.1.content) }
+    ensures long { IfOk result (λ x. x.1.0.bounds.limit ≡ V2) }
+    ensures events { IfOk result (λ x. x.1.0.bounds.events ≡ EVENTS_LIMIT) }
+    ensures globals { IfOk result (λ x. WereListed V2 order.now.globals x.1.1.content) }
     ensures global { IfOk result (λ x. are_global x.1.1.content ≡ true) }
     ensures content { IfOk result (λ x. is_content x.1.1.content ≡ true) }
     ensures steps { IfOk result (λ x. WereSteps order.now.steps x.0) }
@@ -195,13 +204,15 @@ where
     R::File: Lockable,
     ensures routines { IfOk result (λ x. WereRead order.now.files.items x.0.routines) }
     ensures worded { IfOk result (λ x. Each IsRoutineWorded (routines_of x.0)) }
-    ensures globals { IfOk result (λ x. WereListed order.now.globals x.1.content) }
+    ensures long { IfOk result (λ x. x.0.bounds.limit ≡ V2) }
+    ensures events { IfOk result (λ x. x.0.bounds.events ≡ EVENTS_LIMIT) }
+    ensures globals { IfOk result (λ x. WereListed V2 order.now.globals x.1.content) }
     ensures global { IfOk result (λ x. are_global x.1.content ≡ true) }
     ensures content { IfOk result (λ x. is_content x.1.content ≡ true) }
     ensures pool { IfOk result (λ x. x.2 ≡ with_devices (names_of devices.now) (with_principals rows_limit)) }
     ensures whole { IfOk result (λ x. AreWhole x.2) }
 {
-    let image = loaded(&rt, &order.files)?;
+    let image = loaded(&rt, &order.files, Limit::V2)?;
     let (lock, globals) = match kept(&rt, order) {
         Ok(kept) => kept,
         Err(stop) => {
@@ -227,7 +238,7 @@ fn kept<'a, R: Files + AllocGlobal>(
 ) -> Result<(Option<LockedFile<R::File>>, Globals), ProgramError<'a>>
 where
     R::File: Lockable,
-    ensures globals { IfOk result (λ x. WereListed order.now.globals x.1.content) }
+    ensures globals { IfOk result (λ x. WereListed V2 order.now.globals x.1.content) }
     ensures global { IfOk result (λ x. are_global x.1.content ≡ true) }
     ensures content { IfOk result (λ x. is_content x.1.content ≡ true) }
 {
@@ -235,7 +246,7 @@ where
         None => None,
         Some(file) => locked(rt, file)?,
     };
-    match listed(rt, order.globals) {
+    match listed(rt, order.globals, Limit::V2) {
         Ok(globals) => Ok((lock, globals)),
         Err(stop) => {
             drop(lock);

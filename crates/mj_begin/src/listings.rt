@@ -3,6 +3,7 @@
 ghost use Rattle.std.specs.Prelude.{◌≡◌, true, IfOk};
 ghost use Rattle.std.specs.Io.KnownBytes.{Appends};
 ghost use Rattle.mj_ask.specs.Fitting.{is_content};
+ghost use Rattle.mj_text.specs.declared.limit.Limit.TheVariants.{V2};
 ghost use Rattle.mj_gfile.specs.Spelling.{listing_of};
 ghost use Rattle.mj_sys.specs.Shared.{are_global};
 ghost use Rattle.mj_begin.specs.Words.{WereListed};
@@ -11,17 +12,19 @@ use crate::files::file_bytes;
 use mj_drafts::{Lockable, LockedFile, ProgramError, drafted, given_up, locked, path_or, placed};
 use mj_gfile::ReadError;
 use mj_globs::Globals;
+use mj_text::Limit;
 use std::alloc::Global;
 use std::io::Write;
 use std::rt::Files;
 
-/// Reads the globals that a file lists: none where no file is named.
+/// Reads the globals that a file lists, where texts have this limit: none where no file is named.
 #[tactic(auto, using(crate::proofs::Content::can_be_written))]
 pub fn listed<'a, R: Files + AllocGlobal>(
     rt: &R,
     file: Option<&'a str>,
+    limit: Limit,
 ) -> Result<Globals, ProgramError<'a>>
-    ensures listed { IfOk result (λ globals. WereListed file.entry globals.content) }
+    ensures listed { IfOk result (λ globals. WereListed limit file.entry globals.content) }
     ensures global { IfOk result (λ globals. are_global globals.content ≡ true) }
     ensures content { IfOk result (λ globals. is_content globals.content ≡ true) }
 {
@@ -29,7 +32,7 @@ pub fn listed<'a, R: Files + AllocGlobal>(
         return Ok(Globals::new(rt.alloc()));
     };
     let bytes = file_bytes(rt, file)?;
-    match mj_gfile::read(rt.alloc(), &bytes) {
+    match mj_gfile::read(rt.alloc(), &bytes, limit) {
         Ok(globals) => Ok(globals),
         Err(ReadError::Memory) => Err(ProgramError::Memory),
         Err(refusal) => Err(ProgramError::Listing(refusal)),
@@ -83,7 +86,7 @@ fn put_listing<'a, W: Write + Drop>(
     out: W,
     name: &'a str,
 ) -> Result<W, ProgramError<'a>>
-    ensures { IfOk result (λ given. Appends (W.contents out) (W.contents given) (listing_of globals.now.content)) }
+    ensures { IfOk result (λ given. Appends (W.contents out) (W.contents given) (listing_of V2 globals.now.content)) }
 {
     match mj_gfile::write_to(alloc, globals, out) {
         Ok(given) => Ok(given),

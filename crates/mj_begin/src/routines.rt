@@ -1,6 +1,7 @@
 // The routines of the command line.
 
 ghost use Rattle.std.specs.Prelude.{◌≡◌, IfOk};
+ghost use Rattle.mj_ask.specs.declared.bounds.TheConstants.{EVENTS_LIMIT};
 ghost use Rattle.mj_rou.specs.Words.{Each, IsRoutineWorded};
 ghost use Rattle.mj_load.specs.Image.{IsWithinLimits, routines_of};
 ghost use Rattle.mj_begin.specs.Names.{name_at};
@@ -11,15 +12,19 @@ use mj_ast::Routine;
 use mj_drafts::{ProgramError, Word};
 use mj_load::{Image, load};
 use mj_rou::has_words;
+use mj_text::Limit;
 use std::rt::Files;
 
-/// Reads the routines of these files in order, and loads them. The first that is refused ends it.
+/// Reads the routines of these files in order, and loads them, where texts have this limit, and runs 1,000,000 events. The first that is refused ends it.
 pub fn loaded<'a, R: Files + AllocGlobal>(
     rt: &R,
     files: &[&'a str],
+    limit: Limit,
 ) -> Result<Image, ProgramError<'a>>
     ensures read { IfOk result (λ image. WereRead files.now image.routines) }
     ensures worded { IfOk result (λ image. Each IsRoutineWorded (routines_of image)) }
+    ensures limit { IfOk result (λ image. image.bounds.limit ≡ limit) }
+    ensures events { IfOk result (λ image. image.bounds.events ≡ EVENTS_LIMIT) }
 {
     has_words();
     let mut routines = Vec::new(rt.alloc());
@@ -29,7 +34,7 @@ pub fn loaded<'a, R: Files + AllocGlobal>(
             return Err(ProgramError::Memory);
         }
     }
-    match load(rt.alloc(), routines) {
+    match load(rt.alloc(), routines, limit) {
         Ok(image) => Ok(image),
         Err(mj_load::LoadError::Memory { .. }) => Err(ProgramError::Memory),
         Err(mj_load::LoadError::Twice { name }) => Err(ProgramError::Twice(Word { name })),

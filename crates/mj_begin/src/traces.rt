@@ -1,7 +1,7 @@
 // Traces that are written to files.
 
 ghost use Rattle.std.specs.Prelude.{IfSome};
-ghost use Rattle.mj_load.specs.Image.{routines_of};
+ghost use Rattle.mj_load.specs.Image.{program_of};
 ghost use Rattle.mj_core.specs.Runs.{IsRun};
 ghost use Rattle.mj_report.specs.Traced.{IsHead};
 
@@ -11,7 +11,7 @@ use mj_report::{Events, Trace};
 use mj_sys::Opening;
 use std::rt::Files;
 
-/// Writes the trace of a run of these routines, if there is to be one.
+/// Writes the trace of a run of this image, if there is to be one.
 pub fn write_trace<'a, R: Files + AllocGlobal, O: Opening, H: Events>(
     rt: &R,
     trace: &Option<Trace<'a>>,
@@ -21,7 +21,7 @@ pub fn write_trace<'a, R: Files + AllocGlobal, O: Opening, H: Events>(
 where
     R::File: Lockable,
     requires head { IfSome trace.now (λ t. IsHead image.now O.opening t.opening.items) }
-    requires run { IsRun (routines_of image.now) O.opening (H.history told.now) }
+    requires run { IsRun (program_of image.now) O.opening (H.history told.now) }
 {
     let Some(trace) = trace else {
         return Ok(());

@@ -1,5 +1,5 @@
-// What parts of the program cost by themselves. The word `text` measures the string functions, `trees` the trees of globals, `locks`
-// tries of names; with none of them it says so.
+// What parts of the program cost by themselves. The word `text` measures the string functions, `trees` the trees of globals, and `locks` tries of names;
+// with none of them it says so.
 #![tactic(auto)]
 
 mod locks;

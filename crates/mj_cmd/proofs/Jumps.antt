@@ -61,8 +61,8 @@ prompt_apart v mode first false = refl
 pub entry_untaken : (mode : Mode) (first : Bool) (ks : List Token) → HasNoLabel ks → HasNoCaret ks → Untaken (EntryWanted mode first) ks
 entry_untaken mode first [] h i = tt
 entry_untaken mode first (Word w ∷ ks) h i = label_long w 31 (EntryWanted mode first) (nat_le (length w) 31) refl h
-entry_untaken mode first (Digits d ∷ ks) h i = label_long d 32767 (EntryWanted mode first) (nat_le (length d) 32767) refl h
-entry_untaken mode first (Quoted v ∷ ks) h i = prompt_apart v mode first (nat_le (length v) 32767)
+entry_untaken mode first (Digits d ∷ ks) h i = label_long d 1048576 (EntryWanted mode first) (nat_le (length d) 1048576) refl h
+entry_untaken mode first (Quoted v ∷ ks) h i = prompt_apart v mode first (nat_le (length v) 1048576)
 entry_untaken mode first (Called w ∷ ks) h i = called_apart (EntryWanted mode first) (callee_of w) (nat_le (length w) 31) refl
 entry_untaken mode first (Signed Caret ∷ ks) h i = absurd i
 entry_untaken mode first (Signed s ∷ ks) h i = refl
@@ -80,7 +80,7 @@ went_label_at limited m mode first ls rest (Word x ∷ ks) w t o condition k don
 went_label_at limited m mode first ls rest (Digits x ∷ ks) w t o condition k done l h e =
     went_as limited (Label x ∷ []) (Label t ∷ []) m ls (EntryWanted mode first) rest (LabelEnd mode) o condition k done (ap (λ (z : List ℕ). Label z ∷ []) (sym (e ∙ h.0)))
     (went_token limited (Digits x) (Label x) m ls (EntryWanted mode first) rest (LabelEnd mode) o condition k done (l ∙
-    ap (λ (zs : List Token). Digits x ∷ zs) h.1) (ap (λ (b : Bool). cond b (Some (Label x)) None) (let i = h.2 in let z : nat_le (length x) 32767 ≡ true =
+    ap (λ (zs : List Token). Digits x ∷ zs) h.1) (ap (λ (b : Bool). cond b (Some (Label x)) None) (let i = h.2 in let z : nat_le (length x) 1048576 ≡ true =
     grind (arith, nat_tests) in z)) refl)
 went_label_at limited m mode first ls rest ks w t o condition k done l h e = absurd h
 

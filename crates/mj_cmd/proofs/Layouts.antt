@@ -153,15 +153,15 @@ label_apart : (w : List ℕ) (b : Bool) → part_taken (OutputWanted Reads) (con
 label_apart w true = refl
 label_apart w false = refl
 
-prompt_long : (v : List ℕ) (b : Bool) → nat_le (length v) 32767 ≡ b → (length v ≤ 32767 → ⊥) → part_taken (OutputWanted Reads) (cond b (Some (Prompt v)) None) ≡ None
+prompt_long : (v : List ℕ) (b : Bool) → nat_le (length v) 1048576 ≡ b → (length v ≤ 1048576 → ⊥) → part_taken (OutputWanted Reads) (cond b (Some (Prompt v)) None) ≡ None
 prompt_long v true e h = absurd (h (grind (arith, nat_tests)))
 prompt_long v false e h = refl
 
 read_untaken : (ks : List Token) → HasNoMark ks → HasNoQuestion ks → HasNoStar ks → HasNoQuoted ks → Untaken (OutputWanted Reads) ks
 read_untaken [] h i j l = tt
 read_untaken (Word w ∷ ks) h i j l = label_apart w (nat_le (length w) 31)
-read_untaken (Digits d ∷ ks) h i j l = label_apart d (nat_le (length d) 32767)
-read_untaken (Quoted v ∷ ks) h i j l = prompt_long v (nat_le (length v) 32767) refl l
+read_untaken (Digits d ∷ ks) h i j l = label_apart d (nat_le (length d) 1048576)
+read_untaken (Quoted v ∷ ks) h i j l = prompt_long v (nat_le (length v) 1048576) refl l
 read_untaken (Called w ∷ ks) h i j l = called_apart (OutputWanted Reads) (callee_of w) (nat_le (length w) 31) refl
 read_untaken (Signed Exclamation ∷ ks) h i j l = absurd h
 read_untaken (Signed Hash ∷ ks) h i j l = absurd h
@@ -199,11 +199,11 @@ went_into limited m ls rest Byte o condition k done e = went_token limited (Sign
 
 -- a text in quotes
 pub went_prompt : (limited : Bool) (m : Limits) (ls rest : List Lexeme) (v : List ℕ) (o : Sentence) (condition : Option Expr) (k : Verb) (done : List Part) →
-    tokens_seen ls ≡ Quoted v ∷ tokens_seen rest → length v ≤ 32767 →
+    tokens_seen ls ≡ Quoted v ∷ tokens_seen rest → length v ≤ 1048576 →
     Went limited (Prompt v ∷ []) m ls (OutputWanted Reads) rest (OutputEnd Reads) o condition k done
 went_prompt limited m ls rest v o condition k done e h =
     went_token limited (Quoted v) (Prompt v) m ls (OutputWanted Reads) rest (OutputEnd Reads) o condition k done e
-    (ap (λ (b : Bool). cond b (Some (Prompt v)) None) (let z : nat_le (length v) 32767 ≡ true = grind (arith, nat_tests) in z)) refl
+    (ap (λ (b : Bool). cond b (Some (Prompt v)) None) (let z : nat_le (length v) 1048576 ≡ true = grind (arith, nat_tests) in z)) refl
 
 pub into_timed_untaken : (ks : List Token) → Untaken IntoTimed ks
 into_timed_untaken ks = untaken_by IntoTimed ks refl (λ w. refl) refl (no_sign IntoTimed ks (λ s. refl))

@@ -48,9 +48,9 @@ local_may next (Word w) ks h = short_may next (nat_le (length w) 31) (Name w) re
 local_may next (Called w) ks h = short_may next (nat_le (length w) 31) (function_symbol (callee_of w)) (function_may next (callee_of w))
 local_may next (Special w) ks h = short_may next (nat_le (length w) 31) (special_symbol (special_of w)) (special_may next (special_of w))
 local_may next (Invoked w) ks h = short_may next (nat_le (length w) 31) (Entry (Some w)) refl
-local_may next (Numbered d) ks h = entry_may next (nat_le (length d) 32767) d
+local_may next (Numbered d) ks h = entry_may next (nat_le (length d) 1048576) d
 local_may next (Digits d) ks h = number_may next (reading d)
-local_may next (Quoted q) ks h = quoted_may next (nat_le (length q) 32767) q
+local_may next (Quoted q) ks h = quoted_may next (nat_le (length q) 1048576) q
 local_may next t ks h = refl
 
 pub may_enter : (x : Want) (t : Token) (ks : List Token) → MayEnter x (t ∷ ks) → may_want x (symbol t) ≡ true

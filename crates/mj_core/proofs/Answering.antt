@@ -5,13 +5,14 @@ use Rattle.std.proofs.Common.{◌≡◌, ℕ, suc, ◌<◌, ◌≤◌, List, len
 use Rattle.std.proofs.lemmas.Option.{slice_get_within}
 use denote.Enum.Bare.{sameb}
 use Rattle.mj_ask.specs.declared.ask.Reply.{Reply}
+use Rattle.mj_ask.specs.declared.bounds.Bounds.{Bounds}
 use Rattle.mj_load.specs.Image.{Loaded}
 use Rattle.mj_jobs.specs.Rows.{Row, row_at, IsLive, rows_limit}
 use Rattle.mj_jobvm.specs.declared.job.Turn.{Turn}
 use Rattle.mj_jobvm.specs.declared.job.Turn.TheVariants as turns
 use Rattle.mj_sys.specs.Shared.{Shared}
 use Rattle.mj_sys.specs.History.{History, state_of}
-use Rattle.mj_sys.specs.System.{Recorded, Claimed, history_limit}
+use Rattle.mj_sys.specs.System.{Recorded, Claimed}
 use Rattle.mj_core.specs.declared.happened.Happened.{Happened}
 use Rattle.mj_core.specs.Woven.{woven}
 use Rattle.mj_core.specs.declared.seen.Seen.{Seen}
@@ -66,10 +67,10 @@ module _ (means : Means) (given : Option Reply) (opening : Shared) (old : Shown)
     was_seen over = inr (there.0, there.1, inl (ap (was_over old.over) is ∙ over, refl, refl))
 
     module _ (goes : slice_index_or old.over at false ≡ false) where
-      pub is_full : history_limit ≤ length old.history → StepGivesBy means opening old step given (Err refusals.Full) old
+      pub is_full : old.image.bounds.events ≤ length old.history → StepGivesBy means opening old step given (Err refusals.Full) old
       is_full long = inr (there.0, there.1, inr (inl (ap (was_over old.over) is ∙ goes, long, refl, refl)))
 
-      module _ (room : length old.history < history_limit) where
+      module _ (room : length old.history < old.image.bounds.events) where
         pub is_made : (answer : Result Seen Refusal) (new : Shown)
             → ((row : Row) → row_at (state_of opening old.history).rows (suc at) ≡ Some row → JobStepGives means opening old (suc at) row (is_late step.way) given answer new)
             → StepGivesBy means opening old step given answer new
@@ -147,11 +148,14 @@ module _ {A : Type 0} (ans : Answering A) (image : Loaded) (opening : Shared) (s
   many : length self.history ≡ length order
   many = ap (λ (s : Shown). length s.history) (sym view) ∙ as_many (logs_of slots) order kept.there
 
-  pub room_as : length order < history_limit → length self.history < history_limit
-  room_as room = let e = many in omega (arith, e, room)
+  bounds_as : image.bounds ≡ self.image.bounds
+  bounds_as = ap (λ (s : Shown). s.image.bounds) view
 
-  pub full_as : history_limit ≤ length order → history_limit ≤ length self.history
-  full_as full = let e = many in omega (arith, e, full)
+  pub room_as : length order < image.bounds.events → length self.history < self.image.bounds.events
+  room_as room = subst (λ (b : Bounds). length self.history < b.events) bounds_as (let e = many in let less : length self.history < image.bounds.events = omega (arith, e, room) in less)
+
+  pub full_as : image.bounds.events ≤ length order → self.image.bounds.events ≤ length self.history
+  full_as full = subst (λ (b : Bounds). b.events ≤ length self.history) bounds_as (let e = many in let more : image.bounds.events ≤ length self.history = omega (arith, e, full) in more)
 
   pub done_as : (job : ℕ) → (IsLive (state_of opening system.history).rows job → ⊥) → IsLive (state_of opening self.history).rows job → ⊥
   done_as job done live = done (subst (λ (s : Shared). IsLive s.rows job) (sym same_shared) live)

@@ -197,6 +197,6 @@ not_live rows job over live =
     false≢true (sym live.2 ∙ ap (λ (r : Row). r.ended) one ∙ over.2)
 
 pub has_halted : HasHalted
-has_halted image opening history run job row there over =
-    let last = halt_last image (start_in job row.start) (log_of job history) (run.traces job row there) over in
+has_halted program opening history run job row there over =
+    let last = halt_last program (start_in job row.start) (log_of job history) (run.traces job row there) over in
     (last, not_live (state_of opening history).rows job (over_behind opening job history run.happen last.0 last.1 last.2 last.3))

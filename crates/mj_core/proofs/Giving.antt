@@ -3,7 +3,7 @@ use Rattle.std.specs.Prelude.{min, slice_get, slice_set, Result}
 use Rattle.std.specs.List.{slice_index_or}
 use Rattle.std.proofs.Common.{◌≡◌, ℕ, zero, suc, ◌+◌, ◌<◌, List, [], ◌∷◌, ◌++◌, length, Bool, Option, Some, None, refl, sym, ap, ◌∙◌, subst, arith}
 use Rattle.mj_ask.specs.declared.ask.Reply.{Reply}
-use Rattle.mj_load.specs.Image.{Loaded, routines_of}
+use Rattle.mj_load.specs.Image.{Loaded, program_of}
 use Rattle.mj_jobs.specs.Rows.{Row, row_at}
 use Rattle.mj_semantics.specs.Job.{Start}
 use Rattle.mj_jobvm.specs.Run.{Log, GoesOn, HasEnded}
@@ -152,26 +152,26 @@ module _ {A : Type 0} (ans : Answering A) (image : Loaded) (opening : Shared) (s
     is_at : (to : AtAsk) → stand_of slot' ≡ Some to → still ≡ stands_so old (suc k) (Some to)
     is_at to shows = shown_still log stays placed standing spent ∙ ap (λ d. stands_so old (suc k) d) shows
 
-    pub gives_busy : (holder : ℕ) (held : Held) → Steps ans (routines_of image) opening late given system slot (made.Busy holder held) system' slot'
-        → LiveStepGives ans.means (routines_of image) opening (suc k) start late given old (seen.Busy holder held) still
+    pub gives_busy : (holder : ℕ) (held : Held) → Steps ans (program_of image) opening late given system slot (made.Busy holder held) system' slot'
+        → LiveStepGives ans.means (program_of image) opening (suc k) start late given old (seen.Busy holder held) still
     gives_busy holder held t =
         let F : ℕ → Start → Log → Shared → Type 0 = λ j st l s.
-        Waits (routines_of image) st l t.0 × (served s j t.0.ask late ≡ None) × KeepsBusy s j t.0.ask holder held in
+        Waits (program_of image) st l t.0 × (served s j t.0.ask late ≡ None) × KeepsBusy s j t.0.ask holder held in
         let there = move F (t.1, t.3, t.4) in
         (t.0, there.0, t.2, there.1, there.2, is_at t.0 t.7)
 
-    pub gives_not_yet : Steps ans (routines_of image) opening late given system slot made.NotYet system' slot'
-        → LiveStepGives ans.means (routines_of image) opening (suc k) start late given old seen.NotYet still
+    pub gives_not_yet : Steps ans (program_of image) opening late given system slot made.NotYet system' slot'
+        → LiveStepGives ans.means (program_of image) opening (suc k) start late given old seen.NotYet still
     gives_not_yet t =
-        let F : ℕ → Start → Log → Shared → Type 0 = λ j st l s. Waits (routines_of image) st l t.0 × ans.means.NotYet l t.0.ask late (Unit {0}) in
+        let F : ℕ → Start → Log → Shared → Type 0 = λ j st l s. Waits (program_of image) st l t.0 × ans.means.NotYet l t.0.ask late (Unit {0}) in
         let there = move F (t.1, t.3) in
         (t.0, there.0, t.2, ans.means.with_not_yet (log_of (suc k) old.history) t.0.ask late (still ≡ stands_so old (suc k) (Some t.0)) there.1 (is_at t.0 t.6))
 
-    pub gives_unfit : Steps ans (routines_of image) opening late given system slot made.Unfit system' slot'
-        → LiveStepGives ans.means (routines_of image) opening (suc k) start late given old seen.Unfit still
+    pub gives_unfit : Steps ans (program_of image) opening late given system slot made.Unfit system' slot'
+        → LiveStepGives ans.means (program_of image) opening (suc k) start late given old seen.Unfit still
     gives_unfit t =
         let has : List ℕ → Bool = λ name. has_session opening (suc k) name old.history in
-        let F : ℕ → Start → Log → Shared → Type 0 = λ j st l s. Waits (routines_of image) st l t.0 × ans.means.Unfit s l has t.0.ask late given (Unit {0}) in
+        let F : ℕ → Start → Log → Shared → Type 0 = λ j st l s. Waits (program_of image) st l t.0 × ans.means.Unfit s l has t.0.ask late given (Unit {0}) in
         let there = move F (t.1, t.3 has at.held) in (
           t.0,
           there.0,
@@ -181,19 +181,19 @@ module _ {A : Type 0} (ans : Answering A) (image : Loaded) (opening : Shared) (s
         )
 
   -- its run is over with its events
-  pub gives_ended : (system' : Recorded) → Steps ans (routines_of image) opening late given system slot made.Ended system' slot'
-      → HasEnded (routines_of image) start (log_of (suc k) old.history)
+  pub gives_ended : (system' : Recorded) → Steps ans (program_of image) opening late given system slot made.Ended system' slot'
+      → HasEnded (program_of image) start (log_of (suc k) old.history)
   gives_ended system' t =
-      let F : ℕ → Start → Log → Shared → Type 0 = λ j st l s. HasEnded (routines_of image) st l in
+      let F : ℕ → Start → Log → Shared → Type 0 = λ j st l s. HasEnded (program_of image) st l in
       move F t.0
 
   -- it goes on for all turns
   pub gives_ran : (log : slot'.job.run.log ≡ slot.job.run.log) (stays : HasStill ans slot.answerer slot'.answerer) → IsPlaced ans image opening system slot' → IsStanding image slot'
-      → slot'.job.run.spent ≡ min (slot.job.run.spent + fuel) spent_limit → GoesOn (routines_of image) (start_of slot) slot.job.run.log slot'.job.run.spent
+      → slot'.job.run.spent ≡ min (slot.job.run.spent + fuel) spent_limit → GoesOn (program_of image) (start_of slot) slot.job.run.log slot'.job.run.spent
       → stand_of slot' ≡ None → MayGoOn (stand_of slot)
-      → LiveStepGives ans.means (routines_of image) opening (suc k) start late given old seen.Ran (shown image slots' order over n)
+      → LiveStepGives ans.means (program_of image) opening (suc k) start late given old seen.Ran (shown image slots' order over n)
   gives_ran log sessions placed standing counts goes none may =
-      let F : ℕ → Start → Log → Shared → Type 0 = λ j st l s. GoesOn (routines_of image) st l slot'.job.run.spent in (
+      let F : ℕ → Start → Log → Shared → Type 0 = λ j st l s. GoesOn (program_of image) st l slot'.job.run.spent in (
         slot'.job.run.spent,
         counts ∙ ap (λ t. min (t + fuel) spent_limit) (sym (each_at 0 (λ (s : Placed A). s.job.run.spent) n k slots slot few here)),
         move F goes,
@@ -214,13 +214,13 @@ module _ {A : Type 0} (ans : Answering A) (image : Loaded) (opening : Shared) (s
     abbrev history' : History
     history' = old.history ++ record { job = suc k; ask = to.ask; reply = reply } ∷ []
 
-    pub gives_event : Waits (routines_of image) (start_of slot) slot.job.run.log to → IsTimely late to.ask
+    pub gives_event : Waits (program_of image) (start_of slot) slot.job.run.log to → IsTimely late to.ask
         → IsReplyTold (state_of opening system.history) slot.claim.job to.ask late reply (state_of opening system'.history)
         → ans.means.Told slot.job.run.log given to.ask late reply (Unit {0}) → stand_of slot' ≡ Some (answered to)
-        → LiveStepGives ans.means (routines_of image) opening (suc k) start late given old (seen.Event (length order)) new
+        → LiveStepGives ans.means (program_of image) opening (suc k) start late given old (seen.Event (length order)) new
     gives_event waits timely told said shows =
         let later : state_of opening new.history ≡ state_of opening system'.history = same_state ans image opening system' slots' waiting order' kept' in
-        let F : ℕ → Start → Log → Shared → Type 0 = λ j st l s. Waits (routines_of image) st l to × IsReplyTold s j to.ask late reply (state_of opening system'.history) in
+        let F : ℕ → Start → Log → Shared → Type 0 = λ j st l s. Waits (program_of image) st l to × IsReplyTold s j to.ask late reply (state_of opening system'.history) in
         let there = move F (waits, told) in
         let T : ℕ → Start → Log → Shared → Type 0 = λ j st l s. ans.means.Told l given to.ask late reply (Unit {0}) in
         let long : length order ≡ length old.history = sym (as_many (logs_of slots) order kept.there) in
@@ -241,11 +241,11 @@ module _ {A : Type 0} (ans : Answering A) (image : Loaded) (opening : Shared) (s
         )
 
   -- it isn't made
-  pub refuses : (why : Refusal) → IsStepRefused (routines_of image) (start_of slot) slot.job.run.log (stand_of slot) late why (stand_of slot')
-      → IsStepRefused (routines_of image) start (log_of (suc k) old.history) (stand_at old.stands (suc k)) late why (stand_of slot')
+  pub refuses : (why : Refusal) → IsStepRefused (program_of image) (start_of slot) slot.job.run.log (stand_of slot) late why (stand_of slot')
+      → IsStepRefused (program_of image) start (log_of (suc k) old.history) (stand_at old.stands (suc k)) late why (stand_of slot')
   refuses why is_refused =
-      let F : ℕ → Start → Log → Shared → Type 0 = λ j st l s. IsStepRefused (routines_of image) st l (stand_of slot) late why (stand_of slot') in
-      let S : Option AtAsk → Type 0 = λ stood. IsStepRefused (routines_of image) start (log_of (suc k) old.history) stood late why (stand_of slot') in
+      let F : ℕ → Start → Log → Shared → Type 0 = λ j st l s. IsStepRefused (program_of image) st l (stand_of slot) late why (stand_of slot') in
+      let S : Option AtAsk → Type 0 = λ stood. IsStepRefused (program_of image) start (log_of (suc k) old.history) stood late why (stand_of slot') in
       subst S (sym (stands_shown n k slots slot few here)) (move F is_refused)
 
 -- ---- lists of steps

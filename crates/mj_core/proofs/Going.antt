@@ -3,7 +3,7 @@ use Rattle.std.specs.Prelude.{slice_get, slice_set, Ok, Err, if◌then◌else◌
 use Rattle.std.proofs.Common.{◌≡◌, ℕ, suc, ◌<◌, ◌≤◌, List, [], ◌∷◌, ◌++◌, length, Bool, true, false, Option, Some, sym, ap, subst, arith, inr}
 use Rattle.mj_ask.specs.declared.ask.Reply.{Reply}
 use Rattle.mj_ask.specs.Fits.{is_shared}
-use Rattle.mj_load.specs.Image.{Loaded, routines_of}
+use Rattle.mj_load.specs.Image.{Loaded, program_of}
 use Rattle.mj_jobs.specs.Rows.{Row, row_at, IsLive}
 use Rattle.mj_jobvm.specs.Run.{Log}
 use Rattle.mj_sys.specs.Shared.{Shared}
@@ -58,17 +58,18 @@ few_shared (e ∷ history) = by (is_shared e.ask) (few_shared history) where
 
 -- where all events have room, those that the shared state serves have it
 pub room_left : {A : Type 0} (ans : Answering A) (image : Loaded) (opening : Shared) (system : Recorded) (slots : List (Placed A)) (waiting : Option Claimed) (order : List Happened)
-    → AreKept ans image opening system slots waiting order → length order < history_limit → length system.history < history_limit
+    → AreKept ans image opening system slots waiting order → length order < image.bounds.events → length system.history < history_limit
 room_left ans image opening system slots waiting order kept room =
     let few = few_shared (woven (logs_of slots) order) in
     let many = as_many (logs_of slots) order kept.there in
     let same = ap length kept.history in
-    omega (arith, few, many, same, room)
+    let most = kept.most in
+    omega (arith, few, many, same, room, most)
 
 module _ {A : Type 0} (ans : Answering A) (image : Loaded) (opening : Shared) (system : Recorded) (slots : List (Placed A)) (waiting : Option Claimed) (order : List Happened)
     (kept : AreKept ans image opening system slots waiting order) (k : ℕ) (slot slot' : Placed A) (here : slice_get slots k ≡ Some slot)
     (numbered : slot'.claim.job ≡ slot.claim.job) (late : Bool) (given : Option Reply) (system' : Recorded) (placed : IsPlaced ans image opening system' slot')
-    (standing : IsStanding image slot') (room : length order < history_limit) where
+    (standing : IsStanding image slot') (room : length order < image.bounds.events) where
   abbrev slots' : List (Placed A)
   slots' = slice_set slots k slot'
 
@@ -82,7 +83,7 @@ module _ {A : Type 0} (ans : Answering A) (image : Loaded) (opening : Shared) (s
       subst P (sym same) (keeps_still ans image opening system slots waiting order kept k slot slot' here numbered (placed_as same) standing log stays)
 
   -- all is kept
-  pub keeps_step : (m : Made) → Steps ans (routines_of image) opening late given system slot m system' slot'
+  pub keeps_step : (m : Made) → Steps ans (program_of image) opening late given system slot m system' slot'
       → AreKept ans image opening system' slots' waiting (order_on order k slot.job.run.log m)
   keeps_step made.Event t = keeps_event ans image opening system slots waiting order kept k slot slot' here numbered system' t.0.ask t.1 late room placed standing t.6 t.8 t.4 t.5 t.9
   keeps_step (made.Busy holder held) t = kept_as t.5 t.6.0 t.6.2
@@ -101,12 +102,12 @@ module _ {A : Type 0} (ans : Answering A) (image : Loaded) (opening : Shared) (s
         gives.JobStepGives ans.means opening (shown image slots order over n) (suc k) row late given (Ok (seen_of (length order) m))
         (shown image slots' (order_on order k slot.job.run.log m) (over_on over k m) n)
 
-    pub makes_step : IsLive (state_of opening system.history).rows (suc k) → (m : Made) → Steps ans (routines_of image) opening late given system slot m system' slot' → Goal m
+    pub makes_step : IsLive (state_of opening system.history).rows (suc k) → (m : Made) → Steps ans (program_of image) opening late given system slot m system' slot' → Goal m
     makes_step live m t = by m t where
       live_there : IsLive (state_of opening (woven (logs_of slots) order)).rows (suc k)
       live_there = subst (λ (s : Shared). IsLive s.rows (suc k)) (sym (same_state ans image opening system slots waiting order kept)) live
 
-      by : (m : Made) → Steps ans (routines_of image) opening late given system slot m system' slot' → Goal m
+      by : (m : Made) → Steps ans (program_of image) opening late given system slot m system' slot' → Goal m
       by made.Event t = (
         live_there,
         gives_event ans image opening system slots waiting order kept over n k few slot slot' here numbered row is late given t.0 t.1 system' t.6 t.7 (keeps_step made.Event t) t.2 t.3 t.5 t.10 t.11,
@@ -129,10 +130,10 @@ module _ {A : Type 0} (ans : Answering A) (image : Loaded) (opening : Shared) (s
       )
       by made.Ended t =
           let over_now = gives_ended ans image opening system slots waiting order kept over n k few slot slot' here numbered row is late given system' t in
-          absurd ((has_halted (routines_of image) opening (woven (logs_of slots) order) (is_run ans image opening system slots waiting order kept) (suc k) row is over_now).1 live_there)
+          absurd ((has_halted (program_of image) opening (woven (logs_of slots) order) (is_run ans image opening system slots waiting order kept) (suc k) row is over_now).1 live_there)
 
     -- and where it isn't made, nothing changes but how the job stands
-    pub makes_none : (why : Refusal) → IsStepRefused (routines_of image) (start_of slot) slot.job.run.log (stand_of slot) late why (stand_of slot')
+    pub makes_none : (why : Refusal) → IsStepRefused (program_of image) (start_of slot) slot.job.run.log (stand_of slot) late why (stand_of slot')
         → (system' ≡ system) × IsStill ans slot slot'
         → gives.JobStepGives ans.means opening (shown image slots order over n) (suc k) row late given (Err why) (shown image slots' order over n)
     makes_none why refused t = inr (

@@ -3,7 +3,7 @@ use Rattle.std.specs.Prelude.{slice_get}
 use Rattle.std.specs.Option.{option_map}
 use Rattle.std.proofs.Common.{◌≡◌, ℕ, zero, suc, List, [], Option, Some, None, refl, sym, ap, ◌∙◌, subst}
 use Rattle.std.proofs.lemmas.Option.{slice_get-map, none-some, same_Some}
-use Rattle.mj_load.specs.Image.{Loaded, routines_of}
+use Rattle.mj_load.specs.Image.{Loaded, program_of}
 use Rattle.mj_jobs.specs.Rows.{Row, row_at}
 use Rattle.mj_jobvm.specs.Run.{IsTrace, begins}
 use Rattle.mj_dev.specs.Talk.{beginning}
@@ -45,15 +45,15 @@ module _ {A : Type 0} (ans : Answering A) (image : Loaded) (opening : Shared) (s
       let start : slot.claim.start ≡ row.start = sym claimed.2 ∙ ap (λ (r : Row). r.start) one in
       ap (λ j. start_in j slot.claim.start) at.numbered ∙ ap (λ s. start_in (suc k) s) start
 
-  trace_at : (job : ℕ) (row : Row) → row_at (state_of opening history).rows job ≡ Some row → IsTrace (routines_of image) (start_in job row.start) (log_of job history)
+  trace_at : (job : ℕ) (row : Row) → row_at (state_of opening history).rows job ≡ Some row → IsTrace (program_of image) (start_in job row.start) (log_of job history)
   trace_at zero row is = absurd (none-some row is)
   trace_at (suc k) row is = by (slice_get slots k) refl where
-    by : (found : Option (Placed A)) → slice_get slots k ≡ found → IsTrace (routines_of image) (start_in (suc k) row.start) (log_of (suc k) history)
-    by None past = subst (λ l. IsTrace (routines_of image) (start_in (suc k) row.start) l) (sym (none_past k past)) begins
+    by : (found : Option (Placed A)) → slice_get slots k ≡ found → IsTrace (program_of image) (start_in (suc k) row.start) (log_of (suc k) history)
+    by None past = subst (λ l. IsTrace (program_of image) (start_in (suc k) row.start) l) (sym (none_past k past)) begins
     by (Some slot) here =
         let at = kept.tied k slot here in
-        subst (λ l. IsTrace (routines_of image) (start_in (suc k) row.start) l) (sym at.logged)
-        (subst (λ s. IsTrace (routines_of image) s slot.job.run.log) (starts k slot row here is) at.placed.own.run.1.trace)
+        subst (λ l. IsTrace (program_of image) (start_in (suc k) row.start) l) (sym at.logged)
+        (subst (λ s. IsTrace (program_of image) s slot.job.run.log) (starts k slot row here is) at.placed.own.run.1.trace)
 
   talks_at : (job : ℕ) → AreTalks (log_of job history)
   talks_at zero = subst (λ l. AreTalks l) (sym (silent_zero (logs_of slots) order)) (λ name. (beginning, refl))
@@ -64,5 +64,5 @@ module _ {A : Type 0} (ans : Answering A) (image : Loaded) (opening : Shared) (s
         let at = kept.tied k slot here in
         subst (λ l. AreTalks l) (sym at.logged) (ans.talks slot.answerer slot.job.run.log at.placed.own.told)
 
-  pub is_run : IsRun (routines_of image) opening history
+  pub is_run : IsRun (program_of image) opening history
   is_run = record { happen = kept.happen; traces = trace_at; talks = talks_at }

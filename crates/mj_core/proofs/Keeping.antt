@@ -7,6 +7,7 @@ use Rattle.std.proofs.Common.{refl, sym, ap, ◌∙◌, subst, inl, inr, append-
 use Rattle.std.proofs.lemmas.Option.{slice_get-map, get_or_from_slice_get}
 use Rattle.std.proofs.lemmas.List.{map-set, map-append, length-set}
 use Rattle.std.proofs.Math.Seq.{map-set_same}
+use Rattle.mj_text.specs.declared.limit.Limit.TheVariants.{V2}
 use Rattle.mj_ask.specs.declared.ask.Ask.{Ask}
 use Rattle.mj_ask.specs.declared.ask.Reply.{Reply}
 use Rattle.mj_dev.specs.Shelves.{principal}
@@ -162,7 +163,7 @@ module _ {A : Type 0} (ans : Answering A) (image : Loaded) (opening : Shared) (s
           IsLive state.rows job × IsReplyTold state job a late reply (state_of opening system'.history)
           × (system' ≡ record system { history = system.history ++ shared_of (event job ∷ []) })
 
-      module _ (room : length order < history_limit) (placed : IsPlaced ans image opening system' slot') (standing : IsStanding image slot')
+      module _ (room : length order < image.bounds.events) (placed : IsPlaced ans image opening system' slot') (standing : IsStanding image slot')
           (log : slot'.job.run.log ≡ slot.job.run.log ++ (a, reply) ∷ [])
           (behind : AreBehind ans state a slot.answerer slot'.answerer)
           (made : Made (suc k)) where
@@ -249,10 +250,12 @@ module _ {A : Type 0} (ans : Answering A) (image : Loaded) (opening : Shared) (s
               subst P (sym logs_on) (there_on (logs_of slots) k slot.job.run.log (a, reply) order log_here kept.there);
           claimed = claimed_on opening system system' (shared_of (e ∷ [])) system_on claimed_same (length slots) (length slots') (length-set slots k slot') waiting kept.claimed;
           within = let long = length-append order (record { job = suc k; at = length slot.job.run.log } ∷ []) in omega (arith, long, room);
+          most = kept.most;
+          long = kept.long;
         }
 
       -- what is known of the event, by the number of its claim
-      pub keeps_event : length order < history_limit → IsPlaced ans image opening system' slot' → IsStanding image slot' → slot'.job.run.log ≡ slot.job.run.log ++ (a, reply) ∷ []
+      pub keeps_event : length order < image.bounds.events → IsPlaced ans image opening system' slot' → IsStanding image slot' → slot'.job.run.log ≡ slot.job.run.log ++ (a, reply) ∷ []
           → AreBehind ans state a slot.answerer slot'.answerer
           → IsLive state.rows slot.claim.job → IsReplyTold state slot.claim.job a late reply (state_of opening system'.history)
           → system' ≡ record system { history = system.history ++ shared_of (event slot.claim.job ∷ []) }
@@ -301,6 +304,8 @@ module _ {A : Type 0} (ans : Answering A) (image : Loaded) (opening : Shared) (s
         there = (let P : Logs → Type 0 = λ l. AreThere l order in subst P (sym logs_same) kept.there);
         claimed = subst (λ n. IsClaimed opening system n waiting) (sym (length-set slots k slot')) kept.claimed;
         within = kept.within;
+        most = kept.most;
+        long = kept.long;
       }
 
 -- ---- a job more
@@ -315,7 +320,7 @@ module _ {A : Type 0} (ans : Answering A) (image : Loaded) (opening : Shared) (s
       let silent : log_of (suc (length slots)) system.history ≡ [] =
       ap (log_of (suc (length slots))) (sym kept.history) ∙ shared_silent (suc (length slots)) (woven (logs_of slots) order) none in
       record {
-        own = record { run = run; told = told; shared = kept.claimed.2 ∙ sym (ap shared_in first) };
+        own = record { run = run; told = told; shared = kept.claimed.2 ∙ sym (ap shared_in first); long = kept.long };
         entered = record {
           numbered = (let n = kept.claimed.1 in omega (arith, n));
           claimed = (let n = kept.claimed.1 in let m = kept.claimed.0 in omega (arith, n, m));
@@ -369,6 +374,8 @@ module _ {A : Type 0} (ans : Answering A) (image : Loaded) (opening : Shared) (s
           subst P (sym logs_more) (there_still (logs_of slots) (logs_of slots ++ [] ∷ []) order (jobs_stay (logs_of slots)) kept.there));
       claimed = kept.claimed.0 ∙ (let long = length-append slots (slot ∷ []) in omega (arith, long));
       within = kept.within;
+      most = kept.most;
+      long = kept.long;
     }
 
 -- a row is claimed, and waits for its slot
@@ -395,15 +402,20 @@ keeps_claim ans image opening old new slots order claim kept same claimed job ev
           (let n = kept.claimed in
           (omega (arith, n, claimed), omega (arith, n, job), events, row_later opening old.history new.history [] claim on row));
       within = kept.within;
+      most = kept.most;
+      long = kept.long;
     }
 
 -- no row was claimed yet, and nothing was asked
-pub keeps_new : {A : Type 0} (ans : Answering A) (image : Loaded) (opening : Shared) → AreKept ans image opening (record { history = []; claimed = 0 }) [] None []
-keeps_new ans image opening = record {
+pub keeps_new : {A : Type 0} (ans : Answering A) (image : Loaded) (opening : Shared) → image.bounds.limit ≡ V2 → image.bounds.events ≤ history_limit
+    → AreKept ans image opening (record { history = []; claimed = 0 }) [] None []
+keeps_new ans image opening long most = record {
   history = refl;
   tied = λ k slot here. absurd (let no : None ≡ Some slot = here in cc);
   happen = tt;
   there = tt;
   claimed = refl;
   within = omega arith;
+  most = most;
+  long = long;
 }

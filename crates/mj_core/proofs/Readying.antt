@@ -3,7 +3,7 @@ use Rattle.std.specs.Prelude.{IsSome, slice_get, slice_set, Result, Ok, Err, IfO
 use Rattle.std.proofs.Common.{◌≡◌, ℕ, suc, ◌<◌, List, Bool, true, false, Option, Some, None, refl, sym, ap, ◌∙◌, subst, inl, inr}
 use Rattle.std.specs.declared.alloc.AllocError.{AllocError}
 use Rattle.mj_ask.specs.declared.ask.Ask.{Ask}
-use Rattle.mj_load.specs.Image.{Loaded, routines_of}
+use Rattle.mj_load.specs.Image.{Loaded, program_of}
 use Rattle.mj_jobs.specs.Rows.{Row, row_at, IsLive}
 use Rattle.mj_semantics.specs.State.{places}
 use Rattle.mj_semantics.specs.Outcome.{Needs}
@@ -71,7 +71,7 @@ module _ {A : Type 0} (ans : Answering A) (image : Loaded) (opening : Shared) (s
   }
 
   -- where it asks
-  module _ (told : AdvanceTells (routines_of image) (start_of slot) turns.Asks job.run) where
+  module _ (told : AdvanceTells (program_of image) (start_of slot) turns.Asks job.run) where
     abbrev at : AtAsk
     at = record { ask = told.0; locals = job.run.at.state.locals; places = places job.run.at.state; answered = false }
 
@@ -88,8 +88,8 @@ module _ {A : Type 0} (ans : Answering A) (image : Loaded) (opening : Shared) (s
         → job.run.spent ≡ slot.job.run.spent
         → Readies opening (shown image slots order over n) (suc k) row (Ok turns.Asks) (shown image (slice_set slots k (slot_at true)) order over n)
     readies_asks over n few row is spent =
-        let F : ℕ → Start → Log → Shared → Type 0 = λ j st l s. Waits (routines_of image) st l at in
-        let L : Log → Type 0 = λ l. Waits (routines_of image) (start_of slot) l at in (
+        let F : ℕ → Start → Log → Shared → Type 0 = λ j st l s. Waits (program_of image) st l at in
+        let L : Log → Type 0 = λ l. Waits (program_of image) (start_of slot) l at in (
           at,
           move ans image opening system slots waiting order kept over n k few slot (slot_at true) here refl row is false None F (subst L log (told.2, refl)),
           shown_still ans image opening system slots waiting order kept over n k few slot (slot_at true) here refl row is false None log (λ name has h. h) (placed_on true) standing
@@ -104,7 +104,7 @@ module _ {A : Type 0} (ans : Answering A) (image : Loaded) (opening : Shared) (s
 
   -- what is told of it
   abbrev Told : Result Turn AllocError → Type 0
-  Told went = IfOk went (λ turn. AdvanceTells (routines_of image) (start_of slot) turn job.run)
+  Told went = IfOk went (λ turn. AdvanceTells (program_of image) (start_of slot) turn job.run)
 
   -- all is kept, however it went
   pub keeps_ready : (went : Result Turn AllocError) → Told went → WaitsThen went job.run.pending
@@ -124,24 +124,24 @@ module _ {A : Type 0} (ans : Answering A) (image : Loaded) (opening : Shared) (s
     goes nothing = may_go slot.job.run.pending slot.job.run.log slot.job.run.at.state slot.at_ask (unasked slot.job.run.pending nothing)
 
     -- it went on for all turns
-    readies_ran : AdvanceTells (routines_of image) (start_of slot) turns.Ran job.run → job.run.spent ≡ spent_after {E = AllocError} (Ok turns.Ran) 10000 slot.job.run.spent
+    readies_ran : AdvanceTells (program_of image) (start_of slot) turns.Ran job.run → job.run.spent ≡ spent_after {E = AllocError} (Ok turns.Ran) 10000 slot.job.run.spent
         → MayGoOn (stand_of slot) → job.run.pending ≡ None → Readies opening (shown image slots order over n) (suc k) row (Ok turns.Ran) new
     readies_ran told spent may none =
-        let L : Log → Type 0 = λ l. GoesOn (routines_of image) (start_of slot) l job.run.spent in
+        let L : Log → Type 0 = λ l. GoesOn (program_of image) (start_of slot) l job.run.spent in
         gives_ran ans image opening system slots waiting order kept over n k few slot (slot_at false) here refl row is false None log (λ name has h. h) (placed_on false)
         (inl (refl, none)) spent (subst L log told) (stands_nowhere job.run.pending job.run.at.state none) may
 
     -- one that goes on hasn't ended
-    readies_ended : AdvanceTells (routines_of image) (start_of slot) turns.Ended job.run
+    readies_ended : AdvanceTells (program_of image) (start_of slot) turns.Ended job.run
         → Readies opening (shown image slots order over n) (suc k) row (Ok turns.Ended) new
     readies_ended told =
-        let F : ℕ → Start → Log → Shared → Type 0 = λ j st l s. HasEnded (routines_of image) st l in
-        let L : Log → Type 0 = λ l. HasEnded (routines_of image) (start_of slot) l in
+        let F : ℕ → Start → Log → Shared → Type 0 = λ j st l s. HasEnded (program_of image) st l in
+        let L : Log → Type 0 = λ l. HasEnded (program_of image) (start_of slot) l in
         let over_now = move ans image opening system slots waiting order kept over n k few slot (slot_at false) here refl row is false None F (subst L log told) in
         let run_is = is_run ans image opening system slots waiting order kept in
         let live_there : IsLive (state_of opening (woven (logs_of slots) order)).rows (suc k) =
         subst (λ (s : Shared). IsLive s.rows (suc k)) (sym (same_state ans image opening system slots waiting order kept)) live in
-        absurd ((has_halted (routines_of image) opening (woven (logs_of slots) order) run_is (suc k) row is over_now).1 live_there)
+        absurd ((has_halted (program_of image) opening (woven (logs_of slots) order) run_is (suc k) row is over_now).1 live_there)
 
     -- memory was refused
     readies_none : job.run.spent ≡ slot.job.run.spent → MayGoOn (stand_of slot) → job.run.pending ≡ None
@@ -167,13 +167,13 @@ module _ {A : Type 0} (ans : Answering A) (image : Loaded) (opening : Shared) (s
 
   -- where it asks, it stands at its ask
   pub at_ask : (went : Result Turn AllocError) → went ≡ Ok turns.Asks
-      → ((start : Start) → IsRunOf image start slot.job → IfOk went (λ turn. AdvanceTells (routines_of image) start turn job.run))
+      → ((start : Start) → IsRunOf image start slot.job → IfOk went (λ turn. AdvanceTells (program_of image) start turn job.run))
       → IsAtAsk image opening (woven (logs_of slots) order) (suc k) job
   at_ask went same told =
       let its = shown_run ans image opening system slots waiting order kept k slot here in
       let start = start_in (suc k) its.0.start in
       let logged : job.run.log ≡ log_of (suc k) (woven (logs_of slots) order) = log ∙ sym (kept.tied k slot here).logged in
-      let T : Result Turn AllocError → Type 0 = λ w. IfOk w (λ turn. AdvanceTells (routines_of image) start turn job.run) in
+      let T : Result Turn AllocError → Type 0 = λ w. IfOk w (λ turn. AdvanceTells (program_of image) start turn job.run) in
       let asks = subst T same (told start its.2) in
-      let N : Log → Type 0 = λ l. (n : ℕ) × (next (routines_of image) start n (replies_of l) ≡ Needs asks.0 job.run.at.state.locals (places job.run.at.state)) in
+      let N : Log → Type 0 = λ l. (n : ℕ) × (next (program_of image) start n (replies_of l) ≡ Needs asks.0 job.run.at.state.locals (places job.run.at.state)) in
       record { row = its.0; there = its.1; run = run start its.2; log = logged; ask = asks.0; waits = asks.1; needs = subst N logged asks.2 }

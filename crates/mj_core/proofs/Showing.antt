@@ -3,7 +3,7 @@ use Rattle.std.specs.Prelude.{◌⊎◌, slice_get, reverse, if◌then◌else◌
 use Rattle.std.proofs.Common.{◌≡◌, ℕ, suc, ◌<◌, ◌≤◌, List, [], ◌∷◌, length, Bool, true, false, Option, Some, None, refl, sym, ap, ◌∙◌, subst, arith, inl, inr}
 use Rattle.std.proofs.lemmas.Option.{slice_get_within}
 use Rattle.mj_ask.specs.declared.ask.Ask.{Ask}
-use Rattle.mj_load.specs.Image.{Loaded, routines_of}
+use Rattle.mj_load.specs.Image.{Loaded, program_of}
 use Rattle.mj_jobs.specs.Rows.{Row, row_at, rows_limit}
 use Rattle.mj_semantics.specs.State.{State, places}
 use Rattle.mj_semantics.specs.Job.{Start}
@@ -81,11 +81,11 @@ module _ {A : Type 0} (ans : Answering A) (image : Loaded) (opening : Shared) (s
               → IsStanding image slot
               → ((slot.at_ask ≡ false) × (slot.job.run.pending ≡ None))
               ⊎ ((slot.at_ask ≡ true)
-              × ((to : AtAsk) × (stand_of slot ≡ Some to) × StandsAt (routines_of image) (start_in (suc k) row.start) (log_of (suc k) (woven (logs_of slots) order)) to))
+              × ((to : AtAsk) × (stand_of slot ≡ Some to) × StandsAt (program_of image) (start_in (suc k) row.start) (log_of (suc k) (woven (logs_of slots) order)) to))
           stands row is (inl none) = inl none
           stands row is (inr (on, (to, shows, so))) =
-              let P : Start → Type 0 = λ s. StandsAt (routines_of image) s slot.job.run.log to in
-              let Q : Log → Type 0 = λ l. StandsAt (routines_of image) (start_in (suc k) row.start) l to in
+              let P : Start → Type 0 = λ s. StandsAt (program_of image) s slot.job.run.log to in
+              let Q : Log → Type 0 = λ l. StandsAt (program_of image) (start_in (suc k) row.start) l to in
               inr (
                 on,
                 (
@@ -121,20 +121,20 @@ module _ {A : Type 0} (opening : Shared) (self : Shown) (job : ℕ) (slot : Plac
       ∙ stands_nowhere run.pending run.at.state (by seen.stands) where
         by : ((slot.at_ask ≡ false) × (slot.job.run.pending ≡ None))
             ⊎ ((slot.at_ask ≡ true)
-            × ((at : AtAsk) × (stand_of slot ≡ Some at) × StandsAt (routines_of self.image) (start_in job seen.row.start) (log_of job self.history) at))
+            × ((at : AtAsk) × (stand_of slot ≡ Some at) × StandsAt (program_of self.image) (start_in job seen.row.start) (log_of job self.history) at))
             → slot.job.run.pending ≡ None
         by (inl none) = none.1
         by (inr some) = absurd (let no : true ≡ false = sym some.0 ∙ off in cc)
 
   pub stands_some : slot.at_ask ≡ true
       → (at : AtAsk) × (stand_at self.stands job ≡ Some at) × IsSeenAt slot.job.run at
-      × StandsAt (routines_of self.image) (start_in job seen.row.start) (log_of job self.history) at
+      × StandsAt (program_of self.image) (start_in job seen.row.start) (log_of job self.history) at
   stands_some on = by seen.stands where
     by : ((slot.at_ask ≡ false) × (slot.job.run.pending ≡ None))
         ⊎ ((slot.at_ask ≡ true)
-        × ((at : AtAsk) × (stand_of slot ≡ Some at) × StandsAt (routines_of self.image) (start_in job seen.row.start) (log_of job self.history) at))
+        × ((at : AtAsk) × (stand_of slot ≡ Some at) × StandsAt (program_of self.image) (start_in job seen.row.start) (log_of job self.history) at))
         → (at : AtAsk) × (stand_at self.stands job ≡ Some at) × IsSeenAt slot.job.run at
-        × StandsAt (routines_of self.image) (start_in job seen.row.start) (log_of job self.history) at
+        × StandsAt (program_of self.image) (start_in job seen.row.start) (log_of job self.history) at
     by (inl off) = absurd (let no : true ≡ false = sym on ∙ off.0 in cc)
     by (inr (also, (at, shows, so))) =
         let run = slot.job.run in
@@ -142,11 +142,11 @@ module _ {A : Type 0} (opening : Shared) (self : Shown) (job : ℕ) (slot : Plac
         (at, seen.shown ∙ shows, seen_by run.pending run.log run.at.state at is, so)
 
   pub stands_beside : slot.at_ask ≡ true → (at : AtAsk) (row : Row) → stand_at self.stands job ≡ Some at → row_at (state_of opening self.history).rows job ≡ Some row
-      → StandsAt (routines_of self.image) (start_in job row.start) (log_of job self.history) at
+      → StandsAt (program_of self.image) (start_in job row.start) (log_of job self.history) at
   stands_beside on at row is there =
       let so = stands_some on in
       let one : so.0 ≡ at = (let both : Some so.0 ≡ Some at = sym so.1 ∙ is in cc) in
       let its : seen.row ≡ row = (let both : Some seen.row ≡ Some row = sym seen.there ∙ there in cc) in
-      let P : AtAsk → Type 0 = λ t. StandsAt (routines_of self.image) (start_in job seen.row.start) (log_of job self.history) t in
-      let Q : Row → Type 0 = λ r. StandsAt (routines_of self.image) (start_in job r.start) (log_of job self.history) at in
+      let P : AtAsk → Type 0 = λ t. StandsAt (program_of self.image) (start_in job seen.row.start) (log_of job self.history) t in
+      let Q : Row → Type 0 = λ r. StandsAt (program_of self.image) (start_in job r.start) (log_of job self.history) at in
       subst Q its (subst P one so.3)

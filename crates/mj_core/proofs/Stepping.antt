@@ -9,7 +9,7 @@ use Rattle.mj_ask.specs.declared.ask.Reply.{Reply}
 use Rattle.mj_ask.specs.Fits.{is_shared, timeout_of}
 use Rattle.mj_semantics.specs.Outcome.{Needs}
 use Rattle.mj_semantics.specs.Job.{Start, next}
-use Rattle.mj_load.specs.Image.{Loaded, routines_of}
+use Rattle.mj_load.specs.Image.{Loaded, program_of}
 use Rattle.mj_jobs.specs.Rows.{Row, row_at, IsLive}
 use Rattle.mj_jobvm.specs.Run.{Log, replies_of}
 use Rattle.mj_semantics.specs.State.{State, places}
@@ -146,8 +146,8 @@ stands_nowhere pending s none = ap (λ p. waits_by p s) none
 -- what is said of the slot of a job whose ask was served or not, and of the system: what a step ensures
 pub record IsStepped {A : Type 0} (ans : Answering A) (image : Loaded) (opening : Shared) (late : Bool) (given : Option Reply) (old : Recorded) (slot : Placed A)
     (r : Result Made Refusal) (new : Recorded) (slot' : Placed A) : Type 0 where
-  pub gives : IfOk r (λ m. Steps ans (routines_of image) opening late given old slot m new slot')
-  pub refused : IfErr r (λ why. IsStepRefused (routines_of image) (start_of slot) slot.job.run.log (stand_of slot) late why (stand_of slot'))
+  pub gives : IfOk r (λ m. Steps ans (program_of image) opening late given old slot m new slot')
+  pub refused : IfErr r (λ why. IsStepRefused (program_of image) (start_of slot) slot.job.run.log (stand_of slot) late why (stand_of slot'))
   pub kept : OnErr r ((new ≡ old) × IsStill ans slot slot')
   pub tied : IsTied ans image opening new slot'.claim slot'.job slot'.answerer
   pub stands : IsStanding image slot'
@@ -157,7 +157,7 @@ module _ {A : Type 0} (ans : Answering A) (image : Loaded) (opening : Shared) (o
     (tied : IsTied ans image opening old claim job xs) (run : IsRunOf image (start_in claim.job claim.start) mid) (log : mid.run.log ≡ job.run.log)
     (live : IsLive (state_of opening old.history).rows claim.job)
     (b : Ask) (pending : mid.run.pending ≡ Some b)
-    (needs : (n : ℕ) × (next (routines_of image) (start_in claim.job claim.start) n (replies_of mid.run.log) ≡ Needs b mid.run.at.state.locals (places mid.run.at.state)))
+    (needs : (n : ℕ) × (next (program_of image) (start_in claim.job claim.start) n (replies_of mid.run.log) ≡ Needs b mid.run.at.state.locals (places mid.run.at.state)))
     (spent : mid.run.spent ≡ job.run.spent) where
   abbrev start : Start
   start = start_in claim.job claim.start
@@ -173,22 +173,22 @@ module _ {A : Type 0} (ans : Answering A) (image : Loaded) (opening : Shared) (o
   at = record { ask = b; locals = mid.run.at.state.locals; places = places mid.run.at.state; answered = false }
 
   abbrev Goal : Made → Type 0
-  Goal m = Steps ans (routines_of image) opening late given old slot m new slot' × IsTied ans image opening new claim' job' xs' × IsStanding image slot'
+  Goal m = Steps ans (program_of image) opening late given old slot m new slot' × IsTied ans image opening new claim' job' xs' × IsStanding image slot'
 
   still : job' ≡ mid → Stays ans xs xs' → IsStill ans slot slot'
   still jobs stays = (ap (λ (j : Running). j.run.log) jobs ∙ log, ap (λ (j : Running). j.run.spent) jobs ∙ spent, stays.1)
 
-  waits : Waits (routines_of image) start job.run.log at
+  waits : Waits (program_of image) start job.run.log at
   waits =
-      let P : Log → Type 0 = λ l. (n : ℕ) × (next (routines_of image) start n (replies_of l) ≡ Needs b mid.run.at.state.locals (places mid.run.at.state)) in
+      let P : Log → Type 0 = λ l. (n : ℕ) × (next (program_of image) start n (replies_of l) ≡ Needs b mid.run.at.state.locals (places mid.run.at.state)) in
       (subst P log needs, refl)
 
   -- it stands so by this log, whose claim has another count
-  stands_by : (to : AtAsk) (l : Log) → stand_of slot' ≡ Some to → start_in claim'.job claim'.start ≡ start → job'.run.log ≡ l → StandsAt (routines_of image) start l to
+  stands_by : (to : AtAsk) (l : Log) → stand_of slot' ≡ Some to → start_in claim'.job claim'.start ≡ start → job'.run.log ≡ l → StandsAt (program_of image) start l to
       → IsStanding image slot'
   stands_by to l shows from is stands =
-      let P : Start → Type 0 = λ st. StandsAt (routines_of image) st job'.run.log to in
-      let Q : Log → Type 0 = λ k. StandsAt (routines_of image) start k to in
+      let P : Start → Type 0 = λ st. StandsAt (program_of image) st job'.run.log to in
+      let Q : Log → Type 0 = λ k. StandsAt (program_of image) start k to in
       inr (refl, (to, shows, subst P (sym from) (subst Q (sym is) stands)))
 
   -- it isn't told, and waits
@@ -301,7 +301,7 @@ module _ {A : Type 0} (ans : Answering A) (image : Loaded) (opening : Shared) (o
     by (timely, inl t) = by_talk m timely t.0 t.1 t.2 t.3
     by (timely, inr t) = by_share m timely t.0 t.1
 
-  muted : (why : Refusal) → IsMuted mid late why → job' ≡ mid → IsStepRefused (routines_of image) start job.run.log (stand_of slot) late why (stand_of slot')
+  muted : (why : Refusal) → IsMuted mid late why → job' ≡ mid → IsStepRefused (program_of image) start job.run.log (stand_of slot) late why (stand_of slot')
   muted refusals.NotTimed is jobs =
       let T : Ask → Type 0 = λ a. timeout_of a ≡ None in
       (is.0, (at, waits, subst T (same_ask mid.run.pending is.1.0 b is.1.1 pending) is.1.2, shows_still jobs))

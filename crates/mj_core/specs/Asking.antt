@@ -4,7 +4,7 @@ use Rattle.mj_ask.specs.declared.ask.Ask.{Ask}
 use Rattle.mj_semantics.specs.State.{places}
 use Rattle.mj_semantics.specs.Outcome as outcomes
 use Rattle.mj_semantics.specs.Job.{next}
-use Rattle.mj_load.specs.Image.{Loaded, routines_of}
+use Rattle.mj_load.specs.Image.{Loaded, program_of}
 use Rattle.mj_jobs.specs.Rows.{Row, row_at}
 use Rattle.mj_jobvm.specs.declared.job.Turn.{Turn}
 use Rattle.mj_jobvm.specs.declared.job.Turn.TheVariants as turns
@@ -46,5 +46,5 @@ pub record IsAtAsk (image : Loaded) (opening : Shared) (history : History) (job 
   pub log : found.run.log ≡ log_of job history
   pub ask : Ask
   pub waits : found.run.pending ≡ Some ask
-  pub needs : (n : ℕ) × (next (routines_of image) (start_in job row.start) n (replies_of (log_of job history))
+  pub needs : (n : ℕ) × (next (program_of image) (start_in job row.start) n (replies_of (log_of job history))
       ≡ outcomes.Needs ask found.run.at.state.locals (places found.run.at.state))

@@ -4,11 +4,11 @@ use Rattle.mj_ask.specs.declared.ask.Ask.{Ask}
 use Rattle.mj_ask.specs.declared.ask.Reply.{Reply}
 use Rattle.mj_ask.specs.declared.ask.Reply.TheVariants as replies
 use Rattle.mj_ask.specs.Fits.{fits, is_shared, timeout_of}
-use Rattle.mj_ast.specs.Syntax.{Routine}
+use Rattle.mj_semantics.specs.Program.{Program}
 use Rattle.mj_semantics.specs.State.{Locals, Place}
 use Rattle.mj_semantics.specs.Outcome as outcomes
 use Rattle.mj_semantics.specs.Job.{Start, next}
-use Rattle.mj_load.specs.Image.{routines_of}
+use Rattle.mj_load.specs.Image.{program_of}
 use Rattle.mj_jobs.specs.Rows.{Row, row_at, IsLive}
 use Rattle.mj_jobvm.specs.declared.job.Turn.{Turn}
 use Rattle.mj_jobvm.specs.declared.job.Turn.TheVariants as turns
@@ -17,7 +17,7 @@ use Rattle.mj_ask.specs.Late.{is_timed_out}
 use Rattle.mj_sessions.specs.Asked.{Answering}
 use Rattle.mj_sys.specs.Shared.{Shared, served}
 use Rattle.mj_sys.specs.History.{state_of, log_of}
-use Rattle.mj_sys.specs.System.{KeepsBusy, history_limit}
+use Rattle.mj_sys.specs.System.{KeepsBusy}
 use Rattle.mj_core.specs.declared.seen.Seen.{Seen}
 use Rattle.mj_core.specs.declared.seen.Seen.TheVariants as seen
 use Rattle.mj_steps.specs.declared.step.Refusal.{Refusal}
@@ -40,18 +40,18 @@ abbrev pub spent_limit : ℕ
 spent_limit = 2 ^ 63
 
 -- after this log the job asks this
-abbrev pub Makes : List Routine → Start → Log → Ask → Type 0
-Makes image start log a = (n : ℕ) × (locals : Locals) × (at : List Place) × (next image start n (replies_of log) ≡ outcomes.Needs a locals at)
+abbrev pub Makes : Program → Start → Log → Ask → Type 0
+Makes program start log a = (n : ℕ) × (locals : Locals) × (at : List Place) × (next program start n (replies_of log) ≡ outcomes.Needs a locals at)
 
 -- after this log the job waits for a reply: this is what it asks, with its locals and the places of its frames there
-abbrev pub Waits : List Routine → Start → Log → AtAsk → Type 0
-Waits image start log at = ((n : ℕ) × (next image start n (replies_of log) ≡ outcomes.Needs at.ask at.locals at.places)) × (at.answered ≡ false)
+abbrev pub Waits : Program → Start → Log → AtAsk → Type 0
+Waits program start log at = ((n : ℕ) × (next program start n (replies_of log) ≡ outcomes.Needs at.ask at.locals at.places)) × (at.answered ≡ false)
 
 -- By this log the job stands at that ask: it waits for the reply behind the log; or the reply is the log's last, and it waited for it before.
-abbrev pub StandsAt : List Routine → Start → Log → AtAsk → Type 0
-StandsAt image start log at =
-    Waits image start log at
-    ⊎ ((earlier : Log) × (reply : Reply) × (log ≡ earlier ++ (at.ask, reply) ∷ []) × Waits image start earlier (record at { answered = false })
+abbrev pub StandsAt : Program → Start → Log → AtAsk → Type 0
+StandsAt program start log at =
+    Waits program start log at
+    ⊎ ((earlier : Log) × (reply : Reply) × (log ≡ earlier ++ (at.ask, reply) ∷ []) × Waits program start earlier (record at { answered = false })
     × (at.answered ≡ true))
 
 -- the job has its reply, and hasn't gone on
@@ -79,24 +79,24 @@ pub record IsReplyTold (s : Shared) (job : ℕ) (a : Ask) (late : Bool) (reply :
 -- When a step of a job isn't made that stood so, and how the job stands then: the step is late, and the job waits with an ask that has no timeout; or memory
 -- was refused to a job that could go on, on its way, and it stands at no ask, so that it doesn't wait; or where it waits, and there it stands. So a job that
 -- waits is shown, and stays shown.
-abbrev pub IsStepRefused : List Routine → Start → Log → Option AtAsk → Bool → Refusal → Option AtAsk → Type 0
-IsStepRefused image start log stood late refusals.NotTimed stand =
-    (late ≡ true) × ((at : AtAsk) × Waits image start log at × (timeout_of at.ask ≡ None) × (stand ≡ Some at))
-IsStepRefused image start log stood late refusals.Memory stand =
-    (MayGoOn stood × (stand ≡ None)) ⊎ ((at : AtAsk) × Waits image start log at × (stand ≡ Some at))
-IsStepRefused image start log stood late _ stand = ⊥
+abbrev pub IsStepRefused : Program → Start → Log → Option AtAsk → Bool → Refusal → Option AtAsk → Type 0
+IsStepRefused program start log stood late refusals.NotTimed stand =
+    (late ≡ true) × ((at : AtAsk) × Waits program start log at × (timeout_of at.ask ≡ None) × (stand ≡ Some at))
+IsStepRefused program start log stood late refusals.Memory stand =
+    (MayGoOn stood × (stand ≡ None)) ⊎ ((at : AtAsk) × Waits program start log at × (stand ≡ Some at))
+IsStepRefused program start log stood late _ stand = ⊥
 
 -- a job that could go on does so for all turns of a step, and asks nothing: so it stands at no ask
-abbrev pub RunsOn : List Routine → ℕ → Start → Shown → Shown → Type 0
-RunsOn image job start old new =
-    (turns : ℕ) × (turns ≡ min (spent_by old.spent job + fuel) spent_limit) × GoesOn image start (log_of job old.history) turns
+abbrev pub RunsOn : Program → ℕ → Start → Shown → Shown → Type 0
+RunsOn program job start old new =
+    (turns : ℕ) × (turns ≡ min (spent_by old.spent job + fuel) spent_limit) × GoesOn program start (log_of job old.history) turns
     × MayGoOn (stand_at old.stands job) × (new ≡ record old { spent = with_spent old.spent job turns; stands = with_stand old.stands job None })
 
 -- What a step of a live job gives, for which this reply of a device is given or none: an event, of what the job asks after its events so far, which is
 -- told its reply; what keeps it busy; that there is nothing to read yet; that nobody can answer it; or that it goes on for all turns of the step.
-abbrev pub LiveStepGives : Means → List Routine → Shared → ℕ → Start → Bool → Option Reply → Shown → Seen → Shown → Type 0
-LiveStepGives means image opening job start late given old (seen.Event place) new =
-    (at : AtAsk) × (reply : Reply) × Waits image start (log_of job old.history) at × IsTimely late at.ask
+abbrev pub LiveStepGives : Means → Program → Shared → ℕ → Start → Bool → Option Reply → Shown → Seen → Shown → Type 0
+LiveStepGives means program opening job start late given old (seen.Event place) new =
+    (at : AtAsk) × (reply : Reply) × Waits program start (log_of job old.history) at × IsTimely late at.ask
     × IsReplyTold (state_of opening old.history) job at.ask late reply (state_of opening new.history)
     × means.Told (log_of job old.history) given at.ask late reply ((place ≡ length old.history)
     × (new ≡ record old {
@@ -104,19 +104,19 @@ LiveStepGives means image opening job start late given old (seen.Event place) ne
       spent = with_spent old.spent job 0;
       stands = with_stand old.stands job (Some (answered at));
     }))
-LiveStepGives means image opening job start late given old (seen.Busy holder held) new =
-    (at : AtAsk) × Waits image start (log_of job old.history) at × IsTimely late at.ask
+LiveStepGives means program opening job start late given old (seen.Busy holder held) new =
+    (at : AtAsk) × Waits program start (log_of job old.history) at × IsTimely late at.ask
     × (served (state_of opening old.history) job at.ask late ≡ None) × KeepsBusy (state_of opening old.history) job at.ask holder held
     × (new ≡ stands_so old job (Some at))
-LiveStepGives means image opening job start late given old seen.NotYet new =
-    (at : AtAsk) × Waits image start (log_of job old.history) at × IsTimely late at.ask
+LiveStepGives means program opening job start late given old seen.NotYet new =
+    (at : AtAsk) × Waits program start (log_of job old.history) at × IsTimely late at.ask
     × means.NotYet (log_of job old.history) at.ask late (new ≡ stands_so old job (Some at))
-LiveStepGives means image opening job start late given old seen.Unfit new =
-    (at : AtAsk) × Waits image start (log_of job old.history) at × IsTimely late at.ask
+LiveStepGives means program opening job start late given old seen.Unfit new =
+    (at : AtAsk) × Waits program start (log_of job old.history) at × IsTimely late at.ask
     × means.Unfit (state_of opening old.history) (log_of job old.history) (λ name. has_session opening job name old.history) at.ask late given
     (new ≡ stands_so old job (Some at))
-LiveStepGives means image opening job start late given old seen.Ran new = RunsOn image job start old new
-LiveStepGives means image opening job start late given old seen.Ended new = ⊥
+LiveStepGives means program opening job start late given old seen.Ran new = RunsOn program job start old new
+LiveStepGives means program opening job start late given old seen.Ended new = ⊥
 
 -- the job's row isn't that of a job that goes on
 abbrev pub IsDone : Shared → Shown → ℕ → Type 0
@@ -127,11 +127,11 @@ IsDone opening old job = IsLive (state_of opening old.history).rows job → ⊥
 abbrev pub JobStepGives : Means → Shared → Shown → ℕ → Row → Bool → Option Reply → Result Seen Refusal → Shown → Type 0
 JobStepGives means opening old job row late given (Ok seen.Ended) new = IsDone opening old job × (new ≡ record old { over = with_over old.over job })
 JobStepGives means opening old job row late given (Ok what) new =
-    IsLive (state_of opening old.history).rows job × LiveStepGives means (routines_of old.image) opening job (start_in job row.start) late given old what new
+    IsLive (state_of opening old.history).rows job × LiveStepGives means (program_of old.image) opening job (start_in job row.start) late given old what new
 JobStepGives means opening old job row late given (Err why) new =
     ((why ≡ refusals.Memory) × (new ≡ old))
     ⊎ ((stand : Option AtAsk)
-    × IsStepRefused (routines_of old.image) (start_in job row.start) (log_of job old.history) (stand_at old.stands job) late why stand
+    × IsStepRefused (program_of old.image) (start_in job row.start) (log_of job old.history) (stand_at old.stands job) late why stand
     × (new ≡ stands_so old job stand))
 
 -- whether a step is late
@@ -140,14 +140,14 @@ is_late ways.Go = false
 is_late ways.Late = true
 
 -- What a step gives, for which this reply of a device is given or none. That there is no such job is tested first; then that its end was seen; then that
--- the history is full.
+-- the history is full, as the image's bounds say.
 abbrev pub StepGivesBy : Means → Shared → Shown → Step → Option Reply → Result Seen Refusal → Shown → Type 0
 StepGivesBy means opening old step given answer new =
     ((row_at (state_of opening old.history).rows step.job ≡ None) × (answer ≡ Err refusals.NoJob) × (new ≡ old))
     ⊎ ((row : Row) × (row_at (state_of opening old.history).rows step.job ≡ Some row)
     × (((was_over old.over step.job ≡ true) × (answer ≡ Err refusals.Ended) × (new ≡ old))
-    ⊎ ((was_over old.over step.job ≡ false) × (history_limit ≤ length old.history) × (answer ≡ Err refusals.Full) × (new ≡ old))
-    ⊎ ((was_over old.over step.job ≡ false) × (length old.history < history_limit)
+    ⊎ ((was_over old.over step.job ≡ false) × (old.image.bounds.events ≤ length old.history) × (answer ≡ Err refusals.Full) × (new ≡ old))
+    ⊎ ((was_over old.over step.job ≡ false) × (length old.history < old.image.bounds.events)
     × JobStepGives means opening old step.job row (is_late step.way) given answer new)))
 
 -- What a step gives where a job's own sessions serve what it asks a device.
@@ -182,8 +182,8 @@ DeviceRunGives tells opening old steps answers new = RunGivesBy (calling tells) 
 -- step; or it has halted, which no step has seen yet; or memory was refused, before it went on, or on its way: so of a job that could go on.
 abbrev pub Readies : Shared → Shown → ℕ → Row → Result Turn Refusal → Shown → Type 0
 Readies opening old job row (Ok turns.Asks) new =
-    (at : AtAsk) × Waits (routines_of old.image) (start_in job row.start) (log_of job old.history) at × (new ≡ stands_so old job (Some at))
-Readies opening old job row (Ok turns.Ran) new = RunsOn (routines_of old.image) job (start_in job row.start) old new
+    (at : AtAsk) × Waits (program_of old.image) (start_in job row.start) (log_of job old.history) at × (new ≡ stands_so old job (Some at))
+Readies opening old job row (Ok turns.Ran) new = RunsOn (program_of old.image) job (start_in job row.start) old new
 Readies opening old job row (Ok turns.Ended) new = IsDone opening old job × (new ≡ old)
 Readies opening old job row (Err why) new =
     (why ≡ refusals.Memory) × ((new ≡ old) ⊎ (MayGoOn (stand_at old.stands job) × (new ≡ stands_so old job None)))

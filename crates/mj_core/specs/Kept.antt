@@ -1,9 +1,10 @@
 -- What a core keeps.
 use Rattle.std.specs.Prelude.{◌≡◌, ℕ, zero, suc, ◌≤◌, List, [], ◌∷◌, length, map, slice_get, Bool, true, false, Option, Some, None, ◌⊎◌}
 use Rattle.std.specs.Borrow.{Bor}
+use Rattle.mj_text.specs.declared.limit.Limit.TheVariants.{V2}
 use Rattle.mj_ask.specs.declared.ask.Ask.{Ask}
 use Rattle.mj_ask.specs.declared.ask.Reply.{Reply}
-use Rattle.mj_load.specs.Image.{Loaded, routines_of}
+use Rattle.mj_load.specs.Image.{Loaded, program_of}
 use Rattle.mj_jobs.specs.Rows.{Row, row_at}
 use Rattle.mj_jobvm.specs.Jobs.{IsRunOf}
 use Rattle.mj_sys.specs.declared.event.Event.{Event}
@@ -68,7 +69,8 @@ pub record IsSlotOf {A : Type 0} (by : Answering A) (image : Loaded) (opening : 
   pub held : AreHeld by opening job history slot.answerer
 
 -- The history that is woven of the jobs' logs has what the system served; each slot is that of the job at its place; each event of it came where it
--- could; and the jobs of the first rows, which were claimed, have a slot, but for one that may wait for it.
+-- could; the jobs of the first rows, which were claimed, have a slot, but for one that may wait for it; there are no more events than the image's bounds
+-- say; and its limit is the greater one.
 pub record AreKept {A : Type 0} (by : Answering A) (image : Loaded) (opening : Shared) (system : Recorded) (slots : List (Placed A)) (waiting : Option Claimed)
     (order : List Happened) : Type 0 where
   pub history : shared_of (woven (logs_of slots) order) ≡ system.history
@@ -76,7 +78,9 @@ pub record AreKept {A : Type 0} (by : Answering A) (image : Loaded) (opening : S
   pub happen : AllHappen opening (woven (logs_of slots) order)
   pub there : AreThere (logs_of slots) order
   pub claimed : IsClaimed opening system (length slots) waiting
-  pub within : length order ≤ history_limit
+  pub within : length order ≤ image.bounds.events
+  pub most : image.bounds.events ≤ history_limit
+  pub long : image.bounds.limit ≡ V2
 
 -- The slot is that of this job, as what is seen of a core says: its job runs from its row's start, has the log that the history has of it, and stands at
 -- the ask that is shown, as its run does, or at none, and doesn't wait.
@@ -88,7 +92,7 @@ pub record IsSeenSlot {A : Type 0} (opening : Shared) (seen : Shown) (job : ℕ)
   pub shown : stand_at seen.stands job ≡ stand_of slot
   pub stands : ((slot.at_ask ≡ false) × (slot.job.run.pending ≡ None))
       ⊎ ((slot.at_ask ≡ true)
-      × ((at : AtAsk) × (stand_of slot ≡ Some at) × StandsAt (routines_of seen.image) (start_in job row.start) (log_of job seen.history) at))
+      × ((at : AtAsk) × (stand_of slot ≡ Some at) × StandsAt (program_of seen.image) (start_in job row.start) (log_of job seen.history) at))
 
 -- an event as it is shown: its job, what that asked, and what it was told
 abbrev pub shown_event : Option (ℕ × Bor Ask × Bor Reply) → Option Event

@@ -1,13 +1,15 @@
 -- One job among many, and what a step of it gives.
 use Rattle.std.specs.Prelude.{◌≡◌, ℕ, ◌+◌, ◌≤◌, min, List, [], ◌∷◌, ◌++◌, Bool, true, false, Option, Some, None, ◌⊎◌, count_by, reverse, if◌then◌else◌}
+use Rattle.mj_text.specs.declared.limit.Limit.TheVariants.{V2}
 use Rattle.mj_ask.specs.declared.ask.Ask.{Ask}
 use Rattle.mj_ask.specs.declared.ask.Reply.{Reply}
 use Rattle.mj_ask.specs.declared.ask.Reply.TheVariants as replies
 use Rattle.mj_ask.specs.Fits.{fits, is_shared, timeout_of}
-use Rattle.mj_ast.specs.Syntax.{Routine}
+use Rattle.mj_ask.specs.Within.{is_reply_within}
+use Rattle.mj_semantics.specs.Program.{Program}
 use Rattle.mj_semantics.specs.State.{State, places}
 use Rattle.mj_semantics.specs.Job.{Start}
-use Rattle.mj_load.specs.Image.{Loaded, routines_of}
+use Rattle.mj_load.specs.Image.{Loaded, program_of}
 use Rattle.mj_jobs.specs.Rows.{Row, row_at, IsLive}
 use Rattle.mj_dev.specs.Heard.{Heard, IsNew}
 use Rattle.mj_jobvm.specs.Run.{Log, Run, GoesOn, HasEnded}
@@ -46,12 +48,14 @@ start_of slot = start_in slot.claim.job slot.claim.start
 abbrev pub shared_in : Log → ℕ
 shared_in log = count_by (λ e. is_shared e.0) log
 
--- The job is that of this claim, whatever the system is: it runs the routines from the claim's start, so that its log is a trace of them; who answers for
--- it is so by its log, so that its talks obey the device protocol; and its log has as many asks of what all jobs share as the claim counts.
+-- The job is that of this claim, whatever the system is: it runs the program from the claim's start, so that its log is a trace of that; who answers for
+-- it is so by its log, so that its talks obey the device protocol; its log has as many asks of what all jobs share as the claim counts; and the image's
+-- limit is the greater one, so that the job may be told every text.
 pub record IsJobOf {A : Type 0} (by : Answering A) (image : Loaded) (claim : Claimed) (job : Running) (x : A) : Type 0 where
   pub run : IsRunOf image (start_in claim.job claim.start) job
   pub told : by.IsOf x job.run.log
   pub shared : claim.events ≡ shared_in job.run.log
+  pub long : image.bounds.limit ≡ V2
 
 -- The claim is one of the system: the row of its job was claimed, starts as the claim says, and had as many events as it counts.
 pub record IsClaimIn (opening : Shared) (system : Recorded) (claim : Claimed) : Type 0 where
@@ -95,7 +99,7 @@ stand_of slot = if slot.at_ask then stand_in slot.job.run else waits_by slot.job
 abbrev pub IsStanding : {A : Type 0} → Loaded → Placed A → Type 0
 IsStanding image slot =
     ((slot.at_ask ≡ false) × (slot.job.run.pending ≡ None))
-    ⊎ ((slot.at_ask ≡ true) × ((at : AtAsk) × (stand_of slot ≡ Some at) × StandsAt (routines_of image) (start_of slot) slot.job.run.log at))
+    ⊎ ((slot.at_ask ≡ true) × ((at : AtAsk) × (stand_of slot ≡ Some at) × StandsAt (program_of image) (start_of slot) slot.job.run.log at))
 
 -- nothing was asked or told: the log and the count of turns are as they were, and the job has each session that it had
 abbrev pub IsStill : {A : Type 0} → Answering A → Placed A → Placed A → Type 0
@@ -103,9 +107,9 @@ IsStill by old new = (new.job.run.log ≡ old.job.run.log) × (new.job.run.spent
 
 -- What a step of one job gives, for which this reply of a device is given or none: what it asks after its log is told a reply, which joins the log, and
 -- the history of the system if that served it; or nothing is told, and both stay.
-abbrev pub Steps : {A : Type 0} → Answering A → List Routine → Shared → Bool → Option Reply → Recorded → Placed A → Made → Recorded → Placed A → Type 0
-Steps by image opening late given old slot made.Event new slot' =
-    (at : AtAsk) × (reply : Reply) × Waits image (start_of slot) slot.job.run.log at × IsTimely late at.ask
+abbrev pub Steps : {A : Type 0} → Answering A → Program → Shared → Bool → Option Reply → Recorded → Placed A → Made → Recorded → Placed A → Type 0
+Steps by program opening late given old slot made.Event new slot' =
+    (at : AtAsk) × (reply : Reply) × Waits program (start_of slot) slot.job.run.log at × IsTimely late at.ask
     × IsLive (state_of opening old.history).rows slot.claim.job
     × IsReplyTold (state_of opening old.history) slot.claim.job at.ask late reply (state_of opening new.history)
     × (slot'.job.run.log ≡ slot.job.run.log ++ (at.ask, reply) ∷ [])
@@ -114,31 +118,32 @@ Steps by image opening late given old slot made.Event new slot' =
     × (new ≡ record old { history = old.history ++ shared_of (record { job = slot.claim.job; ask = at.ask; reply = reply } ∷ []) })
     × by.means.Told slot.job.run.log given at.ask late reply (Unit {0})
     × (stand_of slot' ≡ Some (answered at))
-Steps by image opening late given old slot (made.Busy holder held) new slot' =
-    (at : AtAsk) × Waits image (start_of slot) slot.job.run.log at × IsTimely late at.ask
+Steps by program opening late given old slot (made.Busy holder held) new slot' =
+    (at : AtAsk) × Waits program (start_of slot) slot.job.run.log at × IsTimely late at.ask
     × (served (state_of opening old.history) slot.claim.job at.ask late ≡ None)
     × KeepsBusy (state_of opening old.history) slot.claim.job at.ask holder held
     × (new ≡ old) × IsStill by slot slot' × (stand_of slot' ≡ Some at)
-Steps by image opening late given old slot made.NotYet new slot' =
-    (at : AtAsk) × Waits image (start_of slot) slot.job.run.log at × IsTimely late at.ask
+Steps by program opening late given old slot made.NotYet new slot' =
+    (at : AtAsk) × Waits program (start_of slot) slot.job.run.log at × IsTimely late at.ask
     × by.means.NotYet slot.job.run.log at.ask late (Unit {0})
     × (new ≡ old) × IsStill by slot slot' × (stand_of slot' ≡ Some at)
-Steps by image opening late given old slot made.Unfit new slot' =
-    (at : AtAsk) × Waits image (start_of slot) slot.job.run.log at × IsTimely late at.ask
+Steps by program opening late given old slot made.Unfit new slot' =
+    (at : AtAsk) × Waits program (start_of slot) slot.job.run.log at × IsTimely late at.ask
     × ((has : List ℕ → Bool) → HasAll by slot.answerer has
     → by.means.Unfit (state_of opening old.history) slot.job.run.log has at.ask late given (Unit {0}))
     × (new ≡ old) × IsStill by slot slot' × (stand_of slot' ≡ Some at)
-Steps by image opening late given old slot made.Ran new slot' =
-    (slot'.job.run.spent ≡ min (slot.job.run.spent + fuel) spent_limit) × GoesOn image (start_of slot) slot.job.run.log slot'.job.run.spent
+Steps by program opening late given old slot made.Ran new slot' =
+    (slot'.job.run.spent ≡ min (slot.job.run.spent + fuel) spent_limit) × GoesOn program (start_of slot) slot.job.run.log slot'.job.run.spent
     × (new ≡ old) × (slot'.job.run.log ≡ slot.job.run.log) × HasStill by slot.answerer slot'.answerer × (stand_of slot' ≡ None)
     × MayGoOn (stand_of slot)
-Steps by image opening late given old slot made.Ended new slot' =
-    HasEnded image (start_of slot) slot.job.run.log × (new ≡ old) × IsStill by slot slot' × (stand_of slot' ≡ None)
+Steps by program opening late given old slot made.Ended new slot' =
+    HasEnded program (start_of slot) slot.job.run.log × (new ≡ old) × IsStill by slot slot' × (stand_of slot' ≡ None)
 
--- the job goes on by a reply to what it asks, and stands where it stood
+-- the job goes on by a reply to what it asks, in each image that lets it be told that, and stands where it stood
 abbrev pub GoesOnBy : Running → Ask → Reply → Running → Type 0
 GoesOnBy old a reply new =
-    (new.run.log ≡ old.run.log ++ (a, reply) ∷ []) × ((image : Loaded) (start : Start) → IsRunOf image start old → IsRunOf image start new)
+    (new.run.log ≡ old.run.log ++ (a, reply) ∷ [])
+    × ((image : Loaded) (start : Start) → is_reply_within image.bounds.limit reply ≡ true → IsRunOf image start old → IsRunOf image start new)
     × (new.run.spent ≡ 0) × (new.run.pending ≡ None) × (new.run.at.state ≡ old.run.at.state)
 
 -- what a job is told that asks a device or a rest, or isn't

@@ -4,6 +4,7 @@
 
 ghost use Rattle.std.specs.Prelude.{◌≡◌, ◌≤◌, [], ℕ, List, length, replicate, Bool, true, false, None, Some, if◌then◌else◌, IfOk, IfSome};
 ghost use Rattle.std.specs.Str.{bytes_eq};
+ghost use Rattle.mj_text.specs.declared.limit.Limit.TheVariants.{V2};
 ghost use Rattle.mj_dev.specs.Pools.{shelves_of};
 ghost use Rattle.mj_dev.specs.Shelves.{principal, left_of};
 ghost use Rattle.mj_jobs.specs.Rows.{rows_limit};
@@ -127,7 +128,7 @@ fn is_early(ask: &Ask, late: bool, reply: &Reply) -> bool
 
 impl<O: Opening> Core<Blank, Heeds, O> {
     /// A core of which nothing was asked yet, with so many sessions of each name, and a row for each of the starts. Only names of globals may have texts
-    /// in its globals.
+    /// in its globals, and the image's limit is the greater one.
     pub fn blank(
         alloc: Global,
         image: Image,
@@ -135,6 +136,7 @@ impl<O: Opening> Core<Blank, Heeds, O> {
         sessions: Vec<(Text, u32)>,
         starts: Vec<Start>,
     ) -> Result<Core<Blank, Heeds, O>, AllocError>
+        requires long { image.bounds.limit ≡ V2 }
         requires opening { opening_of globals.content (shelves_of sessions.items) starts.items ≡ O.opening }
         requires global { are_global globals.content ≡ true }
         requires some { 1 ≤ length starts.items }

@@ -3,7 +3,7 @@
 ghost use Rattle.std.specs.Prelude.{◌≡◌, ◌<◌, ℕ, List, Bool, true, None, if◌then◌else◌, IfOk, OnErr};
 ghost use Rattle.std.specs.Str.{bytes_eq};
 ghost use Rattle.mj_dev.specs.Told.{IsToldBy};
-ghost use Rattle.mj_load.specs.Image.{routines_of};
+ghost use Rattle.mj_load.specs.Image.{program_of};
 ghost use Rattle.mj_locktab.specs.Locks.{LocksApart};
 ghost use Rattle.mj_sessions.specs.Events.{Log};
 ghost use Rattle.mj_sys.specs.History.{state_of};
@@ -70,7 +70,7 @@ impl<D: Device, O: Opening> Core<D, Sessions<D>, O> {
         ensures gives { IfOk result (λ answers. RunGives O.opening self.old steps.now answers.items self.new) }
         ensures called { IfOk result (λ answers.
             DeviceRunGives (IsToldBy D.inside D.failures D.taken D.given D.IsTold) O.opening self.old steps.now answers.items self.new) }
-        ensures run { IsRun (routines_of self.new.image) O.opening self.new.history }
+        ensures run { IsRun (program_of self.new.image) O.opening self.new.history }
         ensures apart { LocksApart (state_of O.opening self.new.history).locks }
         ensures err { OnErr result (self.new ≡ self.old) }
     {

@@ -1,7 +1,7 @@
 // Many jobs over one system, on one thread.
 //
 // A step lets one job go on to its next ask, which is served: by the system, by who answers for the job (`answerer.rt`), or at once
-// (`specs/Ties.antt`, `Steps`). What was asked and told, in order, is a history; when one is a run of the routines says `specs/Runs.antt`.
+// (`specs/Ties.antt`, `Steps`). What was asked and told, in order, is a history; when one is a run of a program says `specs/Runs.antt`.
 // The shared state keeps the history of what it served; what a job asked of its devices, or of the clock, is in that job's log alone. So
 // the history of all events is woven of the jobs' logs by what is written down of their order (`specs/Woven.antt`), and nothing is kept
 // twice; when one is in order says `specs/Happen.antt`.
@@ -30,4 +30,4 @@ pub use mj_steps::{Refusal, Step, Way};
 pub use parts::{Made, Place, make_place, serve_at, take_reply, take_up, talk};
 pub use seen::{Ready, Seen};
 pub use slot::{FUEL, Slot, step_slot};
-pub use together::Core;
+pub use together::{Core, most_events};

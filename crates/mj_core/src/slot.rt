@@ -6,7 +6,7 @@ ghost use Rattle.mj_ask.specs.declared.ask.Ask.{Ask};
 ghost use Rattle.mj_ask.specs.declared.ask.Ask.TheVariants as asks;
 ghost use Rattle.mj_ask.specs.declared.ask.SharedAsk.TheVariants as shared_asks;
 ghost use Rattle.mj_jobs.specs.Rows.{IsLive};
-ghost use Rattle.mj_load.specs.Image.{routines_of};
+ghost use Rattle.mj_load.specs.Image.{program_of};
 ghost use Rattle.mj_sys.specs.History.{state_of};
 ghost use Rattle.mj_sys.specs.Shared.{moves_none};
 ghost use Rattle.mj_sys.specs.System.{history_limit};
@@ -62,9 +62,9 @@ pub fn step_slot<D: Device, A: Answerer<Fresh<D>>, O: Opening>(
     requires live { IsLive (state_of O.opening system.old.history).rows slot.old.claim.job }
     requires room { length system.old.history < history_limit }
     ensures gives { IfOk result
-        (λ made. Steps A.answering (routines_of image.now) O.opening late (option_copied given.entry) system.old slot.old made system.new slot.new) }
+        (λ made. Steps A.answering (program_of image.now) O.opening late (option_copied given.entry) system.old slot.old made system.new slot.new) }
     ensures refused { IfErr result
-        (λ why. IsStepRefused (routines_of image.now) (start_of slot.old) slot.old.job.run.log (stand_of slot.old) late why (stand_of slot.new)) }
+        (λ why. IsStepRefused (program_of image.now) (start_of slot.old) slot.old.job.run.log (stand_of slot.old) late why (stand_of slot.new)) }
     ensures kept { OnErr result ((system.new ≡ system.old) × IsStill A.answering slot.old slot.new) }
     ensures tied { IsPlaced A.answering image.now O.opening system.new slot.new }
     ensures stands { IsStanding image.now slot.new }

@@ -2,7 +2,8 @@
 
 ghost use Rattle.std.specs.Prelude.{◌≡◌, ◌<◌, ◌≤◌, ℕ, suc, List, [], length, replicate, Bool, true, false, Option, Some, None, IsSome, slice_get, vec_len};
 ghost use Rattle.std.specs.Prelude.{vec_capacity, IfOk, IfErr, OnOk, OnErr, IfSome, IfNone, option_copied};
-ghost use Rattle.mj_load.specs.Image.{routines_of};
+ghost use Rattle.mj_load.specs.Image.{program_of};
+ghost use Rattle.mj_text.specs.declared.limit.Limit.TheVariants.{V2};
 ghost use Rattle.mj_dev.specs.Shelves.{principal, left_of};
 ghost use Rattle.mj_jobs.specs.Rows.{Row, row_at, rows_limit, IsLive};
 ghost use Rattle.mj_jobvm.specs.Jobs.{IsRunOf};
@@ -33,12 +34,12 @@ use mj_load::Image;
 use mj_locktab::LockTable;
 use mj_sessions::output;
 use mj_steps::{Refusal, Step, Way};
-use mj_sys::{Claim, HISTORY_LIMIT, Opening, System, Unmade};
+use mj_sys::{Claim, Opening, System, Unmade};
 use mj_text::Text;
 use std::alloc::{AllocError, Global};
 use std::marker::Model;
 
-/// The routines, the system, and the jobs, each with an answerer of what it asks devices, on one thread.
+/// The image, the system, and the jobs, each with an answerer of what it asks devices, on one thread.
 #[derive(Drop)]
 pub struct Core<D: Device, A: Answerer<Fresh<D>>, O: Opening> {
     alloc: Global,
@@ -82,8 +83,8 @@ impl<D: Device, A: Answerer<Fresh<D>>, O: Opening> Model for Core<D, A, O> {
 }
 
 impl<D: Device, A: Answerer<Fresh<D>>, O: Opening> Core<D, A, O> {
-    /// A core of a system of which nothing was asked yet, with a row for each of the starts. Only names of globals may have texts in its globals.
-    /// At want of memory all comes back that the system was to be made of.
+    /// A core of a system of which nothing was asked yet, with a row for each of the starts. Only names of globals may have texts in its globals, and the
+    /// image's limit is the greater one, so that a job may be told every text. At want of memory all comes back that the system was to be made of.
     pub fn new(
         alloc: Global,
         image: Image,
@@ -91,6 +92,7 @@ impl<D: Device, A: Answerer<Fresh<D>>, O: Opening> Core<D, A, O> {
         pool: Pool<D>,
         starts: Vec<Start>,
     ) -> Result<Core<D, A, O>, Unmade<D>>
+        requires long { image.bounds.limit ≡ V2 }
         requires opening { opening_of globals.content pool starts.items ≡ O.opening }
         requires global { are_global globals.content ≡ true }
         requires some { 1 ≤ length starts.items }
@@ -109,6 +111,7 @@ impl<D: Device, A: Answerer<Fresh<D>>, O: Opening> Core<D, A, O> {
                 starts,
             });
         };
+        let _ = most_events(&image); // for the proof
         let system = System::new(alloc, globals, pool, starts)?;
         Ok(Core {
             alloc,
@@ -131,7 +134,8 @@ impl<D: Device, A: Answerer<Fresh<D>>, O: Opening> Core<D, A, O> {
         if self.over[at] {
             return Err(Refusal::Ended);
         }
-        if self.order.len() >= HISTORY_LIMIT {
+        let most = most_events(&self.image);
+        if self.order.len() >= most {
             return Err(Refusal::Full);
         }
         if !self.system.is_live(step.job) {
@@ -222,7 +226,7 @@ impl<D: Device, A: Answerer<Fresh<D>>, O: Opening> Core<D, A, O> {
         )
     }
 
-    /// The routines.
+    /// The image.
     pub fn image(&self) -> &Image
         ensures { result.now ≡ self.now.image }
     {
@@ -230,11 +234,13 @@ impl<D: Device, A: Answerer<Fresh<D>>, O: Opening> Core<D, A, O> {
     }
 
     /// How many events there are. The history is a run, whatever steps were made, from an opening at which no transaction is open, and no longer
-    /// than it may be. What is shown of jobs is shown of each that there may be.
+    /// than the image's bounds say. What is shown of jobs is shown of each that there may be.
     pub fn len(&self) -> usize
         ensures value { result ≡ length self.now.history }
-        ensures within { length self.now.history ≤ history_limit }
-        ensures run { IsRun (routines_of self.now.image) O.opening self.now.history }
+        ensures within { length self.now.history ≤ self.now.image.bounds.events }
+        ensures most { self.now.image.bounds.events ≤ history_limit }
+        ensures long { self.now.image.bounds.limit ≡ V2 }
+        ensures run { IsRun (program_of self.now.image) O.opening self.now.history }
         ensures none_open { NoneIsOpen O.opening }
         ensures over { length self.now.over ≡ rows_limit }
         ensures spent { length self.now.spent ≡ rows_limit }
@@ -285,7 +291,7 @@ impl<D: Device, A: Answerer<Fresh<D>>, O: Opening> Core<D, A, O> {
         ensures shown { IfSome result (λ found. (at : AtAsk) × (stand_at self.now.stands job ≡ Some at) × IsSeenAt found.now.run at) }
         ensures beside { IfSome result (λ found. (at : AtAsk) (row : Row) → stand_at self.now.stands job ≡ Some at
             → row_at (state_of O.opening self.now.history).rows job ≡ Some row
-            → StandsAt (routines_of self.now.image) (start_in job row.start) (log_of job self.now.history) at) }
+            → StandsAt (program_of self.now.image) (start_in job row.start) (log_of job self.now.history) at) }
         ensures log { IfSome result (λ found. found.now.run.log ≡ log_of job self.now.history) }
         ensures run { IfSome result
             (λ found. (row : Row) × (row_at (state_of O.opening self.now.history).rows job ≡ Some row)
@@ -444,7 +450,7 @@ fn go<D: Device, A: Answerer<Fresh<D>>, O: Opening>(
     requires all { length over.old ≡ rows_limit }
     requires kept { (waiting : Option Claimed) × AreKept A.answering image.now O.opening system.old slots.old waiting order.old.items }
     requires live { IsLive (state_of O.opening system.old.history).rows (suc at) }
-    requires short { length order.old.items < history_limit }
+    requires short { length order.old.items < image.now.bounds.events }
     requires room { vec_len order.old < vec_capacity order.old }
     ensures kept { (waiting : Option Claimed) → AreKept A.answering image.now O.opening system.old slots.old waiting order.old.items
         → AreKept A.answering image.now O.opening system.new slots.new waiting order.new.items }
@@ -507,6 +513,14 @@ fn go_ready<D: Device, A: Answerer<Fresh<D>>, O: Opening, R, F: FnOnce(&Job) -> 
         Ok(Turn::Ended) => Ok(Ready::Ended),
         Err(_) => Err(Refusal::Memory),
     }
+}
+
+/// How many events a run in this image may have: no more than any history.
+pub fn most_events(image: &Image) -> usize
+    ensures value { result ≡ image.now.bounds.events }
+    ensures within { result ≤ history_limit }
+{
+    image.bounds().events as usize
 }
 
 // As many jobs as there may be, none of which was seen to end.

@@ -1,4 +1,4 @@
--- A step leaves the routines as they are, and the record grows at its end.
+-- A step leaves the image as it is, and the record grows at its end.
 use Rattle.std.specs.Prelude.{None, Result, Ok, Err, take, ◌⊎◌}
 use Rattle.std.proofs.Common.{◌≡◌, ℕ, ◌<◌, ◌≤◌, [], ◌∷◌, ◌++◌, length, Bool, sym, ap, ◌∙◌, subst, inl, inr, append-nil, length-append, arith}
 use Rattle.std.proofs.lemmas.List.{take-append-le}
@@ -19,12 +19,12 @@ use Rattle.mj_core.specs.Gives.{is_late, stands_so, MayGoOn, CoreStepGives, Made
 use Rattle.mj_replica.specs.Playing.{AreStaged}
 use Rattle.mj_replica.specs.Replicas.{Replayed, IsReplica}
 
--- the routines stay, and there are as many events or more, but no more than there may be
+-- the image stays, and there are as many events or more, but no more than there may be
 pub record Grows (old new : Shown) : Type 0 where
   pub image : new.image ≡ old.image
   pub more : History
   pub history : new.history ≡ old.history ++ more
-  pub within : length old.history ≤ history_limit → length new.history ≤ history_limit
+  pub within : old.image.bounds.events ≤ history_limit → length old.history ≤ history_limit → length new.history ≤ history_limit
 
 -- nothing happened
 still : (old new : Shown) → new.image ≡ old.image → new.history ≡ old.history → Grows old new
@@ -32,7 +32,7 @@ still old new image history = record {
   image = image;
   more = [];
   history = history ∙ sym (append-nil old.history);
-  within = λ le. subst (λ h. length h ≤ history_limit) (sym history) le;
+  within = λ most le. subst (λ h. length h ≤ history_limit) (sym history) le;
 }
 
 abbrev image_of : Shown → Loaded
@@ -45,15 +45,15 @@ same : (old new : Shown) → new ≡ old → Grows old new
 same old new is = still old new (ap image_of is) (ap history_of is)
 
 -- one event happened
-one : (old new : Shown) (e : Event) → new.image ≡ old.image → new.history ≡ old.history ++ e ∷ [] → length old.history < history_limit → Grows old new
+one : (old new : Shown) (e : Event) → new.image ≡ old.image → new.history ≡ old.history ++ e ∷ [] → length old.history < old.image.bounds.events → Grows old new
 one old new e image history room = record {
   image = image;
   more = e ∷ [];
   history = history;
-  within = λ le. (let long = length-append old.history (e ∷ []) in let same_long = ap (λ (h : History). length h) history in omega (arith, long, same_long, room));
+  within = λ most le. (let long = length-append old.history (e ∷ []) in let same_long = ap (λ (h : History). length h) history in omega (arith, long, same_long, room, most));
 }
 
-module _ (opening : Shared) (old new : Shown) (room : length old.history < history_limit) (job : ℕ) (row : Row) (late : Bool) where
+module _ (opening : Shared) (old new : Shown) (room : length old.history < old.image.bounds.events) (job : ℕ) (row : Row) (late : Bool) where
   made_grows : (answer : Result Seen Refusal) → Made opening old job row late answer new → Grows old new
   made_grows (Ok seen.Ended) made = still old new (ap image_of made.1) (ap history_of made.1)
   made_grows (Ok (seen.Event at)) made =

@@ -7,7 +7,7 @@ use Rattle.std.proofs.lemmas.List.{take-append-le}
 use Rattle.std.proofs.lemmas.Option.{none-some, same_Some}
 use Rattle.mj_semantics.specs.State.{Frame, Locals, Place}
 use Rattle.mj_store.specs.Questions.{Content}
-use Rattle.mj_load.specs.Image.{Loaded, routines_of}
+use Rattle.mj_load.specs.Image.{Loaded, program_of}
 use Rattle.mj_jobs.specs.Rows.{row_at}
 use Rattle.mj_core.specs.Shown.{Shown}
 use Rattle.mj_sys.specs.Shared.{Shared}
@@ -44,25 +44,25 @@ module _ (image : Loaded) (opening : Shared) (front : History) (view : Viewed) (
   locals_none f (Some x) e = tt
 
   pub frames_some : {B : Type 0} (f : B → List Frame) (shown : Option B) → option_map f shown ≡ frames_seen (job_in view job)
-      → IfSome shown (λ x. (locals : Locals) × HasStood (routines_of image) opening front job locals (map (λ (f : Frame). f.place) (f x)))
+      → IfSome shown (λ x. (locals : Locals) × HasStood (program_of image) opening front job locals (map (λ (f : Frame). f.place) (f x)))
   frames_some f None e = tt
   frames_some f (Some x) e = by (job_in view job) refl e where
     by : (stand : Option JobView) → job_in view job ≡ stand → Some (f x) ≡ frames_seen stand
-        → (locals : Locals) × HasStood (routines_of image) opening front job locals (map (λ (f : Frame). f.place) (f x))
+        → (locals : Locals) × HasStood (program_of image) opening front job locals (map (λ (f : Frame). f.place) (f x))
     by None here e = absurd (none-some (f x) (sym e))
     by (Some stand) here e =
-        let P : List Frame → Type 0 = λ frames. HasStood (routines_of image) opening front job stand.locals (map (λ (f : Frame). f.place) frames) in
+        let P : List Frame → Type 0 = λ frames. HasStood (program_of image) opening front job stand.locals (map (λ (f : Frame). f.place) frames) in
         (stand.locals, subst P (sym (same_Some (f x) stand.frames e)) (is.some job stand here))
 
   pub locals_some : {B : Type 0} (f : B → Content) (shown : Option B) → option_map f shown ≡ locals_seen (job_in view job)
-      → IfSome shown (λ x. (places : List Place) × HasStood (routines_of image) opening front job (f x) places)
+      → IfSome shown (λ x. (places : List Place) × HasStood (program_of image) opening front job (f x) places)
   locals_some f None e = tt
   locals_some f (Some x) e = by (job_in view job) refl e where
     by : (stand : Option JobView) → job_in view job ≡ stand → Some (f x) ≡ locals_seen stand
-        → (places : List Place) × HasStood (routines_of image) opening front job (f x) places
+        → (places : List Place) × HasStood (program_of image) opening front job (f x) places
     by None here e = absurd (none-some (f x) (sym e))
     by (Some stand) here e =
-        let P : Locals → Type 0 = λ locals. HasStood (routines_of image) opening front job locals (map (λ (f : Frame). f.place) stand.frames) in
+        let P : Locals → Type 0 = λ locals. HasStood (program_of image) opening front job locals (map (λ (f : Frame). f.place) stand.frames) in
         (map (λ (f : Frame). f.place) stand.frames, subst P (sym (same_Some (f x) stand.locals e)) (is.some job stand here))
 
 -- ---- what is kept while the record grows

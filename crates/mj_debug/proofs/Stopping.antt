@@ -3,7 +3,7 @@ use Rattle.std.specs.Prelude.{Option, Some, None, take, not, ◌&&◌}
 use Rattle.std.proofs.Common.{◌≡◌, ℕ, List, [], ◌∷◌, length, map, Bool, true, false, refl, sym, ap, ◌∙◌, subst}
 use Rattle.std.proofs.lemmas.Option.{none-some, same_Some}
 use Rattle.mj_semantics.specs.State.{State, Frame, Place, places, place_of}
-use Rattle.mj_load.specs.Image.{routines_of}
+use Rattle.mj_load.specs.Image.{program_of}
 use Rattle.mj_jobvm.specs.Jobs.{Running}
 use Rattle.mj_sys.specs.Shared.{Shared}
 use Rattle.mj_sys.specs.History.{History}
@@ -37,11 +37,11 @@ front_whole history place end = ap (λ n. take n history) end ∙ take_whole his
 
 module _ (opening : Shared) (w : Walk) (job : ℕ) (found : Running) (asks : IsAtAsk w.core.image opening w.core.history job found) where
   -- a job that stands at its ask comes to its next ask there
-  pub comes : ComesToAsk (routines_of w.core.image) opening w.core job (places found.run.at.state)
+  pub comes : ComesToAsk (program_of w.core.image) opening w.core job (places found.run.at.state)
   comes = (asks.row, asks.there, (asks.needs.0, asks.ask, found.run.at.state.locals, asks.needs.1))
 
   -- and whether that is one to stop at
-  pub stop_is : (before : Running) → HasStood (routines_of w.core.image) opening w.core.history job before.run.at.state.locals (places before.run.at.state)
+  pub stop_is : (before : Running) → HasStood (program_of w.core.image) opening w.core.history job before.run.at.state.locals (places before.run.at.state)
       → (b : Bool) → stops w.core.image w.marks (place_of before.run.at.state) (place_of found.run.at.state) ≡ b
       → IsStop opening w job (places found.run.at.state) b
   stop_is before stood b is = (
@@ -53,7 +53,7 @@ module _ (opening : Shared) (w : Walk) (job : ℕ) (found : Running) (asks : IsA
         ∙ ap (λ (p : Option Place). stops w.core.image w.marks (place_of before.run.at.state) p) (inner found.run.at.state) ∙ is,
   )
 
-  module _ (before : Running) (stood : HasStood (routines_of w.core.image) opening w.core.history job before.run.at.state.locals (places before.run.at.state)) where
+  module _ (before : Running) (stood : HasStood (program_of w.core.image) opening w.core.history job before.run.at.state.locals (places before.run.at.state)) where
     abbrev Stays : Type 0
     Stays = (lines : List Place) × IsStop opening w job lines false
 

@@ -1,11 +1,11 @@
 -- Jobs that go on in turn, up to a breakpoint.
 use Rattle.std.specs.Prelude.{◌≡◌, ℕ, suc, ◌<◌, List, [], ◌∷◌, length, Bool, true, false, Option, Some, None, option_map, Result, Ok, Err, ◌⊎◌}
 use Rattle.mj_ask.specs.declared.ask.Ask.{Ask}
-use Rattle.mj_ast.specs.Syntax.{Routine}
+use Rattle.mj_semantics.specs.Program.{Program}
 use Rattle.mj_semantics.specs.State.{Locals, Place}
 use Rattle.mj_semantics.specs.Outcome as outcomes
 use Rattle.mj_semantics.specs.Job.{next}
-use Rattle.mj_load.specs.Image.{routines_of}
+use Rattle.mj_load.specs.Image.{program_of}
 use Rattle.mj_jobs.specs.Rows.{Row, row_at}
 use Rattle.mj_jobvm.specs.declared.job.Turn.{Turn}
 use Rattle.mj_jobvm.specs.declared.job.Turn.TheVariants as turns
@@ -29,10 +29,10 @@ use Rattle.mj_debug.specs.Breaks.{stops}
 use Rattle.mj_debug.specs.Walks.{Walk}
 
 -- with its frames at these lines, the innermost first, the job comes to its next ask
-abbrev pub ComesToAsk : List Routine → Shared → Shown → ℕ → List Place → Type 0
-ComesToAsk image opening old job places =
+abbrev pub ComesToAsk : Program → Shared → Shown → ℕ → List Place → Type 0
+ComesToAsk program opening old job places =
     (row : Row) × (row_at (state_of opening old.history).rows job ≡ Some row)
-    × ((n : ℕ) × (a : Ask) × (locals : Locals) × (next image (start_in job row.start) n (replies_of (log_of job old.history)) ≡ outcomes.Needs a locals places))
+    × ((n : ℕ) × (a : Ask) × (locals : Locals) × (next program (start_in job row.start) n (replies_of (log_of job old.history)) ≡ outcomes.Needs a locals places))
 
 -- a routine's name and the number of a line, if there is one
 abbrev pub line_in : Option (List ℕ × ℕ) → Option Place
@@ -47,8 +47,8 @@ innermost (place ∷ places) = Some place
 abbrev pub IsStop : Shared → Walk → ℕ → List Place → Bool → Type 0
 IsStop opening old job places stop =
     (before : List Place) × (locals : Locals)
-    × HasStood (routines_of old.core.image) opening old.core.history job locals before
-    × ComesToAsk (routines_of old.core.image) opening old.core job places
+    × HasStood (program_of old.core.image) opening old.core.history job locals before
+    × ComesToAsk (program_of old.core.image) opening old.core job places
     × (stops old.core.image old.marks (innermost before) (innermost places) ≡ stop)
 
 -- what a step comes to in which the job doesn't come to its next ask

@@ -2,6 +2,7 @@
 
 ghost use Rattle.std.specs.Prelude.{◌≡◌, ◌≤◌, List, [], ◌∷◌, length, map, replicate, All, true, false, Ok, OnOk, OnErr, IfOk, IfErr, IfSome, IfNone, Some};
 ghost use Rattle.std.specs.Prelude.{None};
+ghost use Rattle.mj_text.specs.declared.limit.Limit.TheVariants.{V2};
 ghost use Rattle.mj_dev.specs.Shelves.{principal, left_of};
 ghost use Rattle.mj_frames.specs.Frames.{frames_of, place_at};
 ghost use Rattle.mj_jobs.specs.Rows.{row_at, rows_limit};
@@ -9,7 +10,7 @@ ghost use Rattle.mj_core.specs.Asking.{IsAtAsk, IfAsks, turn_of};
 ghost use Rattle.mj_jobvm.specs.Jobs.{Running};
 ghost use Rattle.mj_jobvm.specs.declared.job.Turn.TheVariants as turns;
 ghost use Rattle.mj_core.specs.declared.seen.Ready.TheVariants as readies;
-ghost use Rattle.mj_load.specs.Image.{routines_of};
+ghost use Rattle.mj_load.specs.Image.{program_of};
 ghost use Rattle.mj_semantics.specs.State as states;
 ghost use Rattle.mj_semantics.specs.State.{place_of};
 ghost use Rattle.mj_sys.specs.History.{state_of};
@@ -135,6 +136,7 @@ impl<D: Device, O: Opening> Debugger<D, Sessions<D>, O> {
         pool: Pool<D>,
         starts: Vec<Start>,
     ) -> Result<Debugger<D, Sessions<D>, O>, Unmade<D>>
+        requires long { image.bounds.limit ≡ V2 }
         requires opening { opening_of globals.content pool starts.items ≡ O.opening }
         requires global { are_global globals.content ≡ true }
         requires some { 1 ≤ length starts.items }
@@ -297,7 +299,7 @@ impl<D: Device, O: Opening> Debugger<D, Sessions<D>, O> {
         requires { self.now.ready ≡ true }
         ensures none { IfNone result (row_at (state_of O.opening (front self.now)).rows job ≡ None) }
         ensures some { IfSome result (λ frames. (locals : states.Locals)
-            × HasStood (routines_of self.now.core.image) O.opening (front self.now) job locals (map (λ f. f.place) (frames_of frames.now))) }
+            × HasStood (program_of self.now.core.image) O.opening (front self.now) job locals (map (λ f. f.place) (frames_of frames.now))) }
     {
         match self.shown() {
             Ok(view) => view.frames(job),
@@ -310,7 +312,7 @@ impl<D: Device, O: Opening> Debugger<D, Sessions<D>, O> {
         requires { self.now.ready ≡ true }
         ensures none { IfNone result (row_at (state_of O.opening (front self.now)).rows job ≡ None) }
         ensures some { IfSome result (λ locals. (places : List states.Place)
-            × HasStood (routines_of self.now.core.image) O.opening (front self.now) job locals.now.now places) }
+            × HasStood (program_of self.now.core.image) O.opening (front self.now) job locals.now.now places) }
     {
         match self.shown() {
             Ok(view) => view.locals(job),
@@ -488,6 +490,7 @@ fn step_on<D: Device, O: Opening>(
         → IsReplica core.new.image O.opening core.new.history replica }
     ensures views { (views : Window) → AreViews core.old.image O.opening core.old.history views → AreViews core.new.image O.opening core.new.history views }
 {
+    let _events = core.len(); // for the proof
     core.step(step)
 }
 

@@ -59,7 +59,7 @@ marks_lead column (NewPage ∷ marks) some = from_start marks
 abbrev pub gap : List FormatMark → ℤ → ℕ → ℕ
 gap marks n column = place n - column_after column (map mark_byte marks)
 
-pub tab_long : (marks : List FormatMark) (n : ℤ) (column : ℕ) → 32767 < gap marks n column → 32767 < length (tab_bytes marks n column)
-tab_long marks n column over =
+pub tab_long : (most : ℕ) (marks : List FormatMark) (n : ℤ) (column : ℕ) → most < gap marks n column → most < length (tab_bytes marks n column)
+tab_long most marks n column over =
     let k : ℕ = gap marks n column in
     omega (arith, over, length-append (map mark_byte marks) (replicate k 32), length-replicate {A = ℕ} k 32)

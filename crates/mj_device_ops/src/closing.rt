@@ -7,7 +7,7 @@ ghost use Rattle.mj_machine.specs.Kept.{Obeys, Stays, replied};
 use mj_ask::{Ask, DeviceAsk, Reply, SharedAsk};
 use mj_machine::asking::{is_failed, wait};
 use mj_machine::quiet::fail;
-use mj_machine::{Control, Machine, STEPS_LIMIT, TurnOutcome, stack};
+use mj_machine::{Control, Machine, TurnOutcome, stack};
 use mj_text::Fault;
 use std::alloc::{AllocError, Global};
 
@@ -30,7 +30,7 @@ pub fn end_session(
         machine.control = Control::At(pc + 3);
         return Ok(TurnOutcome::Next);
     }
-    if machine.replied >= STEPS_LIMIT {
+    if machine.replied >= machine.bounds.events as u64 {
         return Ok(fail(Fault::Steps, machine));
     }
     match given {
@@ -58,7 +58,7 @@ pub fn give_up_failed(
     ensures ok { IfOk result (λ step. (pc : ℕ) → Obeys instrs.GiveUpFailedDevice pc machine.old (replied given.entry) step machine.new) }
     ensures err { OnErr result (Stays machine.old machine.new) }
 {
-    if machine.replied >= STEPS_LIMIT {
+    if machine.replied >= machine.bounds.events as u64 {
         return Ok(fail(Fault::Steps, machine));
     }
     match given {
@@ -87,7 +87,7 @@ pub fn give_up(
     ensures ok { IfOk result (λ step. Obeys instrs.GiveUpDevice pc machine.old (replied given.entry) step machine.new) }
     ensures err { OnErr result (Stays machine.old machine.new) }
 {
-    if machine.replied >= STEPS_LIMIT {
+    if machine.replied >= machine.bounds.events as u64 {
         return Ok(fail(Fault::Steps, machine));
     }
     match given {

@@ -15,7 +15,7 @@ use mj_machine::quiet::fail;
 use mj_machine::{Machine, TurnOutcome, stack};
 use mj_num::Num;
 use mj_pcode::Marks;
-use mj_text::{Fault, TEXT_LIMIT};
+use mj_text::Fault;
 use std::alloc::{AllocError, Global};
 
 /// Writes marks, and then spaces up to the column that the topmost operand says.
@@ -37,7 +37,8 @@ pub fn tab(
         Err(fault) => return Ok(fail(fault, machine)),
     };
     let spaces = spaces(marks.as_slice(), machine.devices.column(), column);
-    if spaces > TEXT_LIMIT as u64 {
+    let most = machine.bounds.limit.bytes();
+    if spaces > most as u64 {
         return Ok(fail(Fault::Length, machine));
     }
     let bytes = filled(alloc, marks.as_slice(), spaces as usize)?;

@@ -14,7 +14,7 @@ use mj_ask::{Ask, DeviceAsk, Reply, SharedAsk};
 use mj_lock_ops::timed::{timeout_of, wait_size};
 use mj_machine::asking::{self, is_failed};
 use mj_machine::quiet::fail;
-use mj_machine::{Control, Machine, STEPS_LIMIT, TurnOutcome, stack};
+use mj_machine::{Control, Machine, TurnOutcome, stack};
 use mj_num::Num;
 use mj_pcode::Wait;
 use mj_text::Fault;
@@ -49,7 +49,7 @@ pub fn open_device(
     if machine.devices.len() > DEVICES_LIMIT {
         return Ok(fail(Fault::Limit, machine));
     }
-    if machine.replied >= STEPS_LIMIT {
+    if machine.replied >= machine.bounds.events as u64 {
         return Ok(fail(Fault::Steps, machine));
     }
     match given {
@@ -71,7 +71,7 @@ fn take_opened(
 ) -> Result<TurnOutcome, AllocError>
     requires next { pc + 2 < 2 ^ 64 }
     requires enough { above + 1 ≤ length machine.old.stack.items }
-    requires more { machine.old.replied < told.steps_limit }
+    requires more { machine.old.replied < machine.old.bounds.events }
     ensures ok { IfOk result (λ step. TakesReply (open_taken machine.old pc above timeout reply.now) machine.old step machine.new) }
     ensures err { OnErr result (Stays machine.old machine.new) }
 {
@@ -138,7 +138,7 @@ pub fn begin_session(
     ensures ok { IfOk result (λ step. Obeys instrs.BeginSession pc machine.old (replied given.entry) step machine.new) }
     ensures err { OnErr result (Stays machine.old machine.new) }
 {
-    if machine.replied >= STEPS_LIMIT {
+    if machine.replied >= machine.bounds.events as u64 {
         return Ok(fail(Fault::Steps, machine));
     }
     match given {

@@ -2,7 +2,6 @@
 
 ghost use Rattle.std.specs.Prelude.{◌≡◌, ◌+◌, ◌<◌, ◌≤◌, ◌^◌, IfOk, OnErr, length};
 ghost use Rattle.mj_semantics.specs.Devices as devices;
-ghost use Rattle.mj_semantics.specs.Outcome.{steps_limit};
 ghost use Rattle.mj_pcode.specs.Machine as machines;
 ghost use Rattle.mj_pcode.specs.declared.instr.Instr.TheVariants as instrs;
 ghost use Rattle.mj_machine.specs.Kept.{Obeys, TakesReply, Stays, with_value, replied};
@@ -14,7 +13,7 @@ use mj_ast::ReadMode;
 use mj_lock_ops::timed::{timeout_of, wait_size};
 use mj_machine::asking::{self, is_failed};
 use mj_machine::quiet::fail;
-use mj_machine::{Control, Machine, STEPS_LIMIT, TurnOutcome, stack};
+use mj_machine::{Control, Machine, TurnOutcome, stack};
 use mj_num::Num;
 use mj_pcode::Wait;
 use mj_text::{Fault, Text};
@@ -39,7 +38,7 @@ pub fn read(
         Ok(timeout) => timeout,
         Err(fault) => return Ok(fail(fault, machine)),
     };
-    if machine.replied >= STEPS_LIMIT {
+    if machine.replied >= machine.bounds.events as u64 {
         return Ok(fail(Fault::Steps, machine));
     }
     match given {
@@ -73,7 +72,7 @@ fn take_input(
 ) -> Result<TurnOutcome, AllocError>
     requires next { pc + 1 < 2 ^ 64 }
     requires enough { above ≤ length machine.old.stack.items }
-    requires more { machine.old.replied < steps_limit }
+    requires more { machine.old.replied < machine.old.bounds.events }
     ensures ok { IfOk result (λ step. TakesReply (λ next.
         input_taken machine.old.devices.current mode timeout reply.now (with_value machine.old pc above next)) machine.old step machine.new) }
     ensures err { OnErr result (Stays machine.old machine.new) }

@@ -4,7 +4,9 @@ use Rattle.mj_gfile.specs.Spelling.{listed_name, listed_text}
 use Rattle.mj_semantics.specs.State.{Place}
 use Rattle.mj_subs.specs.Name.{Name}
 use Rattle.mj_locktab.specs.Locks.{Locks, job_of, name_of}
-use Rattle.mj_trace.specs.Spelling.{event_text}
+use Rattle.mj_text.specs.declared.limit.Limit.TheVariants.{V2}
+use Rattle.mj_trace.specs.declared.form.Form.TheVariants.{Second}
+use Rattle.mj_trace.specs.Spelling.{placeless, event_text}
 use Rattle.mj_sys.specs.declared.event.Event.{Event}
 use Rattle.mj_sys.specs.declared.served.Held.{Held}
 use Rattle.mj_sys.specs.declared.served.Held.TheVariants as helds
@@ -18,10 +20,10 @@ use Rattle.mj_steps.specs.declared.step.Refusal.TheVariants as refusals
 abbrev pub lined : List ℕ → List ℕ
 lined bytes = bytes ++ 10 ∷ []
 
--- the line of an event, as a trace has it; none where there is no event
+-- the line of an event, as a trace of today's form has it; none where there is no event
 abbrev pub line_of_event : Option Event → List ℕ
 line_of_event None = []
-line_of_event (Some e) = lined (event_text e.job e.ask e.reply)
+line_of_event (Some e) = lined (event_text (Second V2) (placeless e.job e.ask e.reply))
 
 -- the line of the event at a place of the record, from 0
 abbrev pub event_line : History → ℕ → List ℕ

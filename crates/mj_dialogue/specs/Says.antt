@@ -2,7 +2,7 @@
 use Rattle.std.specs.Prelude.{◌≡◌, ◌==◌, ℕ, zero, suc, ◌<◌, List, [], ◌++◌, Bool, true, false, Option, None, Some, Result, Ok, Err, codes, ◌⊎◌}
 use Rattle.mj_semantics.specs.State.{Locals, Place}
 use Rattle.mj_gfile.specs.Spelling.{listed_lines}
-use Rattle.mj_load.specs.Image.{routines_of}
+use Rattle.mj_load.specs.Image.{program_of}
 use Rattle.mj_jobs.specs.Rows.{row_at}
 use Rattle.mj_sys.specs.Shared.{Shared}
 use Rattle.mj_sys.specs.History.{History, state_of}
@@ -83,13 +83,13 @@ IsNoJob opening walk job bytes = (row_at (state_of opening (front walk)).rows jo
 abbrev pub ShowsFrames : Shared → Walk → ℕ → List ℕ → Type 0
 ShowsFrames opening walk job bytes =
     IsNoJob opening walk job bytes
-    ⊎ ((locals : Locals) × (places : List Place) × HasStood (routines_of walk.core.image) opening (front walk) job locals places × (bytes ≡ spot_lines places))
+    ⊎ ((locals : Locals) × (places : List Place) × HasStood (program_of walk.core.image) opening (front walk) job locals places × (bytes ≡ spot_lines places))
 
 -- the lines of its locals there
 abbrev pub ShowsLocals : Shared → Walk → ℕ → List ℕ → Type 0
 ShowsLocals opening walk job bytes =
     IsNoJob opening walk job bytes
-    ⊎ ((locals : Locals) × (places : List Place) × HasStood (routines_of walk.core.image) opening (front walk) job locals places × (bytes ≡ listed_lines locals))
+    ⊎ ((locals : Locals) × (places : List Place) × HasStood (program_of walk.core.image) opening (front walk) job locals places × (bytes ≡ listed_lines locals))
 
 -- nothing changes but what is at hand
 abbrev pub ChangesNothing : Walk → Walk → Type 0

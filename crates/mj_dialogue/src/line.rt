@@ -131,8 +131,8 @@ fn clear(alloc: Global, line: &[u8]) -> Result<Option<Command>, AllocError>
     }
 }
 
-// The line of a routine that is spelled so.
-fn spot_of(alloc: Global, bytes: &[u8]) -> Result<Option<(Text, u32)>, AllocError>
+/// The line of a routine that is spelled so.
+pub fn spot_of(alloc: Global, bytes: &[u8]) -> Result<Option<(Text, u32)>, AllocError>
     ensures some { IfOk result (λ found. IfSome found (λ spot. IsSpot spot.0 spot.1 × (bytes.now ≡ spot_text spot.0 spot.1))) }
     ensures none { IfOk result
         (λ found. IfNone found ((routine : List ℕ) (number : ℕ) → IsSpot routine number → bytes.now ≢ spot_text routine number)) }

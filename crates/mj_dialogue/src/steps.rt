@@ -21,7 +21,7 @@ use mj_steps::{Refusal, Step};
 use mj_sys::Opening;
 use std::alloc::{AllocError, Global};
 
-// What is told of a step, and whether it isn't made since the record is full.
+/// What is told of a step, and whether it isn't made since the record is full.
 #[derive(Drop)]
 pub struct Told {
     pub bytes: Vec<u8>,
@@ -42,8 +42,8 @@ pub fn step<D: Device, O: Opening>(
     tell(alloc, debugger.core(), &answer)
 }
 
-// Tells what came of a step.
-fn tell<D: Device, O: Opening>(
+/// Tells what came of a step.
+pub fn tell<D: Device, O: Opening>(
     alloc: Global,
     core: &Core<D, Sessions<D>, O>,
     answer: &Result<Seen, WalkRefusal>,
@@ -90,7 +90,7 @@ fn tell_refusal(alloc: Global, why: Refusal) -> Result<Told, AllocError>
     })
 }
 
-// One step of many in turn: what is told of it, and whether others follow.
+/// One step of many in turn: what is told of it, and whether others follow.
 #[derive(Drop)]
 pub struct Passed {
     pub told: Told,
@@ -114,8 +114,8 @@ pub fn pass<D: Device, O: Opening>(
     }
 }
 
-// Tells what came of one step of many in turn.
-fn tell_gone<D: Device, O: Opening>(
+/// Tells what came of one step of many in turn.
+pub fn tell_gone<D: Device, O: Opening>(
     alloc: Global,
     core: &Core<D, Sessions<D>, O>,
     gone: &Gone,

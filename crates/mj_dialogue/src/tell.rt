@@ -9,7 +9,8 @@ use mj_dev::Device;
 use mj_gfile::{put_name, put_text};
 use mj_sessions::Sessions;
 use mj_sys::{Held, Opening};
-use mj_text::{Digits, Text};
+use mj_text::{Digits, Limit, Text};
+use mj_trace::{Form, event_line};
 use std::alloc::{AllocError, Global};
 
 // Writes a line of these words.
@@ -22,7 +23,7 @@ pub fn line(alloc: Global, words: &[u8]) -> Result<Vec<u8>, AllocError>
     Ok(bytes)
 }
 
-// Writes the line of the event at a place of the record, from 0, as a trace has it.
+// Writes the line of the event at a place of the record, from 0, as a trace of today's form has it.
 pub fn event<D: Device, O: Opening>(
     alloc: Global,
     core: &Core<D, Sessions<D>, O>,
@@ -33,7 +34,7 @@ pub fn event<D: Device, O: Opening>(
     let Some((job, ask, reply)) = core.event(at) else {
         return Ok(Vec::new(alloc));
     };
-    let mut bytes = mj_trace::event_line(alloc, job, ask, reply)?;
+    let mut bytes = event_line(alloc, Form::Second(Limit::V2), job, None, ask, reply)?;
     bytes.push(b'\n')?;
     Ok(bytes)
 }
@@ -61,7 +62,7 @@ fn put_held(bytes: &mut Vec<u8>, held: &Held) -> Result<(), AllocError>
     }
 }
 
-// Puts a line of a routine to the end: `R:L`, and a line's end.
+/// Puts a line of a routine to the end: `R:L`, and a line's end.
 pub fn put_spot(bytes: &mut Vec<u8>, routine: &Text, line: u32) -> Result<(), AllocError>
     ensures { OnOk result (bytes.new.items ≡ bytes.old.items ++ spot_line routine.now line) }
 {

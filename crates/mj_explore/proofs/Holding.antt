@@ -7,7 +7,7 @@ use Rattle.std.proofs.lemmas.List.{get_or-set_same, length-append}
 use Rattle.std.proofs.lemmas.Option.{slice_get_within}
 use Rattle.mj_ask.specs.Fits.{timeout_of}
 use Rattle.mj_jobs.specs.Rows.{Row, row_at, IsLive}
-use Rattle.mj_load.specs.Image.{Loaded, routines_of}
+use Rattle.mj_load.specs.Image.{Loaded, program_of}
 use Rattle.mj_sessions.specs.Asked.{Answering}
 use Rattle.mj_sys.specs.declared.event.Event.{Event}
 use Rattle.mj_sys.specs.Shared.{Shared}
@@ -56,7 +56,7 @@ numbered rows (suc k) row is = (omega arith, omega (arith, slice_get_within rows
 -- the job is held, and nothing was asked or told
 abbrev pub IsHeldStill : Shared → Shown → Shown → ℕ → Type 0
 IsHeldStill opening old new job =
-    (IsLive (state_of opening old.history).rows job → IsHeld (routines_of old.image) opening old.history job) × (new.history ≡ old.history) × (new.image ≡ old.image)
+    (IsLive (state_of opening old.history).rows job → IsHeld (program_of old.image) opening old.history job) × (new.history ≡ old.history) × (new.image ≡ old.image)
 
 abbrev history_of : Shown → History
 history_of s = s.history
@@ -160,12 +160,12 @@ one_held_more P done before this job up = by (leb job done) refl
 
 -- the job is held, if it goes on
 abbrev pub IsHeldIn : Shared → Shown → ℕ → Type 0
-IsHeldIn opening s job = IsLive (state_of opening s.history).rows job → IsHeld (routines_of s.image) opening s.history job
+IsHeldIn opening s job = IsLive (state_of opening s.history).rows job → IsHeld (program_of s.image) opening s.history job
 
 -- and so where the history and the routines are the same
 pub held_before : (opening : Shared) (now before : Shown) (job : ℕ) → now.history ≡ before.history → now.image ≡ before.image → IsHeldIn opening now job
     → IsHeldIn opening before job
 held_before opening now before job h i held =
-    let H : History → Type 0 = λ x. IsLive (state_of opening x).rows job → IsHeld (routines_of now.image) opening x job in
-    let I : Loaded → Type 0 = λ x. IsLive (state_of opening before.history).rows job → IsHeld (routines_of x) opening before.history job in
+    let H : History → Type 0 = λ x. IsLive (state_of opening x).rows job → IsHeld (program_of now.image) opening x job in
+    let I : Loaded → Type 0 = λ x. IsLive (state_of opening before.history).rows job → IsHeld (program_of x) opening before.history job in
     subst I i (subst H h held)

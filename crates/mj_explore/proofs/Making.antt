@@ -8,7 +8,7 @@ use Rattle.mj_sys.specs.Shared.{Shared}
 use Rattle.mj_sys.specs.History.{History}
 use Rattle.mj_explore.specs.Scripts.{Scripted}
 use Rattle.mj_explore.specs.Ends.{end_text, noted, different}
-use Rattle.mj_load.specs.Image.{Loaded, routines_of}
+use Rattle.mj_load.specs.Image.{Loaded, program_of}
 use Rattle.mj_steps.specs.declared.step.Step.{Step}
 use Rattle.mj_steps.specs.declared.drive.Ending.{Ending}
 use Rattle.mj_steps.specs.declared.drive.Ending.TheVariants as endings
@@ -71,14 +71,14 @@ still_of script opening old core image is begins run =
 
 -- a run that shows what is looked for is found by its steps
 pub found_for : (script : Scripted) (opening : Shared) (goal : Option Goal) (steps : List Step) (core : Shown) → AreMade script opening steps endings.Over core
-    → IsShownFor goal (routines_of core.image) opening core.history → IsFoundFor script goal opening steps
+    → IsShownFor goal (program_of core.image) opening core.history → IsFoundFor script goal opening steps
 found_for script opening None steps core made shown = shown
 found_for script opening (Some goal) steps core made shown = (core, made, shown)
 
 -- where it is told of a run that it shows it, of its steps, and that they were all made
 pub all_found : {V E : Type 0} (items : V → List Step) (script : Scripted) (opening : Shared) (goal : Option Goal) (made : List Step) (ending : Ending) (core : Shown)
     (result : Result (Option V) E) → AreMade script opening made ending core
-    → IfOk result (λ found. OnSome found (IsShownFor goal (routines_of core.image) opening core.history))
+    → IfOk result (λ found. OnSome found (IsShownFor goal (program_of core.image) opening core.history))
     → IfOk result (λ found. IfSome found (λ steps. items steps ≡ made)) → IfOk result (λ found. OnSome found (ending ≡ endings.Over))
     → IfOk result (λ found. IfSome found (λ steps. IsFoundFor script goal opening (items steps)))
 all_found items script opening goal made ending core (Err e) made_so shown same over = tt
@@ -90,7 +90,7 @@ all_found items script opening goal made ending core (Ok (Some steps)) made_so s
 
 -- where it is told of steps that were all made whether what they left shows it
 pub found_where : {E : Type 0} (script : Scripted) (opening : Shared) (goal : Goal) (steps : List Step) (core : Shown) (result : Result Bool E)
-    → AreMade script opening steps endings.Over core → IfOk result (λ is. is ≡ true → Shows goal (routines_of core.image) opening core.history)
+    → AreMade script opening steps endings.Over core → IfOk result (λ is. is ≡ true → Shows goal (program_of core.image) opening core.history)
     → IfOk result (λ is. is ≡ true → IsFound script goal opening steps)
 found_where script opening goal steps core (Err e) made shown = tt
 found_where script opening goal steps core (Ok is) made shown = λ t. (core, made, shown t)
@@ -110,7 +110,7 @@ where_some {A = A} P o a is told =
 
 -- the jobs of an expression's script came to their end, and this is what the first wrote
 pub is_judged : (script : Scripted) (opening : Shared) (old core : Shown) (image : Loaded) (untrue : Bool) (out : List ℕ) → IsImageOf script.sources image
-    → old ≡ begun image → AreSteps by_memory opening old core → IsRun (routines_of core.image) opening core.history → is_over opening core.history ≡ true
+    → old ≡ begun image → AreSteps by_memory opening old core → IsRun (program_of core.image) opening core.history → is_over opening core.history ≡ true
     → out ≡ out_of core.history 1 principal 1 → untrue ≡ not (bytes_eq out (codes "1")) → IsJudged script opening untrue
 is_judged script opening old core image answer out is begins steps run over wrote says = (
   core.image,

@@ -2,6 +2,7 @@
 use Rattle.std.specs.Prelude.{ℕ, zero, suc, List, [], ◌∷◌, ◌++◌, length, decimal, if◌then◌else◌}
 use Rattle.std.specs.List.{list_any}
 use Rattle.std.specs.Str.{bytes_eq}
+use Rattle.mj_text.specs.declared.limit.Limit.TheVariants.{V2}
 use Rattle.mj_dev.specs.Shelves.{principal}
 use Rattle.mj_gfile.specs.Spelling.{listing_of}
 use Rattle.mj_sys.specs.Shared.{Shared}
@@ -20,7 +21,7 @@ abbrev pub end_text : Shared → History → List ℕ
 end_text opening history =
     (if is_over opening history then 43 else 45)
     ∷ (outputs_of (λ job. out_of history job principal 1) (length (state_of opening history).rows)
-    ++ listing_of (state_of opening history).globals)
+    ++ listing_of V2 (state_of opening history).globals)
 
 -- the different ends that were seen, and one more, if it wasn't
 abbrev pub noted : List (List ℕ) → List ℕ → List (List ℕ)

@@ -3,12 +3,12 @@ use Rattle.std.specs.Prelude.{◌≡◌, ◌<◌, ℕ, List, length, map, Bool, 
 use Rattle.std.specs.List.{count_by}
 use Rattle.std.specs.Str.{bytes_eq}
 use Rattle.mj_ask.specs.Fits.{timeout_of}
-use Rattle.mj_ast.specs.Syntax.{Routine}
+use Rattle.mj_semantics.specs.Program.{Program}
 use Rattle.mj_dev.specs.Shelves.{principal}
 use Rattle.mj_dev.specs.Supply.{Supply}
 use Rattle.mj_dev.specs.Told.{IsToldBy}
 use Rattle.mj_jobs.specs.Rows.{Row, row_at, IsLive}
-use Rattle.mj_load.specs.Image.{Loaded, routines_of}
+use Rattle.mj_load.specs.Image.{Loaded, program_of}
 use Rattle.mj_sessions.specs.Answers.{IsReading}
 use Rattle.mj_sessions.specs.Asked.{Answering}
 use Rattle.mj_sys.specs.Shared.{Shared, served}
@@ -34,35 +34,35 @@ by_memory = IsToldBy (λ (m : Supply). 0) (λ m. m.failures) (λ m. m.taken) (λ
 
 -- A job waits for ever, as long as no other goes on: it waits with what it asks, which has no timeout, and nobody gives it that now; or it waits for something
 -- to read.
-abbrev pub IsHeld : List Routine → Shared → History → ℕ → Type 0
-IsHeld routines opening history job =
-    (row : Row) × (at : AtAsk) × (row_at (state_of opening history).rows job ≡ Some row) × Waits routines (start_in job row.start) (log_of job history) at
+abbrev pub IsHeld : Program → Shared → History → ℕ → Type 0
+IsHeld program opening history job =
+    (row : Row) × (at : AtAsk) × (row_at (state_of opening history).rows job ≡ Some row) × Waits program (start_in job row.start) (log_of job history) at
     × (timeout_of at.ask ≡ None) × ((served (state_of opening history) job at.ask false ≡ None) ⊎ IsReading at.ask)
 
 -- not all jobs have ended, and each that hasn't waits for ever
-abbrev pub IsStuck : List Routine → Shared → History → Type 0
-IsStuck routines opening history =
-    (is_over opening history ≡ false) × ((job : ℕ) → IsLive (state_of opening history).rows job → IsHeld routines opening history job)
+abbrev pub IsStuck : Program → Shared → History → Type 0
+IsStuck program opening history =
+    (is_over opening history ≡ false) × ((job : ℕ) → IsLive (state_of opening history).rows job → IsHeld program opening history job)
 
 -- An expression was judged over the globals with which this opening begins: a run of the script that writes 1 where it is true came to its end, and
 -- wrote that or something else.
 abbrev pub IsJudged : Scripted → Shared → Bool → Type 0
 IsJudged script opening untrue =
-    (image : Loaded) × (history : History) × IsImageOf script.sources image × IsRun (routines_of image) opening history × (is_over opening history ≡ true)
+    (image : Loaded) × (history : History) × IsImageOf script.sources image × IsRun (program_of image) opening history × (is_over opening history ≡ true)
     × (untrue ≡ not (bytes_eq (out_of history 1 principal 1) (codes "1")))
 
 -- a history shows what is looked for
-abbrev pub Shows : Goal → List Routine → Shared → History → Type 0
-Shows goals.Fault routines opening history = 0 < count_by (bears marks.Fault) history
-Shows goals.Stuck routines opening history = IsStuck routines opening history
-Shows goals.Clash routines opening history = 0 < count_by (bears marks.Clash) history
-Shows (goals.False condition) routines opening history =
+abbrev pub Shows : Goal → Program → Shared → History → Type 0
+Shows goals.Fault program opening history = 0 < count_by (bears marks.Fault) history
+Shows goals.Stuck program opening history = IsStuck program opening history
+Shows goals.Clash program opening history = 0 < count_by (bears marks.Clash) history
+Shows (goals.False condition) program opening history =
     (is_over opening history ≡ true) × IsJudged condition (opening_in condition (state_of opening history).globals) true
 
 -- and so if something is looked for
-abbrev pub IsShownFor : Option Goal → List Routine → Shared → History → Type 0
-IsShownFor None routines opening history = ⊥
-IsShownFor (Some goal) routines opening history = Shows goal routines opening history
+abbrev pub IsShownFor : Option Goal → Program → Shared → History → Type 0
+IsShownFor None program opening history = ⊥
+IsShownFor (Some goal) program opening history = Shows goal program opening history
 
 -- These steps were made, one after the other, on a core of the script's routines of which nothing was asked yet, and left it so.
 abbrev pub AreMade : Scripted → Shared → List Step → Ending → Shown → Type 0
@@ -72,7 +72,7 @@ AreMade script opening steps ending core =
 -- They were all made so, and what they left shows what is looked for.
 abbrev pub IsFound : Scripted → Goal → Shared → List Step → Type 0
 IsFound script goal opening steps =
-    (core : Shown) × AreMade script opening steps endings.Over core × Shows goal (routines_of core.image) opening core.history
+    (core : Shown) × AreMade script opening steps endings.Over core × Shows goal (program_of core.image) opening core.history
 
 -- and so if something is looked for
 abbrev pub IsFoundFor : Scripted → Option Goal → Shared → List Step → Type 0

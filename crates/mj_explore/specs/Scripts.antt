@@ -1,7 +1,9 @@
 -- What runs begin with.
 use Rattle.std.specs.Prelude.{◌≡◌, ℕ, List, [], map, slice_get, Some, None}
 use Rattle.std.specs.List.{AllZip}
+use Rattle.mj_text.specs.declared.limit.Limit.TheVariants.{V2}
 use Rattle.mj_ask.specs.Started.{Started}
+use Rattle.mj_ask.specs.declared.bounds.TheConstants.{EVENTS_LIMIT}
 use Rattle.mj_ast.specs.declared.routine.Routine.{Routine}
 use Rattle.mj_ast.specs.Routines.{IsName}
 use Rattle.mj_ast.specs.Trees.{routine_of}
@@ -40,9 +42,9 @@ supply_names supplies = map (λ supply. supply.name) supplies
 abbrev pub IsReadFrom : List ℕ × List ℕ → Routine → Type 0
 IsReadFrom source routine = (routine.name ≡ source.0) × IsName source.0 × IsRoutineRead source.0 source.1 (routine_of routine)
 
--- an image of these routines, in order
+-- an image of these routines, in order, with the greater limit of texts, in which a run has as many events as where nothing else is said
 abbrev pub IsImageOf : List (List ℕ × List ℕ) → Loaded → Type 0
-IsImageOf sources image = AllZip IsReadFrom sources image.routines
+IsImageOf sources image = AllZip IsReadFrom sources image.routines × (image.bounds ≡ record { limit = V2; events = EVENTS_LIMIT })
 
 -- each is that of a routine, and no two have one name
 abbrev pub CanBeLoaded : List (List ℕ × List ℕ) → Type 0

@@ -1,7 +1,7 @@
 // Runs by chance.
 
 ghost use Rattle.std.specs.Prelude.{◌≡◌, ◌≤◌, true, length, option_map, IfOk, IfSome, IfNone, OnSome};
-ghost use Rattle.mj_load.specs.Image.{routines_of};
+ghost use Rattle.mj_load.specs.Image.{program_of};
 ghost use Rattle.mj_sys.specs.Shared.{are_global};
 ghost use Rattle.mj_explore.specs.Scripts.{opening_in};
 ghost use Rattle.mj_explore.specs.Found.{IsShownFor, IsFoundFor, WereMade, IsMadeAndNoted};
@@ -111,7 +111,7 @@ fn judged<O: Opening>(
     goal: Option<&Goal>,
 ) -> Result<Option<Vec<Step>>, AllocError>
     ensures shown { IfOk result (λ found. OnSome found
-        (IsShownFor (option_map (λ g. g.now) goal.entry) (routines_of jobs.old.image) O.opening jobs.old.history)) }
+        (IsShownFor (option_map (λ g. g.now) goal.entry) (program_of jobs.old.image) O.opening jobs.old.history)) }
     ensures steps { IfOk result (λ found. IfSome found (λ steps. steps.items ≡ made.steps.items)) }
     ensures over { IfOk result (λ found. OnSome found (made.ending ≡ Ending.Over)) }
 {

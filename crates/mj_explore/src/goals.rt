@@ -1,7 +1,7 @@
 // What is looked for in runs.
 
 ghost use Rattle.std.specs.Prelude.{◌≡◌, true, IfOk};
-ghost use Rattle.mj_load.specs.Image.{routines_of};
+ghost use Rattle.mj_load.specs.Image.{program_of};
 ghost use Rattle.mj_sys.specs.History.{state_of};
 ghost use Rattle.mj_explore.specs.Marks.{is_over};
 ghost use Rattle.mj_explore.specs.Scripts.{opening_in};
@@ -43,7 +43,7 @@ pub fn shows<O: Opening>(
     jobs: &mut Jobs<Memory, Sessions<Memory>, O>,
     goal: &Goal,
 ) -> Result<bool, AllocError>
-    ensures { IfOk result (λ is. is ≡ true → Shows goal.now (routines_of jobs.old.image) O.opening jobs.old.history) }
+    ensures { IfOk result (λ is. is ≡ true → Shows goal.now (program_of jobs.old.image) O.opening jobs.old.history) }
 {
     match goal {
         Goal::Fault => Ok(count(&jobs.core, Mark::Fault) > 0),
@@ -55,7 +55,7 @@ pub fn shows<O: Opening>(
 
 // Whether jobs that haven't all ended wait.
 fn is_stuck<O: Opening>(jobs: &mut Jobs<Memory, Sessions<Memory>, O>) -> bool
-    ensures { result ≡ true → IsStuck (routines_of jobs.old.image) O.opening jobs.old.history }
+    ensures { result ≡ true → IsStuck (program_of jobs.old.image) O.opening jobs.old.history }
 {
     if is_over(&jobs.core) {
         return false;

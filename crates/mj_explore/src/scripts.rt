@@ -1,6 +1,7 @@
 // What runs begin with.
 
 ghost use Rattle.std.specs.Prelude.{◌≡◌, ◌≢◌, ◌≤◌, [], true, length, All, IfOk, IfErr, OnOk};
+ghost use Rattle.mj_text.specs.declared.limit.Limit.TheVariants.{V2};
 ghost use Rattle.mj_dev.specs.Heard.{IsFresh};
 ghost use Rattle.mj_dev.specs.Shelves.{principal, added, left_of};
 ghost use Rattle.mj_files.specs.Named.{with_principals};
@@ -22,7 +23,7 @@ use mj_rou::{LoadError, read_or_refused};
 use mj_run::{Jobs, begin_jobs};
 use mj_sessions::Sessions;
 use mj_sys::Opening;
-use mj_text::Text;
+use mj_text::{Limit, Text};
 use std::alloc::{AllocError, Global};
 use std::marker::Model;
 
@@ -126,7 +127,8 @@ impl Script {
 
     // Its routines, loaded. They can be, so that memory alone may be wanting.
     fn image(&self, alloc: Global) -> Result<Image, AllocError>
-        ensures { IfOk result (IsImageOf self.now.sources) }
+        ensures value { IfOk result (IsImageOf self.now.sources) }
+        ensures long { IfOk result (λ image. image.bounds.limit ≡ V2) }
     {
         read_or_refused();
         match loaded(alloc, &self.sources) {
@@ -187,9 +189,10 @@ pub fn begin<O: Opening>(
     }
 }
 
-// Reads the routines of these sources in order, and loads them. The first that is refused ends it.
+// Reads the routines of these sources in order, and loads them, with the greater limit of texts. The first that is refused ends it.
 fn loaded(alloc: Global, sources: &[Source]) -> Result<Image, Unread>
     ensures ok { IfOk result (IsImageOf (sources_of sources.now)) }
+    ensures long { IfOk result (λ image. image.bounds.limit ≡ V2) }
     ensures apart { IfOk result (λ image. CanBeLoaded (sources_of sources.now)) }
     ensures unread { IfErr result (IsUnread (sources_of sources.now)) }
 {
@@ -200,7 +203,7 @@ fn loaded(alloc: Global, sources: &[Source]) -> Result<Image, Unread>
             return Err(Unread::Memory);
         }
     }
-    match load(alloc, routines) {
+    match load(alloc, routines, Limit::V2) {
         Ok(image) => Ok(image),
         Err(mj_load::LoadError::Memory { .. }) => Err(Unread::Memory),
         Err(mj_load::LoadError::Twice { name }) => Err(Unread::Twice { name }),

@@ -2,7 +2,7 @@
 
 ghost use Rattle.std.specs.Prelude.{◌≡◌, ℕ, true};
 ghost use Rattle.mj_jobs.specs.Rows.{IsLive};
-ghost use Rattle.mj_load.specs.Image.{routines_of};
+ghost use Rattle.mj_load.specs.Image.{program_of};
 ghost use Rattle.mj_sys.specs.History.{state_of};
 ghost use Rattle.mj_explore.specs.Found.{IsHeld};
 
@@ -15,7 +15,7 @@ use mj_sys::Opening;
 /// Whether all jobs that haven't ended wait, and none for what it asks with a timeout. Each is stepped once more, which changes nothing where that is so.
 pub fn all_wait<O: Opening>(jobs: &mut Jobs<Memory, Sessions<Memory>, O>) -> bool
     ensures { result ≡ true → (job : ℕ) → IsLive (state_of O.opening jobs.old.history).rows job
-        → IsHeld (routines_of jobs.old.image) O.opening jobs.old.history job }
+        → IsHeld (program_of jobs.old.image) O.opening jobs.old.history job }
 {
     let count = jobs.core.jobs();
     'each: for done in 0..count as u32 {
@@ -28,7 +28,7 @@ pub fn all_wait<O: Opening>(jobs: &mut Jobs<Memory, Sessions<Memory>, O>) -> boo
 
 // Whether a job has ended, or waits without a timeout: then nothing is asked or told.
 fn waits<O: Opening>(jobs: &mut Jobs<Memory, Sessions<Memory>, O>, job: u32) -> bool
-    ensures held { result ≡ true → IsLive (state_of O.opening jobs.old.history).rows job → IsHeld (routines_of jobs.old.image) O.opening jobs.old.history job }
+    ensures held { result ≡ true → IsLive (state_of O.opening jobs.old.history).rows job → IsHeld (program_of jobs.old.image) O.opening jobs.old.history job }
     ensures history { result ≡ true → jobs.new.history ≡ jobs.old.history }
     ensures image { result ≡ true → jobs.new.image ≡ jobs.old.image }
 {

@@ -19,12 +19,11 @@ use Rattle.mj_jobvm.specs.Jobs.{Running, IsRunOf}
 use Rattle.mj_jobvm.specs.Fit.{Links, first_links, is_end, links_after, IsFit}
 use Rattle.mj_jobvm.proofs.Fitted.{asks_what_fits}
 use Rattle.mj_jobvm.proofs.Names.{same_name, itself, never}
-use Rattle.mj_load.specs.Image.{Loaded, routines_of}
+use Rattle.mj_load.specs.Image.{Loaded, program_of}
 use Rattle.mj_sys.specs.Devices.{device_at, holder_of}
 use Rattle.mj_sys.specs.Shared.{Shared}
 use Rattle.mj_sys.specs.Opening.{free_devices, opening_of, device_of as device_in}
 use Rattle.mj_sys.specs.History.{state_of, log_of}
-use Rattle.mj_sys.specs.System.{history_limit}
 use Rattle.mj_steps.specs.declared.step.Refusal.{Refusal}
 use Rattle.mj_steps.specs.declared.step.Refusal.TheVariants as refusals
 use Rattle.mj_core.specs.declared.seen.Seen.{Seen}
@@ -75,9 +74,9 @@ module _ (s : Shared) (log : Log) (has : List ℕ → Bool) (all : (name : List 
 
 -- in a run
 pub all_are_served : AllAreServed
-all_are_served image opening history job row a free run there makes =
+all_are_served program opening history job row a free run there makes =
     let log : Log = log_of job history in
-    let it = asks_what_fits image (start_in job row.start) log (run.traces job row there) in
+    let it = asks_what_fits program (start_in job row.start) log (run.traces job row there) in
     let held : IsHeld job opening first_links = λ x held. (let no : None ≡ Some job = sym (free x) ∙ held in absurd cc) in
     can_be_served (state_of opening history) log (λ name. has_session opening job name history)
     (λ name. has_is name job history opening first_links (bytes_eq principal name) run.happen held it.0 refl)
@@ -89,20 +88,20 @@ no_step_is_unfit opening old new step free run (inl none) = let no : ◌≡◌ {
 no_step_is_unfit opening old new step free run (inr found) = by found.2
   where
     by : ((was_over old.over step.job ≡ true) × ◌≡◌ {A = Result Seen Refusal} (Ok seen.Unfit) (Err refusals.Ended) × (new ≡ old))
-        ⊎ ((was_over old.over step.job ≡ false) × (history_limit ≤ length old.history) × ◌≡◌ {A = Result Seen Refusal} (Ok seen.Unfit) (Err refusals.Full) × (new ≡ old))
-        ⊎ ((was_over old.over step.job ≡ false) × (length old.history < history_limit)
+        ⊎ ((was_over old.over step.job ≡ false) × (old.image.bounds.events ≤ length old.history) × ◌≡◌ {A = Result Seen Refusal} (Ok seen.Unfit) (Err refusals.Full) × (new ≡ old))
+        ⊎ ((was_over old.over step.job ≡ false) × (length old.history < old.image.bounds.events)
         × JobStepGives serving opening old step.job found.0 (is_late step.way) None (Ok seen.Unfit) new) → ⊥
     by (inl over) = let no : ◌≡◌ {A = Result Seen Refusal} (Ok seen.Unfit) (Err refusals.Ended) = over.1 in cc
     by (inr (inl full)) = let no : ◌≡◌ {A = Result Seen Refusal} (Ok seen.Unfit) (Err refusals.Full) = full.2 in cc
     by (inr (inr made)) =
         let one = made.2.1 in
-        all_are_served (routines_of old.image) opening old.history step.job found.0 one.0.ask free run found.1 (one.1.0.0, one.0.locals, one.0.places, one.1.0.1) one.3.0
+        all_are_served (program_of old.image) opening old.history step.job found.0 one.0.ask free run found.1 (one.1.0.0, one.0.locals, one.0.places, one.1.0.1) one.3.0
 
 -- Jobs alone.
 
 pub all_are_served_by : AllAreServedBy
-all_are_served_by image start log s a trace makes =
-    let it = asks_what_fits image start log trace in
+all_are_served_by program start log s a trace makes =
+    let it = asks_what_fits program start log trace in
     can_be_served s log (has_by log) (λ name. refl) a (it.1 a makes.0 makes.1 makes.2 makes.3)
 
 at_some : (o : Option Ask) (a : Ask) (P : Ask → Type 0) → o ≡ Some a → IfSome o P → P a
@@ -110,21 +109,21 @@ at_some o a P is holds = let Q : Option Ask → Type 0 = λ p. IfSome p P in sub
 
 -- a job that waits asks what its run needs next
 makes_pending : (image : Loaded) (start : Start) (job : Running) (a : Ask) → IsRunOf image start job → job.run.pending ≡ Some a
-    → Makes (routines_of image) start job.run.log a
+    → Makes (program_of image) start job.run.log a
 makes_pending image start job a (turns, run) is =
     let n = run.before + turns + 1 in
     let asks = at_some job.run.pending a _ is run.asks in (
       n,
       job.run.at.state.locals,
       places job.run.at.state,
-      ap (λ replies. next (routines_of image) start n replies) (sym (append-nil (replies_of job.run.log))) ∙ sym (run.rest 1 []) ∙ asks.1 0,
+      ap (λ replies. next (program_of image) start n replies) (sym (append-nil (replies_of job.run.log))) ∙ sym (run.rest 1 []) ∙ asks.1 0,
     )
 
 pub no_talk_is_unfit : (tells : Answering) → NoTalkIsUnfit tells
 no_talk_is_unfit tells image claim job job' x x' a late given own pending all talks =
     let start = start_in claim.job claim.start in
     let s = opening_of [] [] [] in
-    all_are_served_by (routines_of image) start job.run.log s a own.run.1.trace
+    all_are_served_by (program_of image) start job.run.log s a own.run.1.trace
     (makes_pending image start job a own.run pending)
     (talks.0 s (has_by job.run.log) own.told all).0
 

@@ -3,11 +3,11 @@ use Rattle.std.specs.Prelude.{◌≡◌, ℕ, List, Bool, Option, Some, None, Ok
 use Rattle.mj_ask.specs.Started.{Started}
 use Rattle.mj_ask.specs.declared.ask.Ask.{Ask}
 use Rattle.mj_ask.specs.declared.ask.Reply.{Reply}
-use Rattle.mj_ast.specs.Syntax.{Routine}
+use Rattle.mj_semantics.specs.Program.{Program}
 use Rattle.mj_store.specs.Questions.{Content}
 use Rattle.mj_dev.specs.Shelves.{Shelf}
 use Rattle.mj_semantics.specs.Job.{Start}
-use Rattle.mj_load.specs.Image.{Loaded, routines_of}
+use Rattle.mj_load.specs.Image.{Loaded, program_of}
 use Rattle.mj_jobs.specs.Rows.{Row, row_at}
 use Rattle.mj_jobvm.specs.Run.{Log, IsTrace}
 use Rattle.mj_jobvm.specs.Jobs.{Running}
@@ -41,14 +41,14 @@ OpensFree = (globals : Content) (shelves : List Shelf) (starts : List Started) �
 -- In every run what a job asks next can be served
 abbrev pub AllAreServed : Type 0
 AllAreServed =
-    (image : List Routine) (opening : Shared) (history : History) (job : ℕ) (row : Row) (a : Ask) → NoneIsHeld opening → IsRun image opening history
-    → row_at (state_of opening history).rows job ≡ Some row → Makes image (start_in job row.start) (log_of job history) a
+    (program : Program) (opening : Shared) (history : History) (job : ℕ) (row : Row) (a : Ask) → NoneIsHeld opening → IsRun program opening history
+    → row_at (state_of opening history).rows job ≡ Some row → Makes program (start_in job row.start) (log_of job history) a
     → IsUnfitBy (state_of opening history) (log_of job history) (λ name. has_session opening job name history) a → ⊥
 
 -- and no step of a core is unfit whose history is a run
 abbrev pub NoStepIsUnfit : Type 0
 NoStepIsUnfit =
-    (opening : Shared) (old new : Shown) (step : Step) → NoneIsHeld opening → IsRun (routines_of old.image) opening old.history
+    (opening : Shared) (old new : Shown) (step : Step) → NoneIsHeld opening → IsRun (program_of old.image) opening old.history
     → CoreStepGives opening old step (Ok seen.Unfit) new → ⊥
 
 -- whether a job has a session with the device of a name, by the replies of its log alone
@@ -58,7 +58,7 @@ has_by log name = (links_after first_links log name).session
 -- Behind each trace of a job's run, what it asks next can be served where it has these sessions, whatever is shared.
 abbrev pub AllAreServedBy : Type 0
 AllAreServedBy =
-    (image : List Routine) (start : Start) (log : Log) (s : Shared) (a : Ask) → IsTrace image start log → Makes image start log a
+    (program : Program) (start : Start) (log : Log) (s : Shared) (a : Ask) → IsTrace program start log → Makes program start log a
     → IsUnfitBy s log (has_by log) a → ⊥
 
 -- So `talk` finds no job unfit that is that of its claim, whatever the system is, and has these sessions. `tells` says which call was the last to a device

@@ -6,7 +6,7 @@ use Rattle.std.proofs.lemmas.List.Elements.{All-head, All-tail}
 use Rattle.std.proofs.lemmas.Option.{same_Some}
 use Rattle.mj_semantics.specs.Job.{Start}
 use Rattle.mj_dev.specs.Talk.{beginning}
-use Rattle.mj_load.specs.Image.{Loaded, routines_of}
+use Rattle.mj_load.specs.Image.{Loaded, program_of}
 use Rattle.mj_jobs.specs.Rows.{Row, row_at}
 use Rattle.mj_jobvm.specs.Run.{Log, IsTrace, begins}
 use Rattle.mj_sessions.specs.Follow.{AreTalks}
@@ -93,32 +93,32 @@ module _ (opening : Shared) (history : History) (rans : List Kept) (f : Found op
 
   module _ (image : Loaded) (images : All (λ (r : Kept). r.image ≡ image) rans) where
     -- what a job that was run has is a trace from its row's start
-    trace : (job : ℕ) (row : Row) → row_at rows job ≡ Some row → IsTrace (routines_of image) (start_in job row.start) (log_in rans job)
+    trace : (job : ℕ) (row : Row) → row_at rows job ≡ Some row → IsTrace (program_of image) (start_in job row.start) (log_in rans job)
     trace job row there = from rans images f.all where
-      from : (xs : List Kept) → All (λ (r : Kept). r.image ≡ image) xs → AllSound rows xs → IsTrace (routines_of image) (start_in job row.start) (log_in xs job)
+      from : (xs : List Kept) → All (λ (r : Kept). r.image ≡ image) xs → AllSound rows xs → IsTrace (program_of image) (start_in job row.start) (log_in xs job)
       from [] same all = begins
       from (r ∷ xs) same all =
           at (r.claim.job == job) refl (All-head (λ (r : Kept). r.image ≡ image) r xs same) (All-head (λ x. IsSound rows x) r xs all)
           (from xs (All-tail (λ (r : Kept). r.image ≡ image) r xs same) (All-tail (λ x. IsSound rows x) r xs all)) where
-            at : (b : Bool) → (r.claim.job == job) ≡ b → r.image ≡ image → IsSound rows r → IsTrace (routines_of image) (start_in job row.start) (log_in xs job)
-                → IsTrace (routines_of image) (start_in job row.start) (if b then r.log else log_in xs job)
+            at : (b : Bool) → (r.claim.job == job) ≡ b → r.image ≡ image → IsSound rows r → IsTrace (program_of image) (start_in job row.start) (log_in xs job)
+                → IsTrace (program_of image) (start_in job row.start) (if b then r.log else log_in xs job)
             at true q i sound rest =
                 let mine : r.claim.job ≡ job = same_eq r.claim.job job q in
                 let one : sound.starts.0 ≡ row = same_Some sound.starts.0 row (sym sound.starts.1 ∙ (ap (row_at rows) mine ∙ there)) in
                 let start : r.claim.start ≡ row.start = sym sound.starts.2 ∙ ap (λ (x : Row). x.start) one in
                 let begins_so : start_in r.claim.job r.claim.start ≡ start_in job row.start = ap (λ j. start_in j r.claim.start) mine ∙ ap (λ s. start_in job s) start in
-                subst (λ (s : Start). IsTrace (routines_of image) s r.log) begins_so
-                (subst (λ (l : Loaded). IsTrace (routines_of l) (start_in r.claim.job r.claim.start) r.log) i sound.ran.trace)
+                subst (λ (s : Start). IsTrace (program_of image) s r.log) begins_so
+                (subst (λ (l : Loaded). IsTrace (program_of l) (start_in r.claim.job r.claim.start) r.log) i sound.ran.trace)
             at false q i sound rest = rest
 
     talks : (job : ℕ) → AreTalks (log_in rans job)
     talks job = log_is (λ l. AreTalks l) rows rans job f.all no_talks (λ r sound is. sound.ran.talks)
 
-    pub gathered_run : IsRun (routines_of image) opening events
+    pub gathered_run : IsRun (program_of image) opening events
     gathered_run = record {
       happen = woven.happen;
       traces = λ job row there.
-          subst (λ (l : Log). IsTrace (routines_of image) (start_in job row.start) l) (sym (gathered_logs job))
+          subst (λ (l : Log). IsTrace (program_of image) (start_in job row.start) l) (sym (gathered_logs job))
           (trace job row (ap (λ (s : Shared). row_at s.rows job) (sym gathered_state) ∙ there));
       talks = λ job. subst (λ (l : Log). AreTalks l) (sym (gathered_logs job)) (talks job);
     }

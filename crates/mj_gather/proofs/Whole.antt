@@ -3,7 +3,7 @@ use Rattle.std.specs.Borrow.{Bor}
 use Rattle.std.specs.List.{All}
 use Rattle.std.proofs.Common.{◌≡◌, ◌⊎◌, inl, inr, ℕ, zero, suc, ◌+◌, ◌-◌, ◌<◌, ◌≤◌, List, [], length, sym, ap, ◌∙◌, subst, arith}
 use Rattle.std.proofs.Math.Path.{fun_ext}
-use Rattle.mj_load.specs.Image.{Loaded, routines_of}
+use Rattle.mj_load.specs.Image.{Loaded, program_of}
 use Rattle.mj_jobvm.specs.Run.{Log}
 use Rattle.mj_locktab.specs.Locks.{LocksApart}
 use Rattle.mj_sys.specs.Opening.{NoneHasEnded, NoneIsOpen}
@@ -68,10 +68,10 @@ pub record IsOfAll (opening : Shared) (history : History) (rans : List Kept) (ev
   pub once : (job : ℕ) → times_run rans job ≤ 1
   pub sound : All (λ r. IsSound (state_of opening history).rows r) rans
   pub counted : length history ≡ counted rans
-  pub run : (image : Loaded) → All (λ (r : Kept). r.image ≡ image) rans → IsRun (routines_of image) opening events
+  pub run : (image : Loaded) → All (λ (r : Kept). r.image ≡ image) rans → IsRun (program_of image) opening events
   pub apart : LocksApart (state_of opening events).locks
-  pub serial : (image : Loaded) → All (λ (r : Kept). r.image ≡ image) rans → IsAsAlone (routines_of image) opening events
-  pub clashes : (image : Loaded) → All (λ (r : Kept). r.image ≡ image) rans → AllMustClash (routines_of image) opening events
+  pub serial : (image : Loaded) → All (λ (r : Kept). r.image ≡ image) rans → IsAsAlone (program_of image) opening events
+  pub clashes : (image : Loaded) → All (λ (r : Kept). r.image ≡ image) rans → AllMustClash (program_of image) opening events
 
 module _ (opening : Shared) (history : History) (rans : List Kept) (logs : Logs) (order : List Happened) (rows first : ℕ)
     (so : IsGathered opening history rans logs order rows first) where
@@ -107,8 +107,8 @@ module _ (opening : Shared) (history : History) (rans : List Kept) (logs : Logs)
   pub run_state : state_of opening (woven logs order) ≡ state_of opening history
   run_state = ap (state_of opening) run_is ∙ gathered_state opening history rans found
 
-  pub run_so : (image : Loaded) → All (λ (r : Kept). r.image ≡ image) rans → IsRun (routines_of image) opening (woven logs order)
-  run_so image images = subst (λ (h : History). IsRun (routines_of image) opening h) (sym run_is) (gathered_run opening history rans found image images)
+  pub run_so : (image : Loaded) → All (λ (r : Kept). r.image ≡ image) rans → IsRun (program_of image) opening (woven logs order)
+  run_so image images = subst (λ (h : History). IsRun (program_of image) opening h) (sym run_is) (gathered_run opening history rans found image images)
 
   -- all of it
   run_gathered : NoneIsOpen opening → LocksApart (state_of opening history).locks → IsOfAll opening history rans (woven logs order)
@@ -122,8 +122,8 @@ module _ (opening : Shared) (history : History) (rans : List Kept) (logs : Logs)
     counted = run_counted;
     run = run_so;
     apart = subst (λ (s : Shared). LocksApart s.locks) (sym run_state) apart;
-    serial = λ image images. is_serial (routines_of image) opening (woven logs order) none (run_so image images);
-    clashes = λ image images. all_must (routines_of image) opening (woven logs order) (run_so image images) none;
+    serial = λ image images. is_serial (program_of image) opening (woven logs order) none (run_so image images);
+    clashes = λ image images. all_must (program_of image) opening (woven logs order) (run_so image images) none;
   }
 
   pub all_gathered : (events : History) → events ≡ woven logs order → NoneIsOpen opening → LocksApart (state_of opening history).locks → IsOfAll opening history rans events

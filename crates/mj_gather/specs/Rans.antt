@@ -4,9 +4,9 @@ use Rattle.mj_ask.specs.declared.ask.Ask.{Ask}
 use Rattle.mj_ask.specs.declared.ask.Ask.TheVariants as asks
 use Rattle.mj_ask.specs.declared.ask.SharedAsk.TheVariants as shared_asks
 use Rattle.mj_ask.specs.Fits.{is_shared}
-use Rattle.mj_ast.specs.Syntax.{Routine}
+use Rattle.mj_semantics.specs.Program.{Program}
 use Rattle.mj_semantics.specs.Job.{Start}
-use Rattle.mj_load.specs.Image.{Loaded, routines_of}
+use Rattle.mj_load.specs.Image.{Loaded, program_of}
 use Rattle.mj_jobvm.specs.Run.{Log, IsTrace, HasEnded}
 use Rattle.mj_sessions.specs.Follow.{AreTalks}
 use Rattle.mj_sys.specs.System.{Claimed}
@@ -35,20 +35,20 @@ EndsAtHalt (e ∷ log) = (is_halt e.0 ≡ true → log ≡ []) × EndsAtHalt log
 
 -- Where a job stands that stopped so. It ended only where its run is over. That the history is full stops it only at an ask of what all jobs share, and a
 -- refusal only at an ask. Want of memory stops it anywhere.
-abbrev pub StopsAt : List Routine → Start → Log → Stop → Type 0
-StopsAt routines start log stops.Ended = HasEnded routines start log
-StopsAt routines start log stops.Full = (a : Ask) × Makes routines start log a × (is_shared a ≡ true)
-StopsAt routines start log stops.Memory = ⊤
-StopsAt routines start log stops.Refused = (a : Ask) × Makes routines start log a
+abbrev pub StopsAt : Program → Start → Log → Stop → Type 0
+StopsAt program start log stops.Ended = HasEnded program start log
+StopsAt program start log stops.Full = (a : Ask) × Makes program start log a × (is_shared a ≡ true)
+StopsAt program start log stops.Memory = ⊤
+StopsAt program start log stops.Refused = (a : Ask) × Makes program start log a
 
 -- What a job that a worker ran may be. Its log is a trace of the image's routines from its row's start, and its talks in it obey the device protocol; the
 -- claim counts what it asked of all that jobs share; nothing stands behind its halt; and it stands where it may stop so.
 pub record IsRan (image : Loaded) (claim : Claimed) (log : Log) (stop : Stop) : Type 0 where
-  pub trace : IsTrace (routines_of image) (start_in claim.job claim.start) log
+  pub trace : IsTrace (program_of image) (start_in claim.job claim.start) log
   pub talks : AreTalks log
   pub counted : claim.events ≡ shared_in log
   pub ends : EndsAtHalt log
-  pub stands : StopsAt (routines_of image) (start_in claim.job claim.start) log stop
+  pub stands : StopsAt (program_of image) (start_in claim.job claim.start) log stop
 
 -- what a job asked and was told: nothing, where it wasn't run
 abbrev pub log_in : List Kept → ℕ → Log

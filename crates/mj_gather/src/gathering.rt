@@ -8,7 +8,7 @@ ghost use Rattle.std.specs.Prelude.{IfOk, OnOk, IfErr, IfSome, IfNone, IsTrue, �
 ghost use Rattle.std.specs.List.{All};
 ghost use Rattle.mj_jobs.specs.Rows.{rows_limit, HasStart};
 ghost use Rattle.mj_jobvm.specs.Run.{Log};
-ghost use Rattle.mj_load.specs.Image.{Loaded, routines_of};
+ghost use Rattle.mj_load.specs.Image.{Loaded, program_of};
 ghost use Rattle.mj_locktab.specs.Locks.{LocksApart};
 ghost use Rattle.mj_sys.specs.History.{state_of, log_of, events_of, AreServed};
 ghost use Rattle.mj_core.specs.Happen.{shared_of};
@@ -424,10 +424,10 @@ pub fn gather<'b, 'a, D: Device, O: Opening>(
     ensures once { OnOk result ((job : ℕ) → times_run rans.now job ≤ 1) }
     ensures sound { OnOk result (All (λ r. IsSound (state_of O.opening system.now.history).rows r) rans.now) }
     ensures counted { OnOk result (length system.now.history ≡ counted rans.now) }
-    ensures run { (image : Loaded) → All (λ r. r.image ≡ image) rans.now → IfOk result (λ run. IsRun (routines_of image) O.opening run) }
+    ensures run { (image : Loaded) → All (λ r. r.image ≡ image) rans.now → IfOk result (λ run. IsRun (program_of image) O.opening run) }
     ensures apart { IfOk result (λ run. LocksApart (state_of O.opening run).locks) }
-    ensures serial { (image : Loaded) → All (λ r. r.image ≡ image) rans.now → IfOk result (λ run. IsAsAlone (routines_of image) O.opening run) }
-    ensures clashes { (image : Loaded) → All (λ r. r.image ≡ image) rans.now → IfOk result (λ run. AllMustClash (routines_of image) O.opening run) }
+    ensures serial { (image : Loaded) → All (λ r. r.image ≡ image) rans.now → IfOk result (λ run. IsAsAlone (program_of image) O.opening run) }
+    ensures clashes { (image : Loaded) → All (λ r. r.image ≡ image) rans.now → IfOk result (λ run. AllMustClash (program_of image) O.opening run) }
     ensures err { IfErr result (λ why. IsUngathered O.opening system.now.history rans.now why) }
 {
     if let Some(job) = start_differs(system, rans) {

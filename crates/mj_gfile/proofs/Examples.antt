@@ -1,18 +1,24 @@
 -- Worked rows of the definitions.
-use Rattle.std.proofs.Common.{◌≡◌, ◌++◌, ℕ, true, List, [], ◌∷◌, Some, None, Ok, Err, refl}
+use Rattle.std.proofs.Common.{◌≡◌, ◌++◌, ℕ, true, false, nat_le, length, List, [], ◌∷◌, Some, None, Ok, Err, refl, ap}
 use Rattle.std.specs.Prelude.{codes}
+use Rattle.mj_text.specs.declared.limit.Limit.TheVariants.{V1, V2}
+use Rattle.mj_text.specs.Limit.{smaller}
 use Rattle.mj_subs.specs.Name.{Name}
 use Rattle.mj_gfile.specs.declared.error.ReadError.TheVariants as error
 use Rattle.mj_gfile.specs.Spelling.{listed_text, listed_name, listing_of}
 use Rattle.mj_gfile.specs.Reading.{subscripts_of, text_at, name_at}
-use Rattle.mj_gfile.specs.Listing.{reading_of}
+use Rattle.mj_gfile.specs.Listing.{reading_of, is_short}
 
 -- a line of a listing, with the byte 10 that ends it
 abbrev line : List ℕ → List ℕ
 line bs = bs ++ 10 ∷ []
 
 abbrev head : List ℕ
-head = line (codes "mj-globals 1")
+head = line (codes "mj-globals 2")
+
+-- that of the listings that were written when texts were shorter
+abbrev old_head : List ℕ
+old_head = line (codes "mj-globals 1")
 
 -- ---- texts: "a", a quote, a backslash, byte 10 and byte 200
 abbrev text : List ℕ
@@ -86,57 +92,83 @@ node s v = (record { global = true; word = codes "A"; subscripts = (s ∷ []) �
 abbrev node_listed : ℕ → ℕ → List ℕ
 node_listed s v = codes "^A(" ++ s ∷ 41 ∷ 61 ∷ 34 ∷ v ∷ 34 ∷ []
 
-lists_both : listing_of (node 49 120 ∷ node 50 121 ∷ []) ≡ head ++ line (node_listed 49 120) ++ line (node_listed 50 121)
+lists_both : listing_of V2 (node 49 120 ∷ node 50 121 ∷ []) ≡ head ++ line (node_listed 49 120) ++ line (node_listed 50 121)
 lists_both = refl
 
-reads_both : reading_of (head ++ line (node_listed 49 120) ++ line (node_listed 50 121)) ≡ Ok (node 49 120 ∷ node 50 121 ∷ [])
+reads_both : reading_of V2 (head ++ line (node_listed 49 120) ++ line (node_listed 50 121)) ≡ Ok (node 49 120 ∷ node 50 121 ∷ [])
 unfolding subscripts_of
 reads_both = refl
 
-reads_none : reading_of head ≡ Ok []
+reads_none : reading_of V2 head ≡ Ok []
 reads_none = refl
 
-no_bytes : reading_of [] ≡ Err error.Header
+-- both versions, with either limit
+lists_old : listing_of V1 (node 49 120 ∷ []) ≡ old_head ++ line (node_listed 49 120)
+lists_old = refl
+
+reads_old : reading_of V2 (old_head ++ line (node_listed 49 120)) ≡ Ok (node 49 120 ∷ [])
+unfolding subscripts_of
+reads_old = refl
+
+reads_new : reading_of V1 (head ++ line (node_listed 49 120)) ≡ Ok (node 49 120 ∷ [])
+unfolding subscripts_of
+reads_new = refl
+
+-- no other version
+no_version : reading_of V2 (line (codes "mj-globals 3")) ≡ Err error.Header
+no_version = refl
+
+-- a text of 32,768 bytes is over the limit of the first version, and over the smaller limit, whatever the version is
+over_old : (v : List ℕ) → length v ≡ 32768 → is_short (smaller V1 V2) v ≡ false
+over_old v h = ap (λ n. nat_le n 32767) h
+
+over_limit : (v : List ℕ) → length v ≡ 32768 → is_short (smaller V2 V1) v ≡ false
+over_limit v h = ap (λ n. nat_le n 32767) h
+
+within_new : (v : List ℕ) → length v ≡ 32768 → is_short (smaller V2 V2) v ≡ true
+within_new v h = ap (λ n. nat_le n 1048576) h
+
+no_bytes : reading_of V2 [] ≡ Err error.Header
 no_bytes = refl
 
 -- a header without its byte 10
-no_header : reading_of (codes "mj-globals 1") ≡ Err error.Header
+no_header : reading_of V2 (codes "mj-globals 2") ≡ Err error.Header
 no_header = refl
 
 -- a line that isn't ended, with a text that isn't either
-no_text : reading_of (head ++ codes "^A=" ++ 34 ∷ 120 ∷ []) ≡ Err (error.Line 2)
+no_text : reading_of V2 (head ++ codes "^A=" ++ 34 ∷ 120 ∷ []) ≡ Err (error.Line 2)
 unfolding subscripts_of
 no_text = refl
 
 -- the last line isn't ended
-no_line_end : reading_of (head ++ line (node_listed 49 120) ++ node_listed 50 121) ≡ Err (error.Line 3)
+no_line_end : reading_of V2 (head ++ line (node_listed 49 120) ++ node_listed 50 121) ≡ Err (error.Line 3)
 unfolding subscripts_of
 no_line_end = refl
 
 -- a line that is empty
-no_line : reading_of (head ++ 10 ∷ []) ≡ Err (error.Line 2)
+no_line : reading_of V2 (head ++ 10 ∷ []) ≡ Err (error.Line 2)
 unfolding subscripts_of
 no_line = refl
 
 -- a local
-no_global : reading_of (head ++ line (codes "A=" ++ 34 ∷ 120 ∷ 34 ∷ [])) ≡ Err (error.Line 2)
+no_global : reading_of V2 (head ++ line (codes "A=" ++ 34 ∷ 120 ∷ 34 ∷ [])) ≡ Err (error.Line 2)
 unfolding subscripts_of
 no_global = refl
 
 -- names that fall, and one that comes twice
-no_order : reading_of (head ++ line (node_listed 50 120) ++ line (node_listed 49 121)) ≡ Err (error.Order 3)
+no_order : reading_of V2 (head ++ line (node_listed 50 120) ++ line (node_listed 49 121)) ≡ Err (error.Order 3)
 unfolding subscripts_of
 no_order = refl
 
-no_second : reading_of (head ++ line (node_listed 50 120) ++ line (node_listed 50 120)) ≡ Err (error.Order 3)
+no_second : reading_of V2 (head ++ line (node_listed 50 120) ++ line (node_listed 50 120)) ≡ Err (error.Order 3)
 unfolding subscripts_of
 no_second = refl
 
 -- a word of 32 bytes; where such a line isn't spelled as it must be, that comes first
-no_limit : reading_of (head ++ line (codes "^ABCDEFGHIJKLMNOPQRSTUVWXYZabcdef=" ++ 34 ∷ 34 ∷ [])) ≡ Err (error.Limit 2)
+no_limit : reading_of V2 (head ++ line (codes "^ABCDEFGHIJKLMNOPQRSTUVWXYZabcdef=" ++ 34 ∷ 34 ∷ [])) ≡ Err (error.Limit 2)
 unfolding subscripts_of
 no_limit = refl
 
-no_limit_there : reading_of (head ++ line (codes "^ABCDEFGHIJKLMNOPQRSTUVWXYZabcdef=" ++ 34 ∷ [])) ≡ Err (error.Line 2)
+no_limit_there : reading_of V2 (head ++ line (codes "^ABCDEFGHIJKLMNOPQRSTUVWXYZabcdef=" ++ 34 ∷ [])) ≡ Err (error.Line 2)
 unfolding subscripts_of
 no_limit_there = refl

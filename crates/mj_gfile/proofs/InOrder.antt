@@ -5,6 +5,7 @@ use Rattle.std.specs.declared.cmp.Ordering.TheVariants.{Less, Equal, Greater}
 use Rattle.std.specs.Ordering.{is_lt, ordering_reverse}
 use Rattle.std.specs.FinMap.{put}
 use Rattle.std.specs.FinMap.Entries.{by_order}
+use Rattle.mj_text.specs.declared.limit.Limit.{Limit}
 use Rattle.mj_subs.specs.Name.{Name}
 use Rattle.mj_subs.specs.Collation.{name_cmp}
 use Rattle.mj_subs.specs.Laws.Total.{name_cmp_total}
@@ -64,32 +65,32 @@ by_limit last k e d true h = let p = by_place last k e d (is_after last e.0) ref
 by_limit last k e d false h = absurd cc
 
 -- what a line says stands after the line before
-judged_after : (last : Option Name) (k : ℕ) (o : Option (Name × List ℕ)) (d : Name × List ℕ) → judged last k o ≡ Ok d → is_after last d.0 ≡ true
-judged_after last k None d h = absurd cc
-judged_after last k (Some e) d h = by_limit last k e d (is_small_node e) h
+judged_after : (limit : Limit) (last : Option Name) (k : ℕ) (o : Option (Name × List ℕ)) (d : Name × List ℕ) → judged limit last k o ≡ Ok d → is_after last d.0 ≡ true
+judged_after limit last k None d h = absurd cc
+judged_after limit last k (Some e) d h = by_limit last k e d (is_small_node limit e) h
 
 -- the names c were read of `total`, and the rest is read from bs on
-module _ (c : Content) (last : Option Name) (k : ℕ) (bs : List ℕ) (total : Result Content ReadError) (inv : total ≡ joined_nodes c (nodes_of last k (lines_of bs))) where
+module _ (limit : Limit) (c : Content) (last : Option Name) (k : ℕ) (bs : List ℕ) (total : Result Content ReadError) (inv : total ≡ joined_nodes c (nodes_of limit last k (lines_of bs))) where
   -- a line is ended there
   module _ (line rest : List ℕ) (at : lines_of bs ≡ (line, true) ∷ lines_of rest) where
-    at_line : (r : Result (Name × List ℕ) ReadError) → judged last k (line_of line) ≡ r → total ≡ joined_nodes c (followed r (λ e. nodes_of (Some e.0) (suc k) (lines_of rest)))
+    at_line : (r : Result (Name × List ℕ) ReadError) → judged limit last k (line_of line) ≡ r → total ≡ joined_nodes c (followed r (λ e. nodes_of limit (Some e.0) (suc k) (lines_of rest)))
     at_line r e =
-        inv ∙ ap (λ ls. joined_nodes c (nodes_of last k ls)) at ∙ ap (λ x. joined_nodes c (followed x (λ e. nodes_of (Some e.0) (suc k) (lines_of rest)))) e
+        inv ∙ ap (λ ls. joined_nodes c (nodes_of limit last k ls)) at ∙ ap (λ x. joined_nodes c (followed x (λ e. nodes_of limit (Some e.0) (suc k) (lines_of rest)))) e
 
-    pub refused : (e : ReadError) → judged last k (line_of line) ≡ Err e → total ≡ Err e
+    pub refused : (e : ReadError) → judged limit last k (line_of line) ≡ Err e → total ≡ Err e
     refused e h = at_line (Err e) h
 
-    module _ (n : Name) (t : List ℕ) (says : judged last k (line_of line) ≡ Ok (n, t)) (stand : AreBefore c last) (d : Content) (is : d ≡ put name_cmp n t c) where
+    module _ (n : Name) (t : List ℕ) (says : judged limit last k (line_of line) ≡ Ok (n, t)) (stand : AreBefore c last) (d : Content) (is : d ≡ put name_cmp n t c) where
       here : AllBefore c n
-      here = stand n (judged_after last k (line_of line) (n, t) says)
+      here = stand n (judged_after limit last k (line_of line) (n, t) says)
 
       longer : d ≡ c ++ (n, t) ∷ []
       longer = is ∙ put_last c n t here
 
-      pub next_reads : total ≡ joined_nodes d (nodes_of (Some n) (k + 1) (lines_of rest))
+      pub next_reads : total ≡ joined_nodes d (nodes_of limit (Some n) (k + 1) (lines_of rest))
       next_reads =
-          at_line (Ok (n, t)) says ∙ joined_before c (n, t) (nodes_of (Some n) (suc k) (lines_of rest))
-          ∙ (λ i. joined_nodes (sym longer i) (nodes_of (Some n) (sym (add-one k) i) (lines_of rest)))
+          at_line (Ok (n, t)) says ∙ joined_before c (n, t) (nodes_of limit (Some n) (suc k) (lines_of rest))
+          ∙ (λ i. joined_nodes (sym longer i) (nodes_of limit (Some n) (sym (add-one k) i) (lines_of rest)))
 
       pub next_before : AreBefore d (Some n)
       next_before m a = subst (λ x. AllBefore x m) (sym longer) (still_before c n m t here (less (name_cmp n m) a))
@@ -97,11 +98,11 @@ module _ (c : Content) (last : Option Name) (k : ℕ) (bs : List ℕ) (total : R
   -- no line is ended there
   module _ (at : lines_of bs ≡ unended bs) where
     pub all_read : bs ≡ [] → total ≡ Ok c
-    all_read none = inv ∙ ap (λ ls. joined_nodes c (nodes_of last k ls)) (at ∙ ap unended none) ∙ ap Ok (append-nil c)
+    all_read none = inv ∙ ap (λ ls. joined_nodes c (nodes_of limit last k ls)) (at ∙ ap unended none) ∙ ap Ok (append-nil c)
 
   pub left_over : lines_of bs ≡ unended bs → (bs ≡ [] → ⊥) → total ≡ Err (error.Line k)
-  left_over at some = inv ∙ ap (λ ls. joined_nodes c (nodes_of last k ls)) at ∙ by bs some
+  left_over at some = inv ∙ ap (λ ls. joined_nodes c (nodes_of limit last k ls)) at ∙ by bs some
     where
-      by : (xs : List ℕ) → (xs ≡ [] → ⊥) → joined_nodes c (nodes_of last k (unended xs)) ≡ Err (error.Line k)
+      by : (xs : List ℕ) → (xs ≡ [] → ⊥) → joined_nodes c (nodes_of limit last k (unended xs)) ≡ Err (error.Line k)
       by [] h = absurd (h refl)
       by (x ∷ xs) h = refl

@@ -6,3 +6,4 @@ pub mod Nodes
 mod Global
 pub mod InOrder
 mod Sizes
+pub mod Named

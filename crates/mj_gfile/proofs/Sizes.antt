@@ -3,6 +3,7 @@ use Rattle.std.proofs.Common.{◌≡◌, ◌<◌, ◌≤◌, ◌&&◌, suc, ℕ,
 use Rattle.std.specs.Prelude.{nat_lt, nat_le}
 use Rattle.std.proofs.lemmas.Bool.Decides.{nat_tests}
 use Rattle.mj_text.specs.declared.text.TheConstants.{TEXT_LIMIT}
+use Rattle.mj_text.specs.declared.limit.Limit.TheVariants.{V2}
 use Rattle.mj_gfile.specs.Listing.{is_short, are_bytes, is_text}
 
 byte_below : (c : ℕ) → c < 256 → nat_lt c 256 ≡ true
@@ -18,8 +19,8 @@ all_below (c ∷ t) h =
     let rest = all_below t (λ i l. h (suc i) (omega (arith, l))) in
     λ i. first i && rest i
 
-pub is_text_within : (t : List ℕ) → length t ≤ TEXT_LIMIT → ((i : ℕ) → i < length t → get_or t i 0 < 256) → is_text t ≡ true
+pub is_text_within : (t : List ℕ) → length t ≤ TEXT_LIMIT → ((i : ℕ) → i < length t → get_or t i 0 < 256) → is_text V2 t ≡ true
 is_text_within t few h =
-    let short : is_short t ≡ true = limit_kept (length t) few in
+    let short : is_short V2 t ≡ true = limit_kept (length t) few in
     let bytes = all_below t h in
     λ i. short i && bytes i

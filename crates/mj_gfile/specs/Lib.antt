@@ -5,4 +5,5 @@ pub mod Reading
 pub mod Units
 pub mod Listing
 pub mod Refused
+pub mod Spelled
 pub mod Laws

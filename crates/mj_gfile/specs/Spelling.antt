@@ -3,6 +3,8 @@
 use Rattle.std.specs.Prelude.{ℕ, ◌+◌, ◌/◌, ◌%◌, Bool, false, ◌&&◌, ◌||◌, ◌==◌, nat_lt, nat_le, if◌then◌else◌, List, [], ◌∷◌, ◌++◌, codes}
 use Rattle.std.specs.List.{list_all}
 use Rattle.std.specs.Char.{is_ascii_alphabetic, is_ascii_alphanumeric}
+use Rattle.mj_text.specs.declared.limit.Limit.{Limit}
+use Rattle.mj_text.specs.declared.limit.Limit.TheVariants.{V1, V2}
 use Rattle.mj_num.specs.Number.{is_canonic}
 use Rattle.mj_subs.specs.Name.{Name}
 use Rattle.mj_nref.specs.Spelling.{word_text}
@@ -67,10 +69,12 @@ abbrev pub listed_lines : Content → List ℕ
 listed_lines [] = []
 listed_lines (e ∷ es) = listed_line e ++ 10 ∷ listed_lines es
 
--- the first line, without its byte 10
-abbrev pub header : List ℕ
-header = codes "mj-globals 1"
+-- the first line, without its byte 10. There are two versions of listings, which differ in it and in the limit of their texts, so that one is named by
+-- its limit
+abbrev pub header : Limit → List ℕ
+header V1 = codes "mj-globals 1"
+header V2 = codes "mj-globals 2"
 
--- the listing of names and their texts
-abbrev pub listing_of : Content → List ℕ
-listing_of content = header ++ 10 ∷ listed_lines content
+-- the listing of this version of names and their texts
+abbrev pub listing_of : Limit → Content → List ℕ
+listing_of version content = header version ++ 10 ∷ listed_lines content

@@ -2,6 +2,7 @@
 
 ghost use Rattle.std.specs.Prelude.{◌≡◌, ◌∷◌, ◌+◌, ◌⊎◌, true, ℕ, List, length, IfOk, IfErr, MatchOption, Ok, Err};
 ghost use Rattle.std.specs.Option.{option_copied, option_map};
+ghost use Rattle.mj_text.specs.declared.limit.Limit.{Limit as SeenLimit};
 ghost use Rattle.mj_subs.specs.Name.{Name as SeenName};
 ghost use Rattle.mj_gfile.specs.declared.error.ReadError.TheVariants as error;
 ghost use Rattle.mj_gfile.specs.Reading.{past_byte, value_of, line_of};
@@ -13,7 +14,7 @@ use crate::name::read_name_in;
 use crate::quoted::read_text;
 use memchr::memchr;
 use mj_subs::Name;
-use mj_text::Text;
+use mj_text::{Limit, Text};
 use std::alloc::{AllocError, Global};
 
 /// The first line, without its byte 10, and what follows that, or none where no byte 10 ends a line.
@@ -33,11 +34,12 @@ pub fn read_node(
     line: &[u8],
     number: usize,
     last: Option<&Name>,
+    limit: Limit,
 ) -> Result<(Name, Text), ReadError>
-    ensures ok { IfOk result (λ node. judged (option_copied last.entry) number (line_of line.now) ≡ Ok node) }
-    ensures err { IfErr result (λ e. (e ≡ error.Memory) ⊎ (judged (option_copied last.entry) number (line_of line.now) ≡ Err e)) }
+    ensures ok { IfOk result (λ node. judged limit (option_copied last.entry) number (line_of line.now) ≡ Ok node) }
+    ensures err { IfErr result (λ e. (e ≡ error.Memory) ⊎ (judged limit (option_copied last.entry) number (line_of line.now) ≡ Err e)) }
 {
-    match read_line(alloc, line)? {
+    match read_line(alloc, line, limit)? {
         None => Err(ReadError::Line(number)),
         Some(Field::Over) => Err(ReadError::Limit(number)),
         Some(Field::Within(node)) => {
@@ -61,16 +63,20 @@ fn is_after(last: Option<&Name>, name: &Name) -> bool
 }
 
 // The name of a global and the text that a line spells.
-fn read_line(alloc: Global, line: &[u8]) -> Result<Option<Field<(Name, Text)>>, AllocError>
-    ensures { IfOk result (λ r. r ≡ node_field (line_of line.now)) }
+fn read_line(
+    alloc: Global,
+    line: &[u8],
+    limit: Limit,
+) -> Result<Option<Field<(Name, Text)>>, AllocError>
+    ensures { IfOk result (λ r. r ≡ node_field limit (line_of line.now)) }
 {
     let Some(rest) = behind(line, b'^') else {
         return Ok(None);
     };
-    let Some((name, tail)) = read_name_in(alloc, true, rest)? else {
+    let Some((name, tail)) = read_name_in(alloc, true, rest, limit)? else {
         return Ok(None);
     };
-    let Some(text) = read_value(alloc, tail)? else {
+    let Some(text) = read_value(alloc, tail, limit)? else {
         return Ok(None);
     };
     Ok(Some(node_of(name, text)))
@@ -78,8 +84,8 @@ fn read_line(alloc: Global, line: &[u8]) -> Result<Option<Field<(Name, Text)>>, 
 
 // A name and its text, if both are within the limits.
 fn node_of(name: Field<Name>, text: Field<Text>) -> Field<(Name, Text)>
-    ensures { (n : SeenName) (t : List ℕ) → name ≡ limited (is_small n) n → text ≡ limited (is_short t) t
-        → result ≡ limited (is_small_node (n, t)) (n, t) }
+    ensures { (limit : SeenLimit) (n : SeenName) (t : List ℕ) → name ≡ limited (is_small limit n) n → text ≡ limited (is_short limit t) t
+        → result ≡ limited (is_small_node limit (n, t)) (n, t) }
 {
     match (name, text) {
         (Field::Within(name), Field::Within(text)) => Field::Within((name, text)),
@@ -88,13 +94,13 @@ fn node_of(name: Field<Name>, text: Field<Text>) -> Field<(Name, Text)>
 }
 
 // The text in listing quotes that stands behind `=` and is followed by nothing.
-fn read_value(alloc: Global, bytes: &[u8]) -> Result<Option<Field<Text>>, AllocError>
-    ensures { IfOk result (λ r. r ≡ value_field (value_of bytes.now)) }
+fn read_value(alloc: Global, bytes: &[u8], limit: Limit) -> Result<Option<Field<Text>>, AllocError>
+    ensures { IfOk result (λ r. r ≡ value_field limit (value_of bytes.now)) }
 {
     let Some(value) = behind(bytes, b'=') else {
         return Ok(None);
     };
-    let Some((text, rest)) = read_text(alloc, value)? else {
+    let Some((text, rest)) = read_text(alloc, value, limit)? else {
         return Ok(None);
     };
     if rest.is_empty() {

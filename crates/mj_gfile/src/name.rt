@@ -2,6 +2,7 @@
 
 ghost use Rattle.std.specs.Prelude.{◌≡◌, ◌++◌, ◌∷◌, [], ℕ, List, length, IfOk};
 ghost use Rattle.std.specs.Option.{option_map};
+ghost use Rattle.mj_text.specs.declared.limit.Limit.{Limit as SeenLimit};
 ghost use Rattle.std.specs.Char.{is_ascii_alphanumeric};
 ghost use Rattle.std.specs.List.{list_all};
 ghost use Rattle.mj_gfile.specs.Spelling.{is_any_word};
@@ -12,19 +13,20 @@ use crate::field::Field;
 use crate::quoted::{read_quoted, short_text, text_of};
 use mj_num::is_canonic_bytes;
 use mj_subs::{Name, SUBSCRIPTS_LIMIT, Sub, Subs, WORD_LIMIT};
-use mj_text::Text;
+use mj_text::{Limit, Text};
 use std::alloc::{AllocError, Global};
 
 /// The name at the front of some bytes, as a listing has it, and what follows it, or none where none stands there.
 pub fn read_name<'a>(
     alloc: Global,
     bytes: &'a [u8],
+    limit: Limit,
 ) -> Result<Option<(Field<Name>, &'a [u8])>, AllocError>
-    ensures { IfOk result (λ r. option_map (λ p. (p.0, p.1.now)) r ≡ name_field (name_at bytes.now)) }
+    ensures { IfOk result (λ r. option_map (λ p. (p.0, p.1.now)) r ≡ name_field limit (name_at bytes.now)) }
 {
     match bytes {
-        [b'^', rest @ ..] => read_name_in(alloc, true, rest),
-        _ => read_name_in(alloc, false, bytes),
+        [b'^', rest @ ..] => read_name_in(alloc, true, rest, limit),
+        _ => read_name_in(alloc, false, bytes, limit),
     }
 }
 
@@ -33,15 +35,16 @@ pub(crate) fn read_name_in<'a>(
     alloc: Global,
     global: bool,
     bytes: &'a [u8],
+    limit: Limit,
 ) -> Result<Option<(Field<Name>, &'a [u8])>, AllocError>
-    ensures { IfOk result (λ r. option_map (λ p. (p.0, p.1.now)) r ≡ name_field (name_in global bytes.now)) }
+    ensures { IfOk result (λ r. option_map (λ p. (p.0, p.1.now)) r ≡ name_field limit (name_in global bytes.now)) }
 {
     let (word, behind) = split_word(bytes);
     if !is_any_word(word) {
         return Ok(None);
     }
     let (subs, rest) = match behind {
-        [b'(', list @ ..] => match read_subscripts(alloc, list)? {
+        [b'(', list @ ..] => match read_subscripts(alloc, list, limit)? {
             Some(read) => read,
             None => return Ok(None),
         },
@@ -58,8 +61,8 @@ fn name_of(
     word: &[u8],
     subs: Field<Subs>,
 ) -> Result<Field<Name>, AllocError>
-    ensures { (list : List (List ℕ)) → subs ≡ limited (are_small list) list
-        → IfOk result (λ n. n ≡ limited (is_small (name global word.now list)) (name global word.now list)) }
+    ensures { (limit : SeenLimit) (list : List (List ℕ)) → subs ≡ limited (are_small limit list) list
+        → IfOk result (λ n. n ≡ limited (is_small limit (name global word.now list)) (name global word.now list)) }
 {
     let Field::Within(subs) = subs else {
         return Ok(Field::Over);
@@ -79,14 +82,15 @@ fn name_of(
 pub fn read_subscripts<'a>(
     alloc: Global,
     list: &'a [u8],
+    limit: Limit,
 ) -> Result<Option<(Field<Subs>, &'a [u8])>, AllocError>
-    ensures { IfOk result (λ r. option_map (λ p. (p.0, p.1.now)) r ≡ subscripts_field (subscripts_at list.now)) }
+    ensures { IfOk result (λ r. option_map (λ p. (p.0, p.1.now)) r ≡ subscripts_field limit (subscripts_at list.now)) }
 {
     let mut subs = Field::Within(Subs::new(alloc));
     let mut rest = list;
     // Each subscript has a byte at least.
     for _place in 0..list.len() {
-        let Some((sub, more, behind)) = read_item(alloc, rest)? else {
+        let Some((sub, more, behind)) = read_item(alloc, rest, limit)? else {
             return Ok(None);
         };
         subs = with_one_more(subs, sub)?;
@@ -100,8 +104,8 @@ pub fn read_subscripts<'a>(
 
 // One subscript more at the end of a list, if it is still within the limits.
 fn with_one_more(subs: Field<Subs>, sub: Field<Sub>) -> Result<Field<Subs>, AllocError>
-    ensures { (list : List (List ℕ)) (s : List ℕ) → subs ≡ limited (are_small list) list → sub ≡ limited (is_short s) s
-        → IfOk result (λ more. more ≡ limited (are_small (list ++ s ∷ [])) (list ++ s ∷ [])) }
+    ensures { (limit : SeenLimit) (list : List (List ℕ)) (s : List ℕ) → subs ≡ limited (are_small limit list) list → sub ≡ limited (is_short limit s) s
+        → IfOk result (λ more. more ≡ limited (are_small limit (list ++ s ∷ [])) (list ++ s ∷ [])) }
 {
     let Field::Within(mut list) = subs else {
         return Ok(Field::Over);
@@ -122,10 +126,11 @@ fn with_one_more(subs: Field<Subs>, sub: Field<Sub>) -> Result<Field<Subs>, Allo
 fn read_item<'a>(
     alloc: Global,
     bytes: &'a [u8],
+    limit: Limit,
 ) -> Result<Option<(Field<Sub>, bool, &'a [u8])>, AllocError>
-    ensures { IfOk result (λ r. option_map (λ p. (p.0, p.1, p.2.now)) r ≡ item_field (item_at bytes.now)) }
+    ensures { IfOk result (λ r. option_map (λ p. (p.0, p.1, p.2.now)) r ≡ item_field limit (item_at bytes.now)) }
 {
-    let Some((sub, tail)) = read_subscript(alloc, bytes)? else {
+    let Some((sub, tail)) = read_subscript(alloc, bytes, limit)? else {
         return Ok(None);
     };
     let Some((more, rest)) = read_mark(tail) else {
@@ -152,8 +157,9 @@ fn read_mark(bytes: &[u8]) -> Option<(bool, &[u8])>
 pub fn read_subscript<'a>(
     alloc: Global,
     bytes: &'a [u8],
+    limit: Limit,
 ) -> Result<Option<(Field<Sub>, &'a [u8])>, AllocError>
-    ensures { IfOk result (λ r. option_map (λ p. (p.0, p.1.now)) r ≡ text_field (subscript_at bytes.now)) }
+    ensures { IfOk result (λ r. option_map (λ p. (p.0, p.1.now)) r ≡ text_field limit (subscript_at bytes.now)) }
 {
     if let [b'"', inner @ ..] = bytes {
         let Some((text, rest)) = read_quoted(alloc, inner)? else {
@@ -162,14 +168,14 @@ pub fn read_subscript<'a>(
         if text.is_empty() || is_canonic_bytes(text.as_slice()) {
             return Ok(None);
         }
-        let sub = subscript_of(short_text(alloc, text.as_slice())?);
+        let sub = subscript_of(short_text(alloc, text.as_slice(), limit)?);
         return Ok(Some((sub, rest)));
     }
     let (number, rest) = split_number(bytes);
     if !is_canonic_bytes(number) {
         return Ok(None);
     }
-    let sub = subscript_of(short_text(alloc, number)?);
+    let sub = subscript_of(short_text(alloc, number, limit)?);
     Ok(Some((sub, rest)))
 }
 

@@ -8,15 +8,16 @@ ghost use Rattle.mj_gfile.specs.Listing.{limited, is_short, text_field};
 ghost use Rattle.mj_gfile.specs.Units.{IsUnit, unit_of, IsUnitOf};
 
 use crate::field::Field;
-use mj_text::{TEXT_LIMIT, Text};
+use mj_text::{Limit, Text};
 use std::alloc::{AllocError, Global};
 
 /// The text in listing quotes at the front of some bytes, and what follows it, or none where none stands there.
 pub fn read_text<'a>(
     alloc: Global,
     bytes: &'a [u8],
+    limit: Limit,
 ) -> Result<Option<(Field<Text>, &'a [u8])>, AllocError>
-    ensures { IfOk result (λ r. option_map (λ p. (p.0, p.1.now)) r ≡ text_field (text_at bytes.now)) }
+    ensures { IfOk result (λ r. option_map (λ p. (p.0, p.1.now)) r ≡ text_field limit (text_at bytes.now)) }
 {
     let [b'"', inner @ ..] = bytes else {
         return Ok(None);
@@ -24,7 +25,7 @@ pub fn read_text<'a>(
     let Some((text, rest)) = read_quoted(alloc, inner)? else {
         return Ok(None);
     };
-    let text = short_text(alloc, text.as_slice())?;
+    let text = short_text(alloc, text.as_slice(), limit)?;
     Ok(Some((text, rest)))
 }
 
@@ -112,11 +113,15 @@ fn digit_value(byte: u8) -> Option<u8>
     }
 }
 
-/// A text of these bytes, if it is within its limit.
-pub(crate) fn short_text(alloc: Global, bytes: &[u8]) -> Result<Field<Text>, AllocError>
-    ensures { IfOk result (λ text. text ≡ limited (is_short bytes.now) bytes.now) }
+/// A text of these bytes, if it is within this limit.
+pub(crate) fn short_text(
+    alloc: Global,
+    bytes: &[u8],
+    limit: Limit,
+) -> Result<Field<Text>, AllocError>
+    ensures { IfOk result (λ text. text ≡ limited (is_short limit bytes.now) bytes.now) }
 {
-    if bytes.len() > TEXT_LIMIT {
+    if bytes.len() > limit.bytes() {
         return Ok(Field::Over);
     }
     Ok(Field::Within(text_of(alloc, bytes)?))

@@ -2,6 +2,7 @@
 
 ghost use Rattle.std.specs.Prelude.{◌≡◌, ◌++◌, ◌∷◌, [], OnOk, IfOk};
 ghost use Rattle.std.specs.Io.KnownBytes.{Appends};
+ghost use Rattle.mj_text.specs.declared.limit.Limit.TheVariants.{V2};
 ghost use Rattle.mj_gfile.specs.Spelling.{header, listing_of};
 
 use crate::HEADER;
@@ -16,9 +17,9 @@ use std::io::{ErrorKind, Write};
 // From how many bytes on lines are written.
 const PART: usize = 65_536;
 
-/// The listing of a store, as bytes.
+/// The listing of a store, as bytes. It is one of version 2, which holds each text that there is.
 pub fn write(alloc: Global, globals: &Globals) -> Result<Vec<u8>, AllocError>
-    ensures { IfOk result (λ bytes. bytes.items ≡ listing_of globals.now.content) }
+    ensures { IfOk result (λ bytes. bytes.items ≡ listing_of V2 globals.now.content) }
 {
     match write_to(alloc, globals, Vec::new(alloc)) {
         Ok(bytes) => Ok(bytes),
@@ -26,10 +27,10 @@ pub fn write(alloc: Global, globals: &Globals) -> Result<Vec<u8>, AllocError>
     }
 }
 
-/// Writes the listing of a store to a writer, a part at a time, and gives the writer back. Beside a part and a line it takes no memory. After a refusal
-/// a front of the listing may have been written.
+/// Writes the listing of a store, of version 2, to a writer, a part at a time, and gives the writer back. Beside a part and a line it takes no memory.
+/// After a refusal a front of the listing may have been written.
 pub fn write_to<W: Write + Drop>(alloc: Global, globals: &Globals, out: W) -> Result<W, SinkStop>
-    ensures { IfOk result (λ given. Appends (W.contents out) (W.contents given) (listing_of globals.now.content)) }
+    ensures { IfOk result (λ given. Appends (W.contents out) (W.contents given) (listing_of V2 globals.now.content)) }
 {
     let mut lines = Lines {
         bytes: first_line(alloc)?,
@@ -43,7 +44,7 @@ pub fn write_to<W: Write + Drop>(alloc: Global, globals: &Globals, out: W) -> Re
 
 // The first line, with its byte 10.
 fn first_line(alloc: Global) -> Result<Vec<u8>, AllocError>
-    ensures { IfOk result (λ bytes. bytes.items ≡ header ++ 10 ∷ []) }
+    ensures { IfOk result (λ bytes. bytes.items ≡ header V2 ++ 10 ∷ []) }
 {
     let mut bytes = Vec::new(alloc);
     bytes.extend_from_slice(HEADER)?;

@@ -3,6 +3,7 @@
 ghost use Rattle.std.specs.Prelude.{◌≡◌, ◌<◌, ◌≤◌, ◌++◌, ◌∷◌, [], true, length, if◌then◌else◌, is_ok, IfOk, OnOk};
 ghost use Rattle.std.specs.List.{list_all};
 ghost use Rattle.mj_text.specs.declared.text.TheConstants.{TEXT_LIMIT};
+ghost use Rattle.mj_text.specs.declared.limit.Limit.TheVariants.{V2};
 ghost use Rattle.mj_gfile.specs.Begins.{HasFront};
 ghost use Rattle.mj_gfile.specs.Listing.{is_text};
 ghost use Rattle.mj_gfile.specs.Spelling.{digit_byte, is_shown, quoted_byte, quoted_bytes, listed_text, listed_subscript, listed_rest, listed_subscripts};
@@ -78,7 +79,7 @@ fn add_value(bytes: &mut Vec<u8>, text: &Text) -> Result<(), AllocError>
 /// Puts a name to the end of some bytes, as a listing has it.
 pub fn put_name(bytes: &mut Vec<u8>, name: &Name) -> Result<(), AllocError>
     ensures text { bytes.new.items ≡ (if is_ok result then bytes.old.items ++ listed_name name.now else bytes.old.items) }
-    ensures fits { OnOk result (list_all is_text name.now.subscripts ≡ true) }
+    ensures fits { OnOk result (list_all (is_text V2) name.now.subscripts ≡ true) }
 {
     let before = bytes.len();
     let added = add_name(bytes, name);
@@ -93,7 +94,7 @@ pub fn put_name(bytes: &mut Vec<u8>, name: &Name) -> Result<(), AllocError>
 fn add_name(bytes: &mut Vec<u8>, name: &Name) -> Result<(), AllocError>
     ensures ok { OnOk result (bytes.new.items ≡ bytes.old.items ++ listed_name name.now) }
     ensures kept { HasFront bytes.old.items bytes.new.items }
-    ensures fits { OnOk result (list_all is_text name.now.subscripts ≡ true) }
+    ensures fits { OnOk result (list_all (is_text V2) name.now.subscripts ≡ true) }
 {
     let mut digits = Digits::new();
     let word = name.word().bytes(&mut digits);
@@ -105,7 +106,7 @@ fn add_name(bytes: &mut Vec<u8>, name: &Name) -> Result<(), AllocError>
 fn add_parts(bytes: &mut Vec<u8>, global: bool, word: &[u8], subs: &[Sub]) -> Result<(), AllocError>
     ensures ok { OnOk result (bytes.new.items ≡ bytes.old.items ++ listed_name (record { global = global; word = word.now; subscripts = subs.now })) }
     ensures kept { HasFront bytes.old.items bytes.new.items }
-    ensures fits { OnOk result (list_all is_text subs.now ≡ true) }
+    ensures fits { OnOk result (list_all (is_text V2) subs.now ≡ true) }
 {
     if global {
         bytes.push(b'^')?;
@@ -117,7 +118,7 @@ fn add_parts(bytes: &mut Vec<u8>, global: bool, word: &[u8], subs: &[Sub]) -> Re
 /// Puts a list of subscripts to the end of some bytes, as a listing has it: nothing for none.
 pub fn put_subscripts(bytes: &mut Vec<u8>, subs: &[Sub]) -> Result<(), AllocError>
     ensures text { bytes.new.items ≡ (if is_ok result then bytes.old.items ++ listed_subscripts subs.now else bytes.old.items) }
-    ensures fits { OnOk result (list_all is_text subs.now ≡ true) }
+    ensures fits { OnOk result (list_all (is_text V2) subs.now ≡ true) }
 {
     let before = bytes.len();
     let added = add_subscripts(bytes, subs);
@@ -132,7 +133,7 @@ pub fn put_subscripts(bytes: &mut Vec<u8>, subs: &[Sub]) -> Result<(), AllocErro
 fn add_subscripts(bytes: &mut Vec<u8>, subs: &[Sub]) -> Result<(), AllocError>
     ensures ok { OnOk result (bytes.new.items ≡ bytes.old.items ++ listed_subscripts subs.now) }
     ensures kept { HasFront bytes.old.items bytes.new.items }
-    ensures fits { OnOk result (list_all is_text subs.now ≡ true) }
+    ensures fits { OnOk result (list_all (is_text V2) subs.now ≡ true) }
 {
     let [first, rest @ ..] = subs else {
         return Ok(());
@@ -150,7 +151,7 @@ fn add_subscripts(bytes: &mut Vec<u8>, subs: &[Sub]) -> Result<(), AllocError>
 /// Puts a subscript to the end of some bytes, as a listing has it.
 pub fn put_subscript(bytes: &mut Vec<u8>, sub: &Sub) -> Result<(), AllocError>
     ensures text { bytes.new.items ≡ (if is_ok result then bytes.old.items ++ listed_subscript sub.now else bytes.old.items) }
-    ensures fits { OnOk result (is_text sub.now ≡ true) }
+    ensures fits { OnOk result (is_text V2 sub.now ≡ true) }
 {
     let before = bytes.len();
     let added = add_subscript(bytes, sub);
@@ -165,7 +166,7 @@ pub fn put_subscript(bytes: &mut Vec<u8>, sub: &Sub) -> Result<(), AllocError>
 fn add_subscript(bytes: &mut Vec<u8>, sub: &Sub) -> Result<(), AllocError>
     ensures ok { OnOk result (bytes.new.items ≡ bytes.old.items ++ listed_subscript sub.now) }
     ensures kept { HasFront bytes.old.items bytes.new.items }
-    ensures fits { OnOk result (is_text sub.now ≡ true) }
+    ensures fits { OnOk result (is_text V2 sub.now ≡ true) }
 {
     if sub.number().is_none() {
         return add_text(bytes, sub.text());
@@ -180,7 +181,7 @@ fn add_subscript(bytes: &mut Vec<u8>, sub: &Sub) -> Result<(), AllocError>
 /// Puts a text in listing quotes to the end of some bytes.
 pub fn put_text(bytes: &mut Vec<u8>, text: &Text) -> Result<(), AllocError>
     ensures text { bytes.new.items ≡ (if is_ok result then bytes.old.items ++ listed_text text.now else bytes.old.items) }
-    ensures fits { OnOk result (is_text text.now ≡ true) }
+    ensures fits { OnOk result (is_text V2 text.now ≡ true) }
 {
     let before = bytes.len();
     let added = add_text(bytes, text);
@@ -195,7 +196,7 @@ pub fn put_text(bytes: &mut Vec<u8>, text: &Text) -> Result<(), AllocError>
 fn add_text(bytes: &mut Vec<u8>, text: &Text) -> Result<(), AllocError>
     ensures ok { OnOk result (bytes.new.items ≡ bytes.old.items ++ listed_text text.now) }
     ensures kept { HasFront bytes.old.items bytes.new.items }
-    ensures fits { OnOk result (is_text text.now ≡ true) }
+    ensures fits { OnOk result (is_text V2 text.now ≡ true) }
 {
     let mut digits = Digits::new();
     let spelled = text.bytes(&mut digits);
@@ -209,7 +210,7 @@ fn add_text(bytes: &mut Vec<u8>, text: &Text) -> Result<(), AllocError>
 // Bytes that lie in memory are those of a text, if they aren't too many. There is nothing to do.
 fn lie_within(bytes: &[u8])
     requires { length bytes.now ≤ TEXT_LIMIT }
-    ensures { is_text bytes.now ≡ true }
+    ensures { is_text V2 bytes.now ≡ true }
 {}
 
 #[tactic(auto, using(crate::proofs::Longer::begins_same, crate::proofs::Longer::begins_more, crate::proofs::Longer::begins_trans))]

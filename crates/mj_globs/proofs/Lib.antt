@@ -9,3 +9,4 @@ pub mod Gathered
 pub mod Walked
 pub mod Stamping
 pub mod Lists
+pub mod Within

@@ -8,6 +8,7 @@ ghost use Rattle.mj_store.specs.Changes.{after_set, after_kill, after_put, is_to
 ghost use Rattle.mj_tree.specs.Undo.{restored};
 ghost use Rattle.mj_tree.specs.Walks.{StopsSo};
 ghost use Rattle.mj_globs.specs.Changes.{after_change, after_changes, goes_too_deep, is_to, are_to};
+ghost use Rattle.mj_globs.specs.Within.{is_content_within};
 ghost use Rattle.mj_globs.specs.Stamps.{stamp_at, IsRaisedAt, IsCounted, Rises, KeepsStamps};
 ghost use Rattle.mj_text.specs.declared.fault.Failure.TheVariants as failure;
 ghost use Rattle.mj_text.specs.declared.fault.Fault.TheVariants as fault;
@@ -18,7 +19,7 @@ use crate::stamps::Stamps;
 use crate::texts::Texts;
 use mj_store::{Direction, Nodes, Store, is_too_deep};
 use mj_subs::{Name, Sub};
-use mj_text::{Failure, Fault, Text};
+use mj_text::{Failure, Fault, Limit, Text};
 use mj_tree::{Sink, SinkStop};
 use std::alloc::{AllocError, Global};
 use std::marker::Model;
@@ -89,6 +90,16 @@ impl Globals {
         ensures closed { IfErr result (StopsSo S.closes sink.old self.now.content sink.new) }
     {
         self.texts.walk(sink)
+    }
+
+    /// Whether each of its subscripts and of its texts is one of this limit. That of the greater one looks at nothing.
+    pub fn within(&self, limit: Limit) -> bool
+        ensures { result ≡ is_content_within limit self.now.content }
+    {
+        match limit {
+            Limit::V1 => self.texts.are_within(Limit::V1),
+            Limit::V2 => true,
+        }
     }
 
     /// The stamp of a name's word. A local always has the greatest one, as its changes aren't stamped.

@@ -2,6 +2,7 @@
 
 ghost use Rattle.std.specs.Prelude.{◌≡◌, [], List, ℕ, option_copied, IfOk, IfErr, OnOk};
 ghost use Rattle.std.specs.FinMap.{find};
+ghost use Rattle.std.specs.List.{list_all};
 ghost use Rattle.std.specs.Cmp.Lexicographic.{slice_cmp};
 ghost use Rattle.mj_subs.specs.Collation.{subscript_cmp, name_cmp};
 ghost use Rattle.mj_store.specs.Nodes.{subtree};
@@ -9,11 +10,12 @@ ghost use Rattle.mj_store.specs.Questions.{with_subscripts, value_at, subtree_at
 ghost use Rattle.mj_tree.specs.Nest.{nodes_of};
 ghost use Rattle.mj_tree.specs.Undo.{restored};
 ghost use Rattle.mj_tree.specs.Walks.{StopsSo};
+ghost use Rattle.mj_globs.specs.Within.{is_entry_within};
 
 use crate::words::{self, Words};
 use mj_store::{Direction, Nodes, Store};
 use mj_subs::{Name, Sub, Subs};
-use mj_text::{Failure, Text};
+use mj_text::{Failure, Limit, Text};
 use mj_tree::{Sink, SinkStop, Tree};
 use std::alloc::{AllocError, Global};
 use std::collections::BTreeMap;
@@ -89,6 +91,13 @@ impl Texts {
     {
         words::walk(&self.globals, true, sink)?;
         words::walk(&self.locals, false, sink)
+    }
+
+    /// Whether each of its subscripts and of its texts is one of this limit.
+    pub fn are_within(&self, limit: Limit) -> bool
+        ensures { result ≡ list_all (is_entry_within limit) self.now }
+    {
+        words::are_within(&self.globals, limit) && words::are_within(&self.locals, limit)
     }
 
     /// Gives a text in place of its own to a name that has one, or takes it. Nothing changes at a name without one.

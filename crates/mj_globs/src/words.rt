@@ -2,6 +2,7 @@
 
 ghost use Rattle.std.specs.Prelude.{◌≡◌, ◌↔◌, ◌++◌, if◌then◌else◌, Bool, option_copied, IsTrue, IfOk, IfErr, OnOk, OnErr, T};
 ghost use Rattle.std.specs.FinMap.{put, is_sorted};
+ghost use Rattle.std.specs.List.{list_all};
 ghost use Rattle.std.specs.Map.{lookup, remove_entry};
 ghost use Rattle.std.specs.BTreeMap.{is_at, insert_entry};
 ghost use Rattle.std.specs.Ordering.{nat_cmp};
@@ -11,13 +12,14 @@ ghost use Rattle.mj_store.specs.Changes.{after_set, after_kill, after_put};
 ghost use Rattle.mj_tree.specs.Nest.{nodes_of, is_too_long};
 ghost use Rattle.mj_tree.specs.Undo.{restored};
 ghost use Rattle.mj_tree.specs.Walks.{StopsSo};
+ghost use Rattle.mj_globs.specs.Within.{is_entry_within};
 ghost use Rattle.mj_globs.specs.Words.{spelled, spelled_of, name, of_kind, of_word};
 ghost use Rattle.mj_text.specs.declared.fault.Failure.TheVariants as failure;
 ghost use Rattle.mj_text.specs.declared.fault.Fault.TheVariants as fault;
 
 use mj_store::Nodes;
 use mj_subs::{Name, Subs};
-use mj_text::{Digits, Failure, Text};
+use mj_text::{Digits, Failure, Limit, Text};
 use mj_tree::{Sink, SinkStop, Tree};
 use std::alloc::{AllocError, Global};
 use std::collections::BTreeMap;
@@ -188,6 +190,18 @@ pub fn walk<S: Sink>(words: &Words, global: bool, sink: &mut S) -> Result<(), Si
         tree.walk(global, word.as_slice(), sink)?;
     }
     Ok(())
+}
+
+/// Whether each subscript and each text of these words is one of this limit.
+pub fn are_within(words: &Words, limit: Limit) -> bool
+    ensures { (g : Bool) → result ≡ list_all (is_entry_within limit) (of_kind g (spelled words.now.entries)) }
+{
+    for (_, tree) in words {
+        if !tree.is_within(limit) {
+            return false;
+        }
+    }
+    true
 }
 
 /// Adds a word, or puts another tree in place of that of the word.

@@ -3,10 +3,10 @@ use Rattle.std.proofs.Common.{◌≡◌, ℕ, ◌+◌, ◌≤◌, List, Option, 
 use Rattle.std.specs.Prelude.{Result, Ok, Err, IsErrAnd}
 use Rattle.mj_ask.specs.declared.ask.Ask.{Ask}
 use Rattle.mj_ask.specs.declared.ask.Reply.{Reply}
+use Rattle.mj_semantics.specs.Program.{Program}
 use Rattle.mj_semantics.specs.Job.{Start}
-use Rattle.mj_ast.specs.Syntax.{Routine}
 use Rattle.mj_pcode.specs.declared.instr.Unit.{Unit}
-use Rattle.mj_load.specs.Image.{Loaded, routines_of}
+use Rattle.mj_load.specs.Image.{Loaded, program_of}
 use Rattle.mj_jobvm.specs.declared.job.Turn.{Turn}
 use Rattle.mj_jobvm.specs.declared.job.Turn.TheVariants as reports
 use Rattle.mj_jobvm.specs.declared.job.Went.{Went}
@@ -22,22 +22,22 @@ use Rattle.mj_segment.specs.Segments.{StepsBy, Runs}
 use Rattle.mj_jobvm.proofs.Jobs.{run, turned, turned_by, asking, fewer, told_ended}
 
 -- the same of a pending ask by another name, and of fewer turns
-pub counted_as : (routines : List Routine) (start : Start) (code : Code) (turns : ℕ) (log : Log) (pending named : Option Ask) (spent counted : ℕ) (at : Standing)
+pub counted_as : (program : Program) (start : Start) (code : Code) (turns : ℕ) (log : Log) (pending named : Option Ask) (spent counted : ℕ) (at : Standing)
     → named ≡ pending → counted ≤ spent
-    → IsRunAfter routines start code turns (run log pending spent at) → IsRunAfter routines start code turns (run log named counted at)
-counted_as routines start code turns log pending named spent counted at e le r =
-    let P : Option Ask → Type 0 = λ p. IsRunAfter routines start code turns (run log p counted at) in
-    subst P (sym e) (fewer routines start code log pending counted spent turns at le r)
+    → IsRunAfter program start code turns (run log pending spent at) → IsRunAfter program start code turns (run log named counted at)
+counted_as program start code turns log pending named spent counted at e le r =
+    let P : Option Ask → Type 0 = λ p. IsRunAfter program start code turns (run log p counted at) in
+    subst P (sym e) (fewer program start code log pending counted spent turns at le r)
 
 -- a run after no more turns, and after some more of which some were made before the others
-pub none_more : {routines : List Routine} {start : Start} {code : Code} {job : Run} (turns : ℕ)
-    → IsRunAfter routines start code turns job → IsRunAfter routines start code (turns + 0) job
-none_more {routines} {start} {code} {job} turns = subst (λ k. IsRunAfter routines start code k job) (let e : turns ≡ turns + 0 = omega arith in e)
+pub none_more : {program : Program} {start : Start} {code : Code} {job : Run} (turns : ℕ)
+    → IsRunAfter program start code turns job → IsRunAfter program start code (turns + 0) job
+none_more {program} {start} {code} {job} turns = subst (λ k. IsRunAfter program start code k job) (let e : turns ≡ turns + 0 = omega arith in e)
 
-pub further : {routines : List Routine} {start : Start} {code : Code} {job : Run} (turns done more : ℕ)
-    → IsRunAfter routines start code (turns + done + more) job → IsRunAfter routines start code (turns + (done + more)) job
-further {routines} {start} {code} {job} turns done more =
-    subst (λ k. IsRunAfter routines start code k job) (let e : turns + done + more ≡ turns + (done + more) = omega arith in e)
+pub further : {program : Program} {start : Start} {code : Code} {job : Run} (turns done more : ℕ)
+    → IsRunAfter program start code (turns + done + more) job → IsRunAfter program start code (turns + (done + more)) job
+further {program} {start} {code} {job} turns done more =
+    subst (λ k. IsRunAfter program start code k job) (let e : turns + done + more ≡ turns + (done + more) = omega arith in e)
 
 -- a call that is refused memory may have made no turn
 pub none_made : {E : Type 0} (Q : E → Type 0) (r : Result Turn E) (fuel : ℕ) → IsErrAnd r Q → AreMade r fuel 0
@@ -52,7 +52,7 @@ went_ahead image start from turns units log e spent k old new given runs sound r
     let g : Option Reply = given_of given log in
     let P : List Unit → Type 0 = λ us. StepsBy (record { units = us; start = from }) k (standing old g) (standing new g) in
     let h : IsSound image.units (standing new None) = subst (λ us. IsSound us (standing new None)) e sound in
-    turned_by (routines_of image) start (code_in image from) log spent turns k (standing old g) (standing new g) (subst P e (runs from g)) h r
+    turned_by (program_of image) start (code_in image from) log spent turns k (standing old g) (standing new g) (subst P e (runs from g)) h r
 
 module _ (image : Loaded) (start from : Start) (turns : ℕ) (units : List Unit) (log seen : Log) (eu : units ≡ image.units) (el : seen ≡ log)
     (spent : ℕ) (old new : Machine) (given left : Bool) (went : Went)
@@ -76,20 +76,20 @@ module _ (image : Loaded) (start from : Start) (turns : ℕ) (units : List Unit)
       subst R e (subst Q el (subst P eu steps))
 
   pub went_on : went ≡ wents.On → IsRunOfAfter image start (turns + 1) (running from new log left None (spent + 1))
-  went_on e = turned (routines_of image) start code log spent turns before after (steps_as wents.On e) (let h : IsSound image.units (standing new None) =
+  went_on e = turned (program_of image) start code log spent turns before after (steps_as wents.On e) (let h : IsSound image.units (standing new None) =
       subst (λ us. IsSound us (standing new None)) eu sound in h) r
 
   pub went_asks : (a : Box Ask Global) → went ≡ wents.Asks a → IsRunOfAfter image start turns (running from new log left (Some a.value) spent)
   went_asks a e =
       let s = steps_as (wents.Asks a) e in
-      let P : Standing → Type 0 = λ x. IsRunAfter (routines_of image) start code turns (run log (Some a.value) spent x) in
-      subst P (sym s.0) (asking (routines_of image) start code log spent turns a.value before s.1 s.2 r)
+      let P : Standing → Type 0 = λ x. IsRunAfter (program_of image) start code turns (run log (Some a.value) spent x) in
+      subst P (sym s.0) (asking (program_of image) start code log spent turns a.value before s.1 s.2 r)
 
   pub went_over : went ≡ wents.Over → IsRunOfAfter image start turns (running from new log left None spent)
   went_over e =
       let s = steps_as wents.Over e in
-      let P : Standing → Type 0 = λ x. IsRunAfter (routines_of image) start code turns (run log None spent x) in
+      let P : Standing → Type 0 = λ x. IsRunAfter (program_of image) start code turns (run log None spent x) in
       subst P (sym s.0) r
 
-  pub told_over : went ≡ wents.Over → (pending : Option Ask) (counted : ℕ) → AdvanceTells (routines_of image) start reports.Ended (run log pending counted after)
-  told_over e pending counted = told_ended (routines_of image) start code log None spent before ((steps_as wents.Over e).1) (turns, r)
+  pub told_over : went ≡ wents.Over → (pending : Option Ask) (counted : ℕ) → AdvanceTells (program_of image) start reports.Ended (run log pending counted after)
+  told_over e pending counted = told_ended (program_of image) start code log None spent before ((steps_as wents.Over e).1) (turns, r)

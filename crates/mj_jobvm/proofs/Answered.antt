@@ -6,7 +6,8 @@ use Rattle.mj_ask.specs.declared.ask.Ask.{Ask}
 use Rattle.mj_ask.specs.declared.ask.Reply.{Reply}
 use Rattle.mj_semantics.specs.Job.{Start}
 use Rattle.mj_ask.specs.Fits.{fits}
-use Rattle.mj_load.specs.Image.{Loaded, routines_of}
+use Rattle.mj_ask.specs.Within.{is_reply_within}
+use Rattle.mj_load.specs.Image.{Loaded, program_of}
 use Rattle.mj_machine.specs.declared.machine.Machine.{Machine}
 use Rattle.mj_machine.specs.Kept.{standing}
 use Rattle.mj_jobvm.specs.Run.{Log, IsRunAfter}
@@ -28,17 +29,17 @@ fits_it pending ask reply e f =
 
 pub answered_by : (image : Loaded) (start : Start) (from : Start) (machine : Machine) (log now : Log) (given : Bool) (pending left : Option Ask)
     (spent : ℕ) (ask : Ask) (reply : Reply)
-    → pending ≡ Some ask → FitsPending pending reply → now ≡ log ++ (ask, reply) ∷ [] → left ≡ None
+    → is_reply_within image.bounds.limit reply ≡ true → pending ≡ Some ask → FitsPending pending reply → now ≡ log ++ (ask, reply) ∷ [] → left ≡ None
     → IsRunOf image start (running from machine log given pending spent) → IsRunOf image start (running from machine now true left 0)
-answered_by image start from machine log now given pending left spent ask reply e f is none (turns, r) =
-    let routines = routines_of image in
+answered_by image start from machine log now given pending left spent ask reply within e f is none (turns, r) =
+    let program = program_of image in
     let code = code_in image from in
     let with : Log = log ++ (ask, reply) ∷ [] in
-    let P : Option Ask → Type 0 = λ p. IsRunAfter routines start code turns (run log p spent (standing machine (given_of given log))) in
-    let Q : Option Reply → Type 0 = λ g. IsRunAfter routines start code 0 (run with None 0 (standing machine g)) in
-    let R : Option Ask → Type 0 = λ p. IsRunAfter routines start code 0 (run with p 0 (standing machine (last_reply with))) in
-    let S : Log → Type 0 = λ l. IsRunAfter routines start code 0 (run l left 0 (standing machine (last_reply l))) in (
+    let P : Option Ask → Type 0 = λ p. IsRunAfter program start code turns (run log p spent (standing machine (given_of given log))) in
+    let Q : Option Reply → Type 0 = λ g. IsRunAfter program start code 0 (run with None 0 (standing machine g)) in
+    let R : Option Ask → Type 0 = λ p. IsRunAfter program start code 0 (run with p 0 (standing machine (last_reply with))) in
+    let S : Log → Type 0 = λ l. IsRunAfter program start code 0 (run l left 0 (standing machine (last_reply l))) in (
       0,
       subst S (sym is) (subst R (sym none) (subst Q (sym (last_with log ask reply))
-          (answered routines start code log spent turns ask reply (standing machine (given_of given log)) (fits_it pending ask reply e f) (subst P e r)))),
+          (answered program start code log spent turns ask reply (standing machine (given_of given log)) (fits_it pending ask reply e f) within (subst P e r)))),
     )

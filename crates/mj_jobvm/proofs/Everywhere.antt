@@ -19,12 +19,12 @@ use Rattle.mj_semantics.specs.Sharing.{in_time as test_in_time}
 use Rattle.mj_semantics.specs.Transactions.{begin_transaction, commit, roll_back, roll_back_for_restart, begin_restart}
 use Rattle.mj_jobvm.proofs.Rule.{Rule, IsLike, tests_same}
 
--- as many asks were replied to in one state as in another, at as many levels a transaction is, and no more devices are open
+-- as many asks were replied to in one state as in another, at as many levels a transaction is, no more devices are open, and the bounds are the same
 abbrev pub IsLess : State → State → Type 0
-IsLess s t = (t.replied ≡ s.replied) × (length t.devices ≤ length s.devices) × (t.level ≡ s.level)
+IsLess s t = (t.replied ≡ s.replied) × (length t.devices ≤ length s.devices) × (t.level ≡ s.level) × (t.bounds ≡ s.bounds)
 
 less : (s t : State) → IsLike s t → IsLess s t
-less s t same = (same.0, (let many : length t.devices ≡ length s.devices = ap length same.2 in omega (arith, many)), same.1)
+less s t same = (same.0, (let many : length t.devices ≡ length s.devices = ap length same.2 in omega (arith, many)), same.1, same.4)
 
 -- the same as a rule, but that an ask may be any, and a change may take devices away
 pub record Everywhere (K Apart : Timed → Type 0) : Type 0 where
@@ -54,10 +54,10 @@ device_length name f (d ∷ devices) = by (bytes_eq d.name name) (device_length 
     by false e = ap suc e
 
 on_device_less : (name : List ℕ) (f : OpenDevice → OpenDevice) (s : State) → IsLess s (record s { devices = on_device name f s.devices })
-on_device_less name f s = (refl, omega (arith, device_length name f s.devices), refl)
+on_device_less name f s = (refl, omega (arith, device_length name f s.devices), refl, refl)
 
 dropped_less : (name : List ℕ) (s : State) → IsLess s (dropped name s)
-dropped_less name s = (refl, omega (arith, length-filter_both (λ d. not (bytes_eq d.name name)) (λ d. not (not (bytes_eq d.name name))) (λ d. refl) s.devices), refl)
+dropped_less name s = (refl, omega (arith, length-filter_both (λ d. not (bytes_eq d.name name)) (λ d. not (not (bytes_eq d.name name))) (λ d. refl) s.devices), refl, refl)
 
 module _ (K Apart : Timed → Type 0) (all : Everywhere K Apart) where
   chosen : (b : Bool) (t u : Timed) → K t → K u → K (if b then t else u)
@@ -89,7 +89,7 @@ module _ (K Apart : Timed → Type 0) (all : Everywhere K Apart) where
   use_keeps : (name : List ℕ) (t : Timed) → K t → K (use_device name t)
   use_keeps name t k =
       all.looked _ (λ s. chosen (is_open name s) (change (used name) t) (fault faults.NoDevice)
-      (all.changed (used name) t (λ q. (refl, (let many : length q.devices ≤ length q.devices = omega arith in many), refl)) k) (all.faulted faults.NoDevice))
+      (all.changed (used name) t (λ q. (refl, (let many : length q.devices ≤ length q.devices = omega arith in many), refl, refl)) k) (all.faulted faults.NoDevice))
 
   give_up_keeps : (name : List ℕ) (t : Timed) → K t → K (give_up name t)
   give_up_keeps name t k = all.asked (asks.Shared (shared_asks.Close name)) (λ r. t) (λ r. k)

@@ -11,7 +11,7 @@ use Rattle.mj_ask.specs.declared.ask.DeviceAsk.{DeviceAsk}
 use Rattle.mj_ask.specs.declared.ask.DeviceAsk.TheVariants as device_asks
 use Rattle.mj_ask.specs.declared.ask.Reply.{Reply}
 use Rattle.mj_semantics.specs.State.{State, Locals, Place, OpenDevice, principal, on_device, has_failed, ending_order, counted, broke}
-use Rattle.mj_semantics.specs.Outcome.{Outcome, Needs, Ended, Handler, Timed, turn, change, asking, over, halt, ends, end, fault_bytes, fault, steps_limit, ask, is_failed, to_device}
+use Rattle.mj_semantics.specs.Outcome.{Outcome, Needs, Ended, Handler, Timed, turn, change, asking, over, halt, ends, end, fault_bytes, fault, ask, is_failed, to_device}
 use Rattle.mj_jobvm.specs.Run.{Log, replies_of}
 use Rattle.mj_jobvm.specs.Fit.{Link, Links, is_end, link_called, links_behind, links_after, IsFit}
 use Rattle.mj_jobvm.proofs.Names.{same_name, itself, never, is_in, AreApart, names_of, is_in_others, apart_more, names_on, failed_at, fails}
@@ -187,7 +187,7 @@ fits_fault f n h s links en = fits_turn _ n h s links (λ m. by (has_failed prin
 
 pub fits_ask : (x : Ask) (rest : Reply → Timed) (n : ℕ) (h : Handler) (s : State) (links : Links) → Ends s.devices links → IsFit links x
     → ((r : Reply) → Fits (links_behind links x r) (rest r n h (counted s))) → Fits links (ask x rest n h s)
-fits_ask x rest n h s links en fit k = by (nat_lt s.replied steps_limit)
+fits_ask x rest n h s links en fit k = by (nat_lt s.replied s.bounds.events)
   where
     by : (b : Bool) → Fits links ((if b then asking x (λ r. change counted (rest r)) else fault faults.Steps) n h s)
     by true = fits_asking x (λ r. change counted (rest r)) n h s links fit k

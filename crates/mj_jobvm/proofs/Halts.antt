@@ -8,12 +8,12 @@ use Rattle.mj_ask.specs.declared.ask.Ask.{Ask}
 use Rattle.mj_ask.specs.declared.ask.Ask.TheVariants as asks
 use Rattle.mj_ask.specs.declared.ask.SharedAsk.TheVariants as shared_asks
 use Rattle.mj_ask.specs.declared.ask.Reply.{Reply}
-use Rattle.mj_ast.specs.Syntax.{Routine}
 use Rattle.mj_semantics.specs.State.{State, Locals, Place, Words, principal, devices_limit, has_failed, ending_order, is_open, with_device, counted, places, marked, raised, lowered, settled, can_restart, restarted, is_in_function}
-use Rattle.mj_semantics.specs.Outcome.{Outcome, Needs, More, Ended, Handler, Timed, turn, look, change, asking, no_restart, until, restartable, go_back, over, halt, ends, end, fault, steps_limit, ask}
+use Rattle.mj_semantics.specs.Outcome.{Outcome, Needs, More, Ended, Handler, Timed, turn, look, change, asking, no_restart, until, restartable, go_back, over, halt, ends, end, fault, ask}
 use Rattle.mj_semantics.specs.Devices.{is_got, has_no_session, obtained, request_device}
 use Rattle.mj_semantics.specs.Sharing.{in_time as test_in_time}
 use Rattle.mj_semantics.specs.Transactions.{levels_limit, kind_of, out_of_functions, begin_transaction, in_transaction, is_clash, commit, roll_back, roll_back_for_restart, begin_restart}
+use Rattle.mj_semantics.specs.Program.{Program}
 use Rattle.mj_semantics.specs.Job.{Start, opening, start as starts, next}
 use Rattle.mj_semantics.proofs.Depth.{one_answer}
 use Rattle.mj_jobvm.specs.Run.{Log, replies_of, IsTrace, begins, goes_on, HasEnded}
@@ -153,12 +153,12 @@ faulted f =
 
 asked : (x : Ask) (t : Reply → Timed) → ((r : Reply) → Halts (t r)) → Halts (ask x t)
 asked x t k =
-    looked _ (λ s. chosen (nat_lt s.replied steps_limit) (asking x (λ r. change counted (t r))) (fault faults.Steps)
+    looked _ (λ s. chosen (nat_lt s.replied s.bounds.events) (asking x (λ r. change counted (t r))) (fault faults.Steps)
     (replied_to x _ (λ r. leveled counted (t r) (λ q. refl) (k r))) (faulted faults.Steps))
 
 within_asked : (x : Ask) (t : Reply → Timed) → ((r : Reply) → Within (t r)) → Within (ask x t)
 within_asked x t k =
-    within_looked _ (λ s. within_chosen (nat_lt s.replied steps_limit) (asking x (λ r. change counted (t r))) (fault faults.Steps)
+    within_looked _ (λ s. within_chosen (nat_lt s.replied s.bounds.events) (asking x (λ r. change counted (t r))) (fault faults.Steps)
     (within_replied_to x _ (λ r. within_changed counted (t r) (k r))) (inside _ (faulted faults.Steps)))
 
 -- OPEN.
@@ -273,9 +273,9 @@ halting = record {
 }
 
 pub ends_by_halt : EndsByHalt
-ends_by_halt image start n replies e =
-    let k : Halts (starts image start (suc n)) = rows.job_keeps Halts Apart (rule_of Halts Apart halting) image start (suc n) in
-    k.by n no_restart (opening start.job) replies (inl refl) e
+ends_by_halt program start n replies e =
+    let k : Halts (starts program.routines start (suc n)) = rows.job_keeps Halts Apart (rule_of Halts Apart halting) program.routines start (suc n) in
+    k.by n no_restart (opening program.bounds start.job) replies (inl refl) e
 
 -- Logs.
 
@@ -302,39 +302,39 @@ no_halt run k = by k.told k.are
     by (r ∷ told) e = cc
 
 -- the last ask of a trace is one alone
-asks_one : (image : List Routine) (start : Start) (n m : ℕ) (replies : List Reply) (a b : Ask) (locals locals' : Locals) (at at' : List Place)
-    → next image start n replies ≡ Needs a locals at → next image start m replies ≡ Needs b locals' at' → a ≡ b
-asks_one image start n m replies a b locals locals' at at' e f = by (one_answer image start n m replies)
+asks_one : (program : Program) (start : Start) (n m : ℕ) (replies : List Reply) (a b : Ask) (locals locals' : Locals) (at at' : List Place)
+    → next program start n replies ≡ Needs a locals at → next program start m replies ≡ Needs b locals' at' → a ≡ b
+asks_one program start n m replies a b locals locals' at at' e f = by (one_answer program start n m replies)
   where
-    by : (next image start n replies ≡ More) ⊎ ((next image start m replies ≡ More) ⊎ (next image start n replies ≡ next image start m replies)) → a ≡ b
+    by : (next program start n replies ≡ More) ⊎ ((next program start m replies ≡ More) ⊎ (next program start n replies ≡ next program start m replies)) → a ≡ b
     by (inl k) = absurd cc
     by (inr (inl k)) = absurd cc
     by (inr (inr k)) = let same : Needs a locals at ≡ Needs b locals' at' = sym e ∙ (k ∙ f) in cc
 
 -- a run that asks isn't over
-not_over : (image : List Routine) (start : Start) (n m : ℕ) (replies : List Reply) (a : Ask) (locals : Locals) (at : List Place)
-    → next image start n replies ≡ Ended → next image start m replies ≡ Needs a locals at → ⊥
-not_over image start n m replies a locals at e f = by (one_answer image start n m replies)
+not_over : (program : Program) (start : Start) (n m : ℕ) (replies : List Reply) (a : Ask) (locals : Locals) (at : List Place)
+    → next program start n replies ≡ Ended → next program start m replies ≡ Needs a locals at → ⊥
+not_over program start n m replies a locals at e f = by (one_answer program start n m replies)
   where
-    by : (next image start n replies ≡ More) ⊎ ((next image start m replies ≡ More) ⊎ (next image start n replies ≡ next image start m replies)) → ⊥
+    by : (next program start n replies ≡ More) ⊎ ((next program start m replies ≡ More) ⊎ (next program start n replies ≡ next program start m replies)) → ⊥
     by (inl k) = cc
     by (inr (inl k)) = cc
     by (inr (inr k)) = let same : Ended ≡ Needs a locals at = sym e ∙ (k ∙ f) in cc
 
-module _ (image : List Routine) (start : Start) where
-  last_is : (log : Log) (a : Ask) (r : Reply) (n m : ℕ) (locals : Locals) (at : List Place) → next image start m (replies_of log) ≡ Needs a locals at
-      → Halted (λ told. next image start n told) (replies_of log ++ r ∷ []) → EndsInHalt (log ++ (a, r) ∷ [])
+module _ (program : Program) (start : Start) where
+  last_is : (log : Log) (a : Ask) (r : Reply) (n m : ℕ) (locals : Locals) (at : List Place) → next program start m (replies_of log) ≡ Needs a locals at
+      → Halted (λ told. next program start n told) (replies_of log ++ r ∷ []) → EndsInHalt (log ++ (a, r) ∷ [])
   last_is log a r n m locals at needs k = by (parted (replies_of log) k.told r k.last k.more k.are)
     where
       by : ((replies_of log ≡ k.told) × (r ≡ k.last)) ⊎ ((vs : List Reply) × (replies_of log ≡ k.told ++ k.last ∷ vs)) → EndsInHalt (log ++ (a, r) ∷ [])
       by (inl p) =
-          let here : next image start n (replies_of log) ≡ Needs (asks.Shared (shared_asks.Halt k.fault)) k.locals k.at = ap (next image start n) p.0 ∙ k.asked in
-          let same : a ≡ asks.Shared (shared_asks.Halt k.fault) = asks_one image start m n (replies_of log) a (asks.Shared (shared_asks.Halt k.fault)) locals k.locals at k.at needs here in
+          let here : next program start n (replies_of log) ≡ Needs (asks.Shared (shared_asks.Halt k.fault)) k.locals k.at = ap (next program start n) p.0 ∙ k.asked in
+          let same : a ≡ asks.Shared (shared_asks.Halt k.fault) = asks_one program start m n (replies_of log) a (asks.Shared (shared_asks.Halt k.fault)) locals k.locals at k.at needs here in
           (log, k.fault, r, ap (λ x. log ++ (x, r) ∷ []) same)
-      by (inr p) = absurd (not_over image start n m (replies_of log) a locals at (ap (next image start n) p.1 ∙ k.over p.0) needs)
+      by (inr p) = absurd (not_over program start n m (replies_of log) a locals at (ap (next program start n) p.1 ∙ k.over p.0) needs)
 
-  pub halt_last : (log : Log) → IsTrace image start log → HasEnded image start log → EndsInHalt log
-  halt_last _ begins over = absurd (no_halt (λ told. next image start over.0 told) (ends_by_halt image start over.0 [] over.1))
-  halt_last _ (goes_on log a r m locals at trace needs fit) over =
+  pub halt_last : (log : Log) → IsTrace program start log → HasEnded program start log → EndsInHalt log
+  halt_last _ begins over = absurd (no_halt (λ told. next program start over.0 told) (ends_by_halt program start over.0 [] over.1))
+  halt_last _ (goes_on log a r m locals at trace needs fit within) over =
       let is : replies_of (log ++ (a, r) ∷ []) ≡ replies_of log ++ r ∷ [] = map-append (λ e. e.1) log ((a, r) ∷ []) in
-      last_is log a r over.0 m locals at needs (subst (Halted (λ told. next image start over.0 told)) is (ends_by_halt image start over.0 (replies_of (log ++ (a, r) ∷ [])) over.1))
+      last_is log a r over.0 m locals at needs (subst (Halted (λ told. next program start over.0 told)) is (ends_by_halt program start over.0 (replies_of (log ++ (a, r) ∷ [])) over.1))

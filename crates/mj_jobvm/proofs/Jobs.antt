@@ -1,4 +1,4 @@
--- A job stays at a point of its routines' run.
+-- A job stays at a point of its program's run.
 use Rattle.std.proofs.Common.{◌≡◌, ℕ, suc, ◌+◌, ◌-◌, ◌≤◌, ◌⊎◌, List, [], ◌∷◌, ◌++◌, drop, Option, Some, None, Bool, true, false, inl, inr, refl, sym, ap, ◌∙◌, subst, arith, append-nil}
 use Rattle.std.specs.Prelude.{IsTrue, nat_lt}
 use Rattle.std.proofs.lemmas.Bool.{ltb-true, ltb-false}
@@ -6,10 +6,11 @@ use Rattle.mj_text.specs.declared.fault.Fault.{Fault}
 use Rattle.mj_ask.specs.declared.ask.Ask.{Ask}
 use Rattle.mj_ask.specs.declared.ask.Reply.{Reply}
 use Rattle.mj_ask.specs.Fits.{fits}
-use Rattle.mj_ast.specs.Syntax.{Routine}
+use Rattle.mj_ask.specs.Within.{is_reply_within}
 use Rattle.mj_semantics.specs.State.{State, Locals, Place, places, ending_order}
 use Rattle.mj_semantics.specs.Outcome.{Outcome, Needs, More, Handler, ends}
 use Rattle.mj_semantics.specs.Outcome as outcomes
+use Rattle.mj_semantics.specs.Program.{Program}
 use Rattle.mj_semantics.specs.Job.{Start, next}
 use Rattle.mj_semantics.proofs.Depth.{steady}
 use Rattle.mj_segment.specs.Segments.{StepsBy}
@@ -66,7 +67,7 @@ one_further P m up here n le = by (nat_lt m n) refl
     by false e = up n (ltb-false m n e)
 
 -- the turns before the last reply of a log are the only ones
-module _ (routines : List Routine) (start : Start) where
+module _ (program : Program) (start : Start) where
   some_more : (log : Log) (e : Ask × Reply) → [] ≡ log ++ e ∷ [] → ⊥
   some_more [] e h = cc
   some_more (x ∷ log) e h = cc
@@ -77,23 +78,23 @@ module _ (routines : List Routine) (start : Start) where
 
   -- where it asks with each number above one, it goes on with none above it
   no_later : (replies : List Reply) (m k : ℕ) (a : Ask) (locals : Locals) (at : List Place)
-      → ((n : ℕ) → n ≤ m → next routines start n replies ≡ More)
-      → ((n : ℕ) → next routines start (k + suc n) replies ≡ Needs a locals at) → m ≤ k
+      → ((n : ℕ) → n ≤ m → next program start n replies ≡ More)
+      → ((n : ℕ) → next program start (k + suc n) replies ≡ Needs a locals at) → m ≤ k
   no_later replies m k a locals at going needs = by (nat_lt k m) refl
     where
       by : (b : Bool) → nat_lt k m ≡ b → m ≤ k
       by false e = ltb-false k m e
-      by true e = absurd (never_both (next routines start (k + 1) replies) a locals at
+      by true e = absurd (never_both (next program start (k + 1) replies) a locals at
           (going (k + 1) (let h = ltb-true k m e in omega (arith, h))) (needs 0))
 
-  pub only_one : (log : Log) (k m : ℕ) → TurnsBefore routines start log k → TurnsBefore routines start log m → k ≡ m
+  pub only_one : (log : Log) (k m : ℕ) → TurnsBefore program start log k → TurnsBefore program start log m → k ≡ m
   only_one log k m (inl (e, c)) (inl (f, d)) = c ∙ sym d
   only_one log k m (inl (e, c)) (inr (earlier, a, r, locals, at, is, going, needs)) = absurd (some_more earlier (a, r) (sym e ∙ is))
   only_one log k m (inr (earlier, a, r, locals, at, is, going, needs)) (inl (f, d)) = absurd (some_more earlier (a, r) (sym f ∙ is))
   only_one log k m (inr (earlier, a, r, locals, at, is, going, needs)) (inr (earlier', a', r', locals', at', is', going', needs')) =
       let same : earlier ≡ earlier' = last_off earlier earlier' (a, r) (a', r') (sym is ∙ is') in
-      let P : Log → Type 0 = λ l. (n : ℕ) → n ≤ m → next routines start n (replies_of l) ≡ More in
-      let Q : Log → Type 0 = λ l. (n : ℕ) → next routines start (m + suc n) (replies_of l) ≡ Needs a' locals' at' in
+      let P : Log → Type 0 = λ l. (n : ℕ) → n ≤ m → next program start n (replies_of l) ≡ More in
+      let Q : Log → Type 0 = λ l. (n : ℕ) → next program start (m + suc n) (replies_of l) ≡ Needs a' locals' at' in
       let le : k ≤ m = no_later (replies_of earlier) k m a' locals' at' going (subst Q (sym same) needs') in
       let ge : m ≤ k = no_later (replies_of earlier) m k a locals at (subst P (sym same) going') needs in
       omega (arith, le, ge)
@@ -103,28 +104,28 @@ more_before : (now later : Outcome) → (now ≡ More) ⊎ (later ≡ now) → l
 more_before now later (inl e) more = e
 more_before now later (inr e) more = sym e ∙ more
 
-module _ (routines : List Routine) (start : Start) (code : Code) where
-  -- what the routines do with the log
-  now : (log : Log) (pending : Option Ask) (spent turns n : ℕ) (at : Standing) (r : IsRunAfter routines start code turns (run log pending spent at))
-      → onward code n at [] ≡ next routines start (r.before + turns + n) (replies_of log)
-  now log pending spent turns n at r = r.rest n [] ∙ ap (next routines start (r.before + turns + n)) (append-nil (replies_of log))
+module _ (program : Program) (start : Start) (code : Code) where
+  -- what the program does with the log
+  now : (log : Log) (pending : Option Ask) (spent turns n : ℕ) (at : Standing) (r : IsRunAfter program start code turns (run log pending spent at))
+      → onward code n at [] ≡ next program start (r.before + turns + n) (replies_of log)
+  now log pending spent turns n at r = r.rest n [] ∙ ap (next program start (r.before + turns + n)) (append-nil (replies_of log))
 
-  pub started : (at : Standing) → IsSound code.units at → ((n : ℕ) (replies : List Reply) → onward code n at replies ≡ next routines start n replies)
-      → IsRunAfter routines start code 0 (run [] None 0 at)
+  pub started : (at : Standing) → IsSound code.units at → ((n : ℕ) (replies : List Reply) → onward code n at replies ≡ next program start n replies)
+      → IsRunAfter program start code 0 (run [] None 0 at)
   started at sound h = record {
     before = 0;
     counted = inl (refl, refl);
     trace = begins;
     within = omega arith;
-    going = λ n le replies. ap (λ k. next routines start k replies) (let e : n ≡ 0 = omega (arith, le) in e);
-    rest = λ n replies. h n replies ∙ ap (λ k. next routines start k replies) (let e : n ≡ 0 + 0 + n = omega arith in e);
+    going = λ n le replies. ap (λ k. next program start k replies) (let e : n ≡ 0 = omega (arith, le) in e);
+    rest = λ n replies. h n replies ∙ ap (λ k. next program start k replies) (let e : n ≡ 0 + 0 + n = omega arith in e);
     sound = sound;
     asks = tt;
   }
 
   -- fewer turns may be counted than are over
   pub fewer : (log : Log) (pending : Option Ask) (counted spent turns : ℕ) (at : Standing) → counted ≤ spent
-      → IsRunAfter routines start code turns (run log pending spent at) → IsRunAfter routines start code turns (run log pending counted at)
+      → IsRunAfter program start code turns (run log pending spent at) → IsRunAfter program start code turns (run log pending counted at)
   fewer log pending counted spent turns at le r = record {
     before = r.before;
     counted = r.counted;
@@ -138,23 +139,23 @@ module _ (routines : List Routine) (start : Start) (code : Code) where
 
   -- a turn
   pub turned : (log : Log) (spent turns : ℕ) (old new : Standing) → Steps code old turns_are.Over new → IsSound code.units new
-      → IsRunAfter routines start code turns (run log None spent old) → IsRunAfter routines start code (turns + 1) (run log None (spent + 1) new)
+      → IsRunAfter program start code turns (run log None spent old) → IsRunAfter program start code (turns + 1) (run log None (spent + 1) new)
   turned log spent turns old new h sound r = record {
     before = r.before;
     counted = r.counted;
     trace = r.trace;
     within = let w = r.within in omega (arith, w);
-    going = λ n le. one_further (λ k. (replies : List Reply) → next routines start k (replies_of log ++ replies) ≡ More) (r.before + turns) r.going
+    going = λ n le. one_further (λ k. (replies : List Reply) → next program start k (replies_of log ++ replies) ≡ More) (r.before + turns) r.going
         (λ replies. sym (r.rest 1 replies) ∙ h 0 replies ∙ idle code new replies) n (let l : n ≤ r.before + turns + 1 = omega (arith, le) in l);
     rest = λ n replies. sym (h n replies)
-        ∙ r.rest (suc n) replies ∙ ap (λ k. next routines start k (replies_of log ++ replies)) (let e : r.before + turns + suc n ≡ r.before + (turns + 1) + n = omega arith in e);
+        ∙ r.rest (suc n) replies ∙ ap (λ k. next program start k (replies_of log ++ replies)) (let e : r.before + turns + suc n ≡ r.before + (turns + 1) + n = omega arith in e);
     sound = sound;
     asks = tt;
   }
 
   -- several turns
   pub turned_by : (log : Log) (spent turns k : ℕ) (old new : Standing) → StepsBy code k old new → IsSound code.units new
-      → IsRunAfter routines start code turns (run log None spent old) → IsRunAfter routines start code (turns + k) (run log None (spent + k) new)
+      → IsRunAfter program start code turns (run log None spent old) → IsRunAfter program start code (turns + k) (run log None (spent + k) new)
   turned_by log spent turns k old new h sound r = record {
     before = r.before;
     counted = r.counted;
@@ -162,15 +163,15 @@ module _ (routines : List Routine) (start : Start) (code : Code) where
     within = let w = r.within in omega (arith, w);
     going = λ n le replies.
         let rs : List Reply = replies_of log ++ replies in
-        let last : next routines start (r.before + (turns + k)) rs ≡ More =
-        ap (λ m. next routines start m rs) (let e : r.before + (turns + k) ≡ r.before + turns + k = omega arith in e)
+        let last : next program start (r.before + (turns + k)) rs ≡ More =
+        ap (λ m. next program start m rs) (let e : r.before + (turns + k) ≡ r.before + turns + k = omega arith in e)
         ∙ sym (r.rest k replies) ∙ ap (λ m. onward code m old replies) (let e : k ≡ k + 0 = omega arith in e) ∙ h 0 replies ∙ idle code new replies in
         let e : n + (r.before + (turns + k) - n) ≡ r.before + (turns + k) = omega (arith, le) in
-        more_before (next routines start n rs) (next routines start (n + (r.before + (turns + k) - n)) rs)
-        (steady routines start n (r.before + (turns + k) - n) rs) (ap (λ m. next routines start m rs) e ∙ last);
+        more_before (next program start n rs) (next program start (n + (r.before + (turns + k) - n)) rs)
+        (steady program start n (r.before + (turns + k) - n) rs) (ap (λ m. next program start m rs) e ∙ last);
     rest = λ n replies.
         sym (h n replies) ∙ r.rest (k + n) replies
-        ∙ ap (λ m. next routines start m (replies_of log ++ replies)) (let e : r.before + turns + (k + n) ≡ r.before + (turns + k) + n = omega arith in e);
+        ∙ ap (λ m. next program start m (replies_of log ++ replies)) (let e : r.before + turns + (k + n) ≡ r.before + (turns + k) + n = omega arith in e);
     sound = sound;
     asks = tt;
   }
@@ -178,7 +179,7 @@ module _ (routines : List Routine) (start : Start) (code : Code) where
   -- an ask
   pub asking : (log : Log) (spent turns : ℕ) (a : Ask) (old : Standing) → old.given ≡ None
       → ((n : ℕ) → onward code (suc n) old [] ≡ Needs a old.state.locals (places old.state))
-      → IsRunAfter routines start code turns (run log None spent old) → IsRunAfter routines start code turns (run log (Some a) spent old)
+      → IsRunAfter program start code turns (run log None spent old) → IsRunAfter program start code turns (run log (Some a) spent old)
   asking log spent turns a old g h r = record {
     before = r.before;
     counted = r.counted;
@@ -191,38 +192,38 @@ module _ (routines : List Routine) (start : Start) (code : Code) where
   }
 
   -- a run asks in the turn that it asks in, and in each later one
-  pub needs : (log : Log) (spent turns : ℕ) (a : Ask) (at : Standing) (r : IsRunAfter routines start code turns (run log (Some a) spent at))
-      → (n : ℕ) → next routines start (r.before + turns + suc n) (replies_of log) ≡ Needs a at.state.locals (places at.state)
+  pub needs : (log : Log) (spent turns : ℕ) (a : Ask) (at : Standing) (r : IsRunAfter program start code turns (run log (Some a) spent at))
+      → (n : ℕ) → next program start (r.before + turns + suc n) (replies_of log) ≡ Needs a at.state.locals (places at.state)
   needs log spent turns a at r n = sym (now log (Some a) spent turns (suc n) at r) ∙ r.asks.1 n
 
   -- and is still going in each before
-  still : (log : Log) (pending : Option Ask) (spent turns : ℕ) (at : Standing) (r : IsRunAfter routines start code turns (run log pending spent at))
-      → (n : ℕ) → n ≤ r.before + turns → next routines start n (replies_of log) ≡ More
-  still log pending spent turns at r n le = ap (next routines start n) (sym (append-nil (replies_of log))) ∙ r.going n le []
+  still : (log : Log) (pending : Option Ask) (spent turns : ℕ) (at : Standing) (r : IsRunAfter program start code turns (run log pending spent at))
+      → (n : ℕ) → n ≤ r.before + turns → next program start n (replies_of log) ≡ More
+  still log pending spent turns at r n le = ap (next program start n) (sym (append-nil (replies_of log))) ∙ r.going n le []
 
-  pub told_asks : (log : Log) (spent : ℕ) (a : Ask) (at : Standing) → IsJobRun routines start code (run log (Some a) spent at)
-      → AdvanceTells routines start reports.Asks (run log (Some a) spent at)
+  pub told_asks : (log : Log) (spent : ℕ) (a : Ask) (at : Standing) → IsJobRun program start code (run log (Some a) spent at)
+      → AdvanceTells program start reports.Asks (run log (Some a) spent at)
   told_asks log spent a at (turns, r) = (a, refl, (r.before + turns + 1, needs log spent turns a at r 0))
 
   -- what is told again while an ask is pending
-  pub told_again : (job : Run) (a : Ask) → job.pending ≡ Some a → IsJobRun routines start code job → AdvanceTells routines start reports.Asks job
+  pub told_again : (job : Run) (a : Ask) → job.pending ≡ Some a → IsJobRun program start code job → AdvanceTells program start reports.Asks job
   told_again job a e (turns, r) =
-      let P : Option Ask → Type 0 = λ p. IsRunAfter routines start code turns (run job.log p job.spent job.at) in
-      let pending : IsRunAfter routines start code turns (run job.log (Some a) job.spent job.at) = subst P e r in
+      let P : Option Ask → Type 0 = λ p. IsRunAfter program start code turns (run job.log p job.spent job.at) in
+      let pending : IsRunAfter program start code turns (run job.log (Some a) job.spent job.at) = subst P e r in
       (a, e, (pending.before + turns + 1, needs job.log job.spent turns a job.at pending 0))
 
-  pub told_ran : (log : Log) (pending : Option Ask) (spent : ℕ) (at : Standing) → IsJobRun routines start code (run log pending spent at)
-      → AdvanceTells routines start reports.Ran (run log pending spent at)
+  pub told_ran : (log : Log) (pending : Option Ask) (spent : ℕ) (at : Standing) → IsJobRun program start code (run log pending spent at)
+      → AdvanceTells program start reports.Ran (run log pending spent at)
   told_ran log pending spent at (turns, r) = (
     r.before,
     r.counted,
-    (λ k c. only_one routines start log k r.before c r.counted),
+    (λ k c. only_one program start log k r.before c r.counted),
     λ n le. still log pending spent turns at r n (let w = r.within in omega (arith, le, w)),
   )
 
   pub told_ended : (log : Log) (pending : Option Ask) (spent : ℕ) (at : Standing)
       → ((n : ℕ) (replies : List Reply) → onward code (suc n) at replies ≡ outcomes.Ended)
-      → IsJobRun routines start code (run log pending spent at) → AdvanceTells routines start reports.Ended (run log pending spent at)
+      → IsJobRun program start code (run log pending spent at) → AdvanceTells program start reports.Ended (run log pending spent at)
   told_ended log pending spent at h (turns, r) = (r.before + turns + 1, sym (now log pending spent turns 1 at r) ∙ h 0 [])
 
   replies_more : (log : Log) (a : Ask) (r : Reply) (replies : List Reply) → replies_of log ++ r ∷ replies ≡ replies_of (log ++ (a, r) ∷ []) ++ replies
@@ -231,15 +232,15 @@ module _ (routines : List Routine) (start : Start) (code : Code) where
 
   -- a reply
   pub answered : (log : Log) (spent turns : ℕ) (a : Ask) (r : Reply) (at : Standing)
-      → IsTrue (fits a r) → IsRunAfter routines start code turns (run log (Some a) spent at)
-      → IsRunAfter routines start code 0 (run (log ++ (a, r) ∷ []) None 0 (record at { given = Some r }))
-  answered log spent turns a r at fit is =
+      → IsTrue (fits a r) → is_reply_within program.bounds.limit r ≡ true → IsRunAfter program start code turns (run log (Some a) spent at)
+      → IsRunAfter program start code 0 (run (log ++ (a, r) ∷ []) None 0 (record at { given = Some r }))
+  answered log spent turns a r at fit small is =
       let back : Handler = handler code.units at.restart in
       let after : (n : ℕ) (replies : List Reply)
-      → left code at.control at.context at.stack n back at.state (r ∷ replies) ≡ next routines start (is.before + turns + n) (replies_of (log ++ (a, r) ∷ []) ++ replies) =
+      → left code at.control at.context at.stack n back at.state (r ∷ replies) ≡ next program start (is.before + turns + n) (replies_of (log ++ (a, r) ∷ []) ++ replies) =
       λ n replies. ap (λ g. left code at.control at.context at.stack n back at.state (given_first g (r ∷ replies))) (sym is.asks.0)
       ∙ is.rest n (r ∷ replies)
-      ∙ ap (next routines start (is.before + turns + n)) (replies_more log a r replies) in
+      ∙ ap (next program start (is.before + turns + n)) (replies_more log a r replies) in
       record {
         before = is.before + turns;
         counted = inr (
@@ -252,12 +253,12 @@ module _ (routines : List Routine) (start : Start) (code : Code) where
           still log (Some a) spent turns at is,
           needs log spent turns a at is,
         );
-        trace = goes_on log a r (is.before + turns + 1) at.state.locals (places at.state) is.trace (needs log spent turns a at is 0) fit;
+        trace = goes_on log a r (is.before + turns + 1) at.state.locals (places at.state) is.trace (needs log spent turns a at is 0) fit small;
         within = omega arith;
-        going = λ n le replies. ap (next routines start n) (sym (replies_more log a r replies))
+        going = λ n le replies. ap (next program start n) (sym (replies_more log a r replies))
             ∙ is.going n (let l : n ≤ is.before + turns = omega (arith, le) in l) (r ∷ replies);
         rest = λ n replies. after n replies
-            ∙ ap (λ k. next routines start k (replies_of (log ++ (a, r) ∷ []) ++ replies)) (let e : is.before + turns + n ≡ is.before + turns + 0 + n = omega arith in e);
+            ∙ ap (λ k. next program start k (replies_of (log ++ (a, r) ∷ []) ++ replies)) (let e : is.before + turns + n ≡ is.before + turns + 0 + n = omega arith in e);
         sound = is.sound;
         asks = tt;
       }

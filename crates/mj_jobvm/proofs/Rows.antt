@@ -14,7 +14,7 @@ use Rattle.mj_semantics.specs.Points.{Once, Always, By, Leave, Ways, Point, AtLi
 use Rattle.mj_semantics.specs.Sharing.{unlock_all}
 use Rattle.mj_semantics.specs.Transactions.{restored_by, listed_by, serial_by}
 use Rattle.mj_semantics.specs.Commands.{store, deeper, for_again, Aim, Whole, Part, ev_destination, ev_destinations, or_empty, renewed, assign_piece, put, put_all, assign_to, assign, assign_all, named, remove, kill, kill_list, kill_all, take_nodes, put_these, put_nodes, merge, merge_all, write, mark_byte, tab_bytes, tab, coded, write_code, arrange, output, output_all, open_all, use_all, close_all, receive, input, read_all, ev_timeout, hang_all, start_all, ev_names, ev_lock_names, lock_list, lock_all, renewal, new_list, new_all, end_frame, quit_frame, in_function, quit, ifs, if_test, if_all, start_transaction, ranges, calls, block, do_all, jumps, obey, obey_all}
-use Rattle.mj_text.specs.declared.text.TheConstants.{TEXT_LIMIT}
+use Rattle.mj_text.specs.Limit.{within_limit}
 use Rattle.mj_store.specs.Questions.{Subtree}
 use Rattle.mj_strfn.specs.Functions.{assigned_pieces, set_piece_value}
 use Rattle.mj_ast.specs.declared.routine.FormatMark.{FormatMark}
@@ -24,7 +24,7 @@ use Rattle.mj_ast.specs.declared.expr.Scope.TheVariants.{Local}
 use Rattle.mj_semantics.specs.Functions.{call_value, needed, optional}
 use Rattle.mj_semantics.specs.Lines.{Here, place_at, next_line, line_before, line_at, levels_of, entry_of, entered}
 use Rattle.mj_semantics.specs.Job.{Start, quit_before, obey_line, call, jump, in_pass, points_of, start as starts}
-use Rattle.mj_jobvm.proofs.Rule.{Rule, popped_same, KeepsLeave, KeepsPoint, KeepsWays, turn_keeps, turns_keep, look_keeps, change_keeps, end_keeps, fault_keeps, if_keeps, IsReached, given_keeps, access_keeps, read_keeps, about_keeps, store_keeps, again_keeps, first_keeps, deeper_keeps, hang_keeps, start_job_keeps, unlock_all_keeps, lock_keeps, ended_frame_keeps, framed_keeps, function_keeps, quit_keeps}
+use Rattle.mj_jobvm.proofs.Rule.{Rule, popped_same, KeepsLeave, KeepsPoint, KeepsWays, turn_keeps, turns_keep, look_keeps, change_keeps, end_keeps, fault_keeps, if_keeps, IsReached, given_keeps, composed_keeps, access_keeps, read_keeps, about_keeps, store_keeps, again_keeps, first_keeps, deeper_keeps, hang_keeps, start_job_keeps, unlock_all_keeps, lock_keeps, ended_frame_keeps, framed_keeps, function_keeps, quit_keeps}
 
 module _ (K Apart : Timed → Type 0) (rule : Rule K Apart) where
   module _ (points : Points) (all : (p : Point) → KeepsPoint K p → IsReached K Apart rule p (points p)) (here : Here) where
@@ -35,7 +35,7 @@ module _ (K Apart : Timed → Type 0) (rule : Rule K Apart) where
       tails_keep : (v : List ℕ) (ts : Tails) (rest : List ℕ → Timed) → ((v : List ℕ) → K (rest v)) → K (ev_tails points here v ts rest)
       tails_keep v Done rest k = k v
       tails_keep v (Then op x ts) rest k =
-          operand_keeps x _ (λ w. turn_keeps K Apart rule _ (given_keeps K Apart rule (binary_value op v w) (λ u. ev_tails points here u ts rest) (λ u. tails_keep u ts rest k)))
+          operand_keeps x _ (λ w. turn_keeps K Apart rule _ (composed_keeps K Apart rule (λ limit. binary_value limit op v w) (λ u. ev_tails points here u ts rest) (λ u. tails_keep u ts rest k)))
 
       operand_keeps : (x : Operand) (rest : List ℕ → Timed) → ((v : List ℕ) → K (rest v)) → K (ev_operand points here x rest)
       operand_keeps (Literal t) rest k = turn_keeps K Apart rule (rest t) (k t)
@@ -43,7 +43,7 @@ module _ (K Apart : Timed → Type 0) (rule : Rule K Apart) where
       operand_keeps (Intrinsic v) rest k = turn_keeps K Apart rule _ (look_keeps K Apart rule _ (λ s. k (special_value v s)))
       operand_keeps (Unary op x) rest k = operand_keeps x _ (λ v. turn_keeps K Apart rule _ (given_keeps K Apart rule (unary_value op v) rest k))
       operand_keeps (Group e) rest k = ev_keeps e rest k
-      operand_keeps (Call f es) rest k = all_keep es _ (λ vs. turn_keeps K Apart rule _ (given_keeps K Apart rule (call_value f vs) rest k))
+      operand_keeps (Call f es) rest k = all_keep es _ (λ vs. turn_keeps K Apart rule _ (composed_keeps K Apart rule (λ limit. call_value limit f vs) rest k))
       operand_keeps (About f v es) rest k = named_keeps f v _ (λ x. all_keep es _ (λ vs. turn_keeps K Apart rule _ (about_keeps K Apart rule f x (optional 0 vs) rest k)))
       operand_keeps (Select choices) rest k = choices_keep choices rest k
       operand_keeps (Extrinsic t es) rest k =
@@ -95,7 +95,7 @@ module _ (K Apart : Timed → Type 0) (rule : Rule K Apart) where
         K (elim range [ None ↦ skipped | Some r ↦ renewed x separator r e rest ])
     range_keeps None x separator e skipped rest k l = k
     range_keeps (Some r) x separator e skipped rest k l =
-        access_keeps K Apart rule (accesses.Value x) _ (λ a. given_keeps K Apart rule (set_piece_value (or_empty (value_told a)) separator r e) rest l)
+        access_keeps K Apart rule (accesses.Value x) _ (λ a. composed_keeps K Apart rule (λ limit. set_piece_value limit (or_empty (value_told a)) separator r e) rest l)
 
     renew_keeps : (x : Name) (ts : List (List ℕ)) (e : List ℕ) (skipped : Timed) (rest : List ℕ → Timed) → K skipped → ((v : List ℕ) → K (rest v)) → K (assign_piece x ts e skipped rest)
     renew_keeps x ts e skipped rest k l = given_keeps K Apart rule (assigned_pieces (needed 0 ts) (optional 1 ts) (optional 2 ts)) _ (λ range. range_keeps range x (needed 0 ts) e skipped rest k l)
@@ -122,7 +122,7 @@ module _ (K Apart : Timed → Type 0) (rule : Rule K Apart) where
     write_keeps : (bytes : List ℕ) (rest : Timed) → K rest → K (write bytes rest)
     write_keeps [] rest k = k
     write_keeps (b ∷ bytes) rest k =
-        if_keeps K Apart rule (nat_lt TEXT_LIMIT (length (b ∷ bytes))) (fault faults.Length) _ (fault_keeps K Apart rule faults.Length) (rule.written (b ∷ bytes) rest k)
+        composed_keeps K Apart rule (λ limit. within_limit limit (b ∷ bytes)) _ (λ text. rule.written text rest k)
 
     tab_keeps : (marks : List FormatMark) (v : List ℕ) (rest : Timed) → K rest → K (tab marks v rest)
     tab_keeps marks v rest k = given_keeps K Apart rule (reading v) _ (λ n. look_keeps K Apart rule _ (λ s. write_keeps (tab_bytes marks n (column_at s.current s)) rest k))
@@ -148,7 +148,7 @@ module _ (K Apart : Timed → Type 0) (rule : Rule K Apart) where
     names_keep (word ∷ words) rest k = turn_keeps K Apart rule (named words rest) (names_keep words rest k)
 
     spare_keeps : (words : List (List ℕ)) (rest : Timed) → K rest → K (turn (change (kill_except words) rest))
-    spare_keeps words rest k = turn_keeps K Apart rule (change (kill_except words) rest) (change_keeps K Apart rule rest k (kill_except words) (λ q. (refl, refl, refl, refl)))
+    spare_keeps words rest k = turn_keeps K Apart rule (change (kill_except words) rest) (change_keeps K Apart rule rest k (kill_except words) (λ q. (refl, refl, refl, refl, refl)))
 
     kill_keeps : (x : Killed) (rest : Timed) → K rest → K (kill points here x rest)
     kill_keeps (Gone v) rest k = name_keeps v _ (λ x. turn_keeps K Apart rule (remove x rest) (access_keeps K Apart rule (accesses.Kill x) (λ a. rest) (λ a. k)))
@@ -164,7 +164,7 @@ module _ (K Apart : Timed → Type 0) (rule : Rule K Apart) where
 
     these_keep : (x : Name) (nodes : Subtree) (rest : Timed) → K rest → K (put_these x nodes rest)
     these_keep x [] rest k = k
-    these_keep x (e ∷ nodes) rest k = access_keeps K Apart rule (accesses.Put x (e ∷ nodes)) _ (λ a. change_keeps K Apart rule rest k (hold []) (λ q. (refl, refl, refl, refl)))
+    these_keep x (e ∷ nodes) rest k = access_keeps K Apart rule (accesses.Put x (e ∷ nodes)) _ (λ a. change_keeps K Apart rule rest k (hold []) (λ q. (refl, refl, refl, refl, refl)))
 
     nodes_keep : (x : Name) (rest : Timed) → K rest → K (put_nodes x rest)
     nodes_keep x rest k = look_keeps K Apart rule _ (λ s. these_keep x s.held rest k)
@@ -172,7 +172,7 @@ module _ (K Apart : Timed → Type 0) (rule : Rule K Apart) where
     take_keeps : (into from : Name) (rest : Timed) → K rest → K (take_nodes into from rest)
     take_keeps into from rest k =
         if_keeps K Apart rule (overlaps into from) (fault faults.Overlap) (access (accesses.Subtree from) (λ a. change (hold (nodes_told a)) rest)) (fault_keeps K Apart rule faults.Overlap)
-        (access_keeps K Apart rule (accesses.Subtree from) _ (λ a. change_keeps K Apart rule rest k (hold (nodes_told a)) (λ q. (refl, refl, refl, refl))))
+        (access_keeps K Apart rule (accesses.Subtree from) _ (λ a. change_keeps K Apart rule rest k (hold (nodes_told a)) (λ q. (refl, refl, refl, refl, refl))))
 
     merge_keeps : (m : Merged) (rest : Timed) → K rest → K (merge points here m rest)
     merge_keeps m rest k = name_keeps m.into _ (λ x. name_keeps m.from _ (λ y. take_keeps x y (turn (put_nodes x rest)) (turn_keeps K Apart rule (put_nodes x rest) (nodes_keep x rest k))))
@@ -252,16 +252,16 @@ module _ (K Apart : Timed → Type 0) (rule : Rule K Apart) where
     -- NEW.
 
     new_keeps : (x : Renewed) (rest : Timed) → K rest → K (renewal x rest)
-    new_keeps (Fresh word) rest k = turn_keeps K Apart rule (change (newed (Only (word ∷ []))) rest) (change_keeps K Apart rule rest k (newed (Only (word ∷ []))) (λ q. (refl, refl, refl, refl)))
+    new_keeps (Fresh word) rest k = turn_keeps K Apart rule (change (newed (Only (word ∷ []))) rest) (change_keeps K Apart rule rest k (newed (Only (word ∷ []))) (λ q. (refl, refl, refl, refl, refl)))
     new_keeps (Kept words) rest k =
-        names_keep words _ (turn_keeps K Apart rule (change (newed (AllBut words)) rest) (change_keeps K Apart rule rest k (newed (AllBut words)) (λ q. (refl, refl, refl, refl))))
+        names_keep words _ (turn_keeps K Apart rule (change (newed (AllBut words)) rest) (change_keeps K Apart rule rest k (newed (AllBut words)) (λ q. (refl, refl, refl, refl, refl))))
 
     new_list_keeps : (list : List Renewed) (rest : Timed) → K rest → K (new_list list rest)
     new_list_keeps [] rest k = k
     new_list_keeps (x ∷ list) rest k = new_keeps x (new_list list rest) (new_list_keeps list rest k)
 
     new_all_keeps : (list : List Renewed) (rest : Timed) → K rest → K (new_all list rest)
-    new_all_keeps [] rest k = turn_keeps K Apart rule (change (newed (AllBut [])) rest) (change_keeps K Apart rule rest k (newed (AllBut [])) (λ q. (refl, refl, refl, refl)))
+    new_all_keeps [] rest k = turn_keeps K Apart rule (change (newed (AllBut [])) rest) (change_keeps K Apart rule rest k (newed (AllBut [])) (λ q. (refl, refl, refl, refl, refl)))
     new_all_keeps (x ∷ list) rest k = new_list_keeps (x ∷ list) rest k
 
     -- IF and ELSE.
@@ -271,7 +271,7 @@ module _ (K Apart : Timed → Type 0) (rule : Rule K Apart) where
     ifs_keep (e ∷ es) line_end rest l k =
         ev_keeps e _ (λ v. turn_keeps K Apart rule _ (given_keeps K Apart rule (truth_value v) _ (λ b.
         change_keeps K Apart rule (if b then ifs points here es line_end rest else line_end) (if_keeps K Apart rule b (ifs points here es line_end rest) line_end (ifs_keep es line_end rest l k) l)
-        (set_test b) (λ q. (refl, refl, refl, refl)))))
+        (set_test b) (λ q. (refl, refl, refl, refl, refl)))))
 
     test_keeps : (b : Bool) (line_end rest : Timed) → K line_end → K rest → K (if_test b line_end rest)
     test_keeps true line_end rest l k = look_keeps K Apart rule _ (λ s. if_keeps K Apart rule s.test rest line_end k l)
@@ -312,7 +312,7 @@ module _ (K Apart : Timed → Type 0) (rule : Rule K Apart) where
     block_keeps rest k =
         deeper_keeps K Apart rule _ (look_keeps K Apart rule _ (λ s.
         change_keeps K Apart rule _ (turn_keeps K Apart rule _ (all (AtLine (next_line here) (λ v. change popped rest)) (λ v. change_keeps K Apart rule rest k popped popped_same)))
-        (pushed (place_at here) (level_of s + 1) false (Some s.test)) (λ q. (refl, refl, refl, refl))))
+        (pushed (place_at here) (level_of s + 1) false (Some s.test)) (λ q. (refl, refl, refl, refl, refl))))
 
     do_keeps : (list : List CalledOf) (rest : Timed) → K rest → K (do_all points here list rest)
     do_keeps [] rest k = turn_keeps K Apart rule (block points here rest) (block_keeps rest k)
@@ -381,7 +381,7 @@ module _ (K Apart : Timed → Type 0) (rule : Rule K Apart) where
 
   module _ (image : List Routine) where
     quit_before_keeps : (here : Here) (leave : Leave) → KeepsLeave K leave → K (quit_before here leave)
-    quit_before_keeps here leave k = change_keeps K Apart rule _ (framed_keeps K Apart rule (leave []) (k [])) (at_place (place_at (line_before here))) (λ q. (refl, refl, refl, refl))
+    quit_before_keeps here leave k = change_keeps K Apart rule _ (framed_keeps K Apart rule (leave []) (k [])) (at_place (place_at (line_before here))) (λ q. (refl, refl, refl, refl, refl))
 
     line_keeps : (points : Points) → ((p : Point) → KeepsPoint K p → IsReached K Apart rule p (points p)) → (here : Here) (line : Option Line) (leave : Leave)
         → KeepsLeave K leave → K (obey_line points here line leave)
@@ -392,7 +392,7 @@ module _ (K Apart : Timed → Type 0) (rule : Rule K Apart) where
         let ways : Ways = record { line_end = next; for_quit = None; leave = leave } in
         let within : Timed = change (at_place (place_at here)) (obey_all points here line.steps ways) in
         let keeps : K within = change_keeps K Apart rule _
-        (obey_all_keeps points all here line.steps ways (record { line_end = goes_on; for_quit = no_quit; leave = k })) (at_place (place_at here)) (λ q. (refl, refl, refl, refl)) in
+        (obey_all_keeps points all here line.steps ways (record { line_end = goes_on; for_quit = no_quit; leave = k })) (at_place (place_at here)) (λ q. (refl, refl, refl, refl, refl)) in
         look_keeps K Apart rule _
         (λ s. if_keeps K Apart rule (nat_lt line.level (level_of s)) (quit_before here leave) (if nat_lt (level_of s) line.level then next else within) (quit_before_keeps here leave k)
         (if_keeps K Apart rule (nat_lt (level_of s) line.level) next within goes_on keeps))
@@ -406,7 +406,7 @@ module _ (K Apart : Timed → Type 0) (rule : Rule K Apart) where
         if_keeps K Apart rule (nat_eq to.1.level 1) (if nat_lt (length to.1.formals) (length vs) then fault faults.Params else in_frame) (fault faults.NoLine)
         (if_keeps K Apart rule (nat_lt (length to.1.formals) (length vs)) (fault faults.Params) in_frame (fault_keeps K Apart rule faults.Params)
         (deeper_keeps K Apart rule _
-        (change_keeps K Apart rule _ (turns_keep K Apart rule (length to.1.formals) _ (turn_keeps K Apart rule _ (all (AtLine to.0 leave) k))) enters (λ q. (refl, refl, refl, refl)))))
+        (change_keeps K Apart rule _ (turns_keep K Apart rule (length to.1.formals) _ (turn_keeps K Apart rule _ (all (AtLine to.0 leave) k))) enters (λ q. (refl, refl, refl, refl, refl)))))
         (fault_keeps K Apart rule faults.NoLine)
 
     jump_keeps : (points : Points) → ((p : Point) → KeepsPoint K p → IsReached K Apart rule p (points p)) → (to : Option (Here × Line)) (leave : Leave)

@@ -3,6 +3,7 @@ use Rattle.std.proofs.Common.{◌≡◌, ℕ, zero, suc, List, [], ◌∷◌, le
 use Rattle.std.specs.Prelude.{Result, Ok, Err, ℤ, pos, int_lt, ◌+ℤ◌, not, nat_lt, if◌then◌else◌}
 use Rattle.mj_text.specs.declared.fault.Fault.{Fault}
 use Rattle.mj_text.specs.declared.fault.Fault.TheVariants as faults
+use Rattle.mj_text.specs.declared.limit.Limit.{Limit}
 use Rattle.mj_subs.specs.Name.{Name}
 use Rattle.mj_store.specs.Runs.{name_of as name_in, answer_of}
 use Rattle.mj_store.specs.declared.access.Access.{Access}
@@ -22,7 +23,7 @@ use Rattle.mj_num.specs.Number.{reading, sum_of, canonic_text}
 use Rattle.mj_semantics.specs.State.{State, Words, Frame, principal, wrote, accessed, popped, is_at_mark, is_function}
 use Rattle.mj_ast.specs.declared.function.NameFunction.{NameFunction}
 use Rattle.mj_semantics.specs.Names.{spelled, asks as asks_some, question, function_told}
-use Rattle.mj_semantics.specs.Outcome.{More, Timed, turn, turns, look, change, restartable, end, fault, ask, to_device, need, given}
+use Rattle.mj_semantics.specs.Outcome.{More, Timed, turn, turns, look, change, restartable, end, fault, ask, to_device, need, given, composed}
 use Rattle.mj_semantics.specs.Accesses.{answer_told, answered, access, value_told}
 use Rattle.mj_semantics.specs.Evaluation.{read, about}
 use Rattle.mj_semantics.specs.Points.{Loop, Once, Always, By, Leave, Ways, Point, AtLine, Called, Jumped, Pass, Started}
@@ -32,9 +33,9 @@ use Rattle.mj_semantics.specs.Transactions.{begin_transaction, commit, roll_back
 use Rattle.mj_semantics.specs.Commands.{store, deeper, frames_limit, is_within, stepped, for_again, first, end_frame, quit_frame, in_function}
 
 -- as many asks were replied to in one state as in another, at as many levels a transaction is, and the same devices are open, of which the same is
--- the current one
+-- the current one; and the bounds are the same
 abbrev pub IsLike : State → State → Type 0
-IsLike s t = (t.replied ≡ s.replied) × (t.level ≡ s.level) × (t.devices ≡ s.devices) × (t.current ≡ s.current)
+IsLike s t = (t.replied ≡ s.replied) × (t.level ≡ s.level) × (t.devices ≡ s.devices) × (t.current ≡ s.current) × (t.bounds ≡ s.bounds)
 
 -- an ask that leaves the job's sessions and its names of devices
 abbrev pub LeavesDevices : Ask → Type 0
@@ -71,15 +72,15 @@ pub record Rule (K Apart : Timed → Type 0) : Type 0 where
 -- `$TEST` behind an ask that may wait.
 
 pub tests_same : (timeout : Option ℤ) (b : Bool) (s : State) → IsLike s (test_in_time timeout b s)
-tests_same None b s = (refl, refl, refl, refl)
-tests_same (Some n) b s = (refl, refl, refl, refl)
+tests_same None b s = (refl, refl, refl, refl, refl)
+tests_same (Some n) b s = (refl, refl, refl, refl, refl)
 
 pub popped_same : (s : State) → IsLike s (popped s)
 popped_same s = by s.frames
   where
     by : (fs : List Frame) → IsLike s (popped (record s { frames = fs }))
-    by [] = (refl, refl, refl, refl)
-    by (f ∷ fs) = (refl, refl, refl, refl)
+    by [] = (refl, refl, refl, refl, refl)
+    by (f ∷ fs) = (refl, refl, refl, refl, refl)
 
 -- so is what each of the ways leads to
 pub record KeepsWays (K : Timed → Type 0) (ways : Ways) : Type 0 where
@@ -138,6 +139,9 @@ module _ (K Apart : Timed → Type 0) (rule : Rule K Apart) where
   given_keeps (Ok v) rest k = k v
   given_keeps (Err f) rest k = fault_keeps f
 
+  pub composed_keeps : (text : Limit → Result (List ℕ) Fault) (rest : List ℕ → Timed) → ((v : List ℕ) → K (rest v)) → K (composed text rest)
+  composed_keeps text rest k = look_keeps (λ s. given (text s.bounds.limit) rest) (λ s. given_keeps (text s.bounds.limit) rest k)
+
   need_keeps : {A : Type 0} (f : Fault) (o : Option A) (rest : A → Timed) → ((v : A) → K (rest v)) → K (need f o rest)
   need_keeps f None rest k = fault_keeps f
   need_keeps f (Some v) rest k = k v
@@ -146,7 +150,7 @@ module _ (K Apart : Timed → Type 0) (rule : Rule K Apart) where
   access_keeps x rest k =
       if_keeps (name_in x).global _ (look (λ s. change (accessed x) (given (answered (answer_of x s.locals)) rest)))
       (ask_keeps (asks.Shared (shared_asks.Access x)) _ tt (λ r. given_keeps (answered (answer_told r)) rest k))
-      (look_keeps _ (λ s. change_keeps (given (answered (answer_of x s.locals)) rest) (given_keeps (answered (answer_of x s.locals)) rest k) (accessed x) (λ q. (refl, refl, refl, refl))))
+      (look_keeps _ (λ s. change_keeps (given (answered (answer_of x s.locals)) rest) (given_keeps (answered (answer_of x s.locals)) rest k) (accessed x) (λ q. (refl, refl, refl, refl, refl))))
 
   -- Expressions.
 
@@ -155,9 +159,9 @@ module _ (K Apart : Timed → Type 0) (rule : Rule K Apart) where
 
   pub about_keeps : (f : NameFunction) (x : Name) (o : Option (List ℕ)) (rest : List ℕ → Timed) → ((v : List ℕ) → K (rest v)) → K (about f x o rest)
   about_keeps f x o rest k =
-      if_keeps (asks_some f) (given (question f x o) (λ a. access a (λ r. given (function_told f o r) rest))) (given (spelled x) rest)
-      (given_keeps (question f x o) _ (λ a. access_keeps a _ (λ r. given_keeps (function_told f o r) rest k)))
-      (given_keeps (spelled x) rest k)
+      if_keeps (asks_some f) (given (question f x o) (λ a. access a (λ r. composed (λ limit. function_told limit f o r) rest))) (composed (λ limit. spelled limit x) rest)
+      (given_keeps (question f x o) _ (λ a. access_keeps a _ (λ r. composed_keeps (λ limit. function_told limit f o r) rest k)))
+      (composed_keeps (λ limit. spelled limit x) rest k)
 
   pub store_keeps : (x : Name) (v : List ℕ) (rest : Timed) → K rest → K (store x v rest)
   store_keeps x v rest k = access_keeps (accesses.Set x v) (λ a. rest) (λ a. k)

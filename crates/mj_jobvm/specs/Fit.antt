@@ -7,10 +7,10 @@ use Rattle.mj_ask.specs.declared.ask.SharedAsk.TheVariants as shared_asks
 use Rattle.mj_ask.specs.declared.ask.DeviceAsk.{DeviceAsk}
 use Rattle.mj_ask.specs.declared.ask.DeviceAsk.TheVariants as device_asks
 use Rattle.mj_ask.specs.declared.ask.Reply.{Reply}
-use Rattle.mj_ast.specs.Syntax.{Routine}
 use Rattle.mj_semantics.specs.State.{Locals, Place, principal}
 use Rattle.mj_semantics.specs.Outcome.{Needs, is_failed}
 use Rattle.mj_semantics.specs.Devices.{is_got}
+use Rattle.mj_semantics.specs.Program.{Program}
 use Rattle.mj_semantics.specs.Job.{Start, next}
 use Rattle.mj_jobvm.specs.Run.{Log, replies_of, IsTrace}
 
@@ -70,6 +70,6 @@ AreFit links (e ∷ log) = IsFit links e.0 × AreFit (links_behind links e.0 e.1
 -- each ask of a trace is fit, and so is what the run needs next
 abbrev pub AsksWhatFits : Type 0
 AsksWhatFits =
-    (image : List Routine) (start : Start) (log : Log) → IsTrace image start log
+    (program : Program) (start : Start) (log : Log) → IsTrace program start log
     → AreFit first_links log
-    × ((a : Ask) (n : ℕ) (locals : Locals) (at : List Place) → next image start n (replies_of log) ≡ Needs a locals at → IsFit (links_after first_links log) a)
+    × ((a : Ask) (n : ℕ) (locals : Locals) (at : List Place) → next program start n (replies_of log) ≡ Needs a locals at → IsFit (links_after first_links log) a)

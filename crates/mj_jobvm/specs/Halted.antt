@@ -4,9 +4,9 @@ use Rattle.mj_text.specs.declared.fault.Fault.{Fault}
 use Rattle.mj_ask.specs.declared.ask.Ask.TheVariants as asks
 use Rattle.mj_ask.specs.declared.ask.SharedAsk.TheVariants as shared_asks
 use Rattle.mj_ask.specs.declared.ask.Reply.{Reply}
-use Rattle.mj_ast.specs.Syntax.{Routine}
 use Rattle.mj_semantics.specs.State.{Locals, Place}
 use Rattle.mj_semantics.specs.Outcome.{Outcome, Needs, Ended}
+use Rattle.mj_semantics.specs.Program.{Program}
 use Rattle.mj_semantics.specs.Job.{Start, next}
 use Rattle.mj_jobvm.specs.Run.{Log, HasEnded, IsTrace}
 
@@ -25,8 +25,8 @@ pub record Halted (run : List Reply → Outcome) (replies : List Reply) : Type 0
 -- a run is over only so: no restart and nothing else ends it
 abbrev pub EndsByHalt : Type 0
 EndsByHalt =
-    (image : List Routine) (start : Start) (n : ℕ) (replies : List Reply) → next image start n replies ≡ Ended
-    → Halted (λ told. next image start n told) replies
+    (program : Program) (start : Start) (n : ℕ) (replies : List Reply) → next program start n replies ≡ Ended
+    → Halted (λ told. next program start n told) replies
 
 -- the last entry of a log is the halt
 abbrev pub EndsInHalt : Log → Type 0
@@ -35,4 +35,4 @@ EndsInHalt log = (earlier : Log) × (fault : Option Fault) × (r : Reply) × (lo
 -- a log with which the run is over ends in its halt
 abbrev pub IsHaltLast : Type 0
 IsHaltLast =
-    (image : List Routine) (start : Start) (log : Log) → IsTrace image start log → HasEnded image start log → EndsInHalt log
+    (program : Program) (start : Start) (log : Log) → IsTrace program start log → HasEnded program start log → EndsInHalt log

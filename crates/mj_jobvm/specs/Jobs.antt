@@ -3,9 +3,10 @@ use Rattle.std.specs.Prelude.{◌≡◌, ℕ, ◌+◌, [], ◌∷◌, Option, So
 use Rattle.mj_ask.specs.declared.ask.Ask.{Ask}
 use Rattle.mj_ask.specs.declared.ask.Reply.{Reply}
 use Rattle.mj_ask.specs.Fits.{fits}
+use Rattle.mj_ask.specs.declared.bounds.Bounds.{Bounds}
 use Rattle.mj_pcode.specs.Context.{at_unit}
 use Rattle.mj_semantics.specs.Job.{Start, opening}
-use Rattle.mj_load.specs.Image.{Loaded, routines_of}
+use Rattle.mj_load.specs.Image.{Loaded, program_of}
 use Rattle.mj_machine.specs.declared.machine.Machine.{Machine}
 use Rattle.mj_machine.specs.declared.control.Control.TheVariants.{Begin}
 use Rattle.mj_machine.specs.Standing.{Standing, Code}
@@ -35,12 +36,12 @@ running start machine log given pending spent = record {
 }
 
 -- where a job stands before its first turn
-abbrev pub opening_at : ℕ → Standing
-opening_at job = record { control = Begin; context = at_unit 0 []; stack = []; state = opening job; restart = None; given = None }
+abbrev pub opening_at : Bounds → ℕ → Standing
+opening_at bounds job = record { control = Begin; context = at_unit 0 []; stack = []; state = opening bounds job; restart = None; given = None }
 
--- a job before its first turn
-abbrev pub opened : Start → Running
-opened start = record { start = start; run = record { log = []; pending = None; spent = 0; at = opening_at start.job } }
+-- a job before its first turn, in an image with these bounds
+abbrev pub opened : Bounds → Start → Running
+opened bounds start = record { start = start; run = record { log = []; pending = None; spent = 0; at = opening_at bounds start.job } }
 
 -- the reply fits what the job asks
 abbrev pub FitsPending : Option Ask → Reply → Type 0
@@ -50,13 +51,13 @@ FitsPending pending reply = (a : Ask) × (pending ≡ Some a) × IsTrue (fits a 
 abbrev pub code_in : Loaded → Start → Code
 code_in image start = record { units = image.units; start = start }
 
--- the job runs the routines of this image, from this start
+-- the job runs the program of this image, from this start
 abbrev pub IsRunOf : Loaded → Start → Running → Type 0
-IsRunOf image start job = IsJobRun (routines_of image) start (code_in image job.start) job.run
+IsRunOf image start job = IsJobRun (program_of image) start (code_in image job.start) job.run
 
 -- so many turns after its last reply
 abbrev pub IsRunOfAfter : Loaded → Start → ℕ → Running → Type 0
-IsRunOfAfter image start turns job = IsRunAfter (routines_of image) start (code_in image job.start) turns job.run
+IsRunOfAfter image start turns job = IsRunAfter (program_of image) start (code_in image job.start) turns job.run
 
 -- the job stands as many turns further on in the run as a call with this fuel makes: wherever it stood so many turns after its last
 -- reply, it stands that many more after it

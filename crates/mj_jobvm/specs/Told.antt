@@ -1,9 +1,9 @@
 -- What a call of `advance` tells.
 use Rattle.std.specs.Prelude.{◌≡◌, ℕ, ◌+◌, ◌^◌, ◌≤◌, min, List, Option, Some, None, IsSome, Result, Ok, Err}
 use Rattle.mj_ask.specs.declared.ask.Ask.{Ask}
-use Rattle.mj_ast.specs.Syntax.{Routine}
 use Rattle.mj_semantics.specs.State.{places}
 use Rattle.mj_semantics.specs.Outcome as outcomes
+use Rattle.mj_semantics.specs.Program.{Program}
 use Rattle.mj_semantics.specs.Job.{Start, next}
 use Rattle.mj_jobvm.specs.declared.job.Turn.{Turn}
 use Rattle.mj_jobvm.specs.declared.job.Turn.TheVariants.{Asks, Ran, Ended}
@@ -15,11 +15,11 @@ use Rattle.mj_jobvm.specs.Run.{Run, replies_of, GoesOn, HasEnded}
 -- it asks only what the run over its log needs, and its locals and its frames are those that stand beside it; it has ended
 -- only where the run has; and only where the run is still going after the turns before the last reply was taken, and those
 -- that it counted since, it ran as far as it was let
-abbrev pub AdvanceTells : List Routine → Start → Turn → Run → Type 0
-AdvanceTells routines start Asks job =
-    (a : Ask) × (job.pending ≡ Some a) × ((n : ℕ) × (next routines start n (replies_of job.log) ≡ outcomes.Needs a job.at.state.locals (places job.at.state)))
-AdvanceTells routines start Ran job = GoesOn routines start job.log job.spent
-AdvanceTells routines start Ended job = HasEnded routines start job.log
+abbrev pub AdvanceTells : Program → Start → Turn → Run → Type 0
+AdvanceTells program start Asks job =
+    (a : Ask) × (job.pending ≡ Some a) × ((n : ℕ) × (next program start n (replies_of job.log) ≡ outcomes.Needs a job.at.state.locals (places job.at.state)))
+AdvanceTells program start Ran job = GoesOn program start job.log job.spent
+AdvanceTells program start Ended job = HasEnded program start job.log
 
 -- after a call a job waits for a reply where it asks, and nowhere else
 abbrev pub IsWaitingAt : Turn → Option Ask → Type 0

@@ -1,11 +1,12 @@
 // A job.
 
-ghost use Rattle.std.specs.Prelude.{◌≡◌, ◌++◌, ◌∷◌, [], Some, None, IsSome, Ok, IfOk, OnErr, option_copied};
+ghost use Rattle.std.specs.Prelude.{◌≡◌, ◌++◌, ◌∷◌, [], Some, None, true, IsSome, Ok, IfOk, OnErr, option_copied};
 ghost use Rattle.mj_ask.specs.declared.ask.Ask as asks;
+ghost use Rattle.mj_ask.specs.Within.{is_reply_within};
 ghost use Rattle.mj_semantics.specs.State.{place_of};
 ghost use Rattle.mj_semantics.specs.Job.{Start as Starts};
 ghost use Rattle.mj_turn.specs.Starts.{start_of};
-ghost use Rattle.mj_load.specs.Image.{Loaded, routines_of};
+ghost use Rattle.mj_load.specs.Image.{Loaded, program_of};
 ghost use Rattle.mj_frames.specs.Frames.{frames_of, place_at};
 ghost use Rattle.mj_jobvm.specs.Jobs.{FitsPending, IsRunOf, IsRunOfAfter, GoesForward, IsIn, given_of, opened, opening_at};
 ghost use Rattle.mj_pcode.specs.Sound.{AreChecked};
@@ -17,7 +18,7 @@ ghost use Rattle.mj_jobvm.specs.Limit.{IsLimited};
 ghost use Rattle.mj_jobvm.specs.Told.{AdvanceTells, IsWaitingAt, told_of, spent_after};
 ghost use Rattle.mj_turn.specs.Units.{AreSmall};
 
-use mj_ask::{Ask, Entry, Reply};
+use mj_ask::{Ask, Bounds, Entry, Reply};
 use mj_frames::{Frame, Frames};
 use mj_load::Image;
 use mj_locals::Locals;
@@ -89,17 +90,17 @@ impl Job {
         entry: Entry,
         values: Vec<Option<Text>>,
     ) -> Job
-        ensures opening { result ≡ opened (record { job = job; entry = entry; values = values.items }) }
+        ensures opening { result ≡ opened image.now.bounds (record { job = job; entry = entry; values = values.items }) }
         ensures run { IsRunOfAfter image.now (record { job = job; entry = entry; values = values.items }) 0 result }
     {
         let _ = image.units(); // for the proof
-        Job::at(alloc, Start { job, entry, values })
+        Job::at(alloc, Start { job, entry, values }, image.bounds())
     }
 
-    fn at(alloc: Global, start: Start) -> Job
-        ensures { result ≡ opened (start_of start) }
+    fn at(alloc: Global, start: Start, bounds: Bounds) -> Job
+        ensures { result ≡ opened bounds (start_of start) }
     {
-        let machine = opening(alloc, start.job);
+        let machine = opening(alloc, start.job, bounds);
         Job {
             alloc,
             start,
@@ -121,7 +122,7 @@ impl Job {
         ensures again { IsSome self.old.run.pending → (result ≡ Ok Turn.Asks) × (self.new ≡ self.old) }
         ensures waits { IfOk result (λ turn. IsWaitingAt turn self.new.run.pending) }
         ensures told { (start : Starts) → IsRunOf image.now start self.old
-            → IfOk result (λ turn. AdvanceTells (routines_of image.now) start turn self.new.run) }
+            → IfOk result (λ turn. AdvanceTells (program_of image.now) start turn self.new.run) }
         ensures log { self.new.run.log ≡ self.old.run.log }
         ensures spent { self.new.run.spent ≡ spent_after result fuel self.old.run.spent }
         ensures err { OnErr result (self.new.run.pending ≡ self.old.run.pending) }
@@ -169,10 +170,11 @@ impl Job {
         self.pending.as_ref()
     }
 
-    /// Replies to what the job asks. It takes no memory.
+    /// Replies to what the job asks, with texts that its program may have. It takes no memory.
     pub fn answer(&mut self, reply: Reply)
         requires { FitsPending self.old.run.pending reply }
-        ensures run { (image : Loaded) (start : Starts) → IsRunOf image start self.old → IsRunOf image start self.new }
+        ensures run { (image : Loaded) (start : Starts) → is_reply_within image.bounds.limit reply ≡ true
+            → IsRunOf image start self.old → IsRunOf image start self.new }
         ensures state { self.new.run.at.state ≡ self.old.run.at.state }
         ensures log { (a : asks.Ask) → self.old.run.pending ≡ Some a → self.new.run.log ≡ self.old.run.log ++ (a, reply) ∷ [] }
         ensures pending { self.new.run.pending ≡ None }
@@ -187,11 +189,11 @@ impl Job {
         }
     }
 
-    /// What it asked, with the replies, in order: at most 1,000,000 entries, and those of its ending.
+    /// What it asked, with the replies, in order: at most as many entries as its image's bounds say, and those of its ending.
     pub fn log(&self) -> &[(Ask, Reply)]
         ensures which { result.now ≡ self.now.run.log }
-        ensures trace { (image : Loaded) (start : Starts) → IsRunOf image start self.now → IsTrace (routines_of image) start result.now }
-        ensures limit { (image : Loaded) (start : Starts) → IsRunOf image start self.now → IsLimited result.now }
+        ensures trace { (image : Loaded) (start : Starts) → IsRunOf image start self.now → IsTrace (program_of image) start result.now }
+        ensures limit { (image : Loaded) (start : Starts) → IsRunOf image start self.now → IsLimited image.bounds.events result.now }
     {
         self.log.as_slice()
     }
@@ -250,10 +252,12 @@ impl Job {
 }
 
 // Where a job with this number stands before its first turn.
-fn opening(alloc: Global, job: u32) -> Machine
-    ensures { standing result None ≡ opening_at job }
+fn opening(alloc: Global, job: u32, bounds: Bounds) -> Machine
+    ensures { standing result None ≡ opening_at bounds job }
 {
+    let _events = bounds.events; // for the proof
     Machine {
+        bounds,
         job,
         control: Control::Begin,
         stack: Vec::new(alloc),

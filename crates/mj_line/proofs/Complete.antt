@@ -325,8 +325,8 @@ serial_at Names w e h = absurd (let f : Names ≡ Serials = e in cc)
 serial_at Labels w e h = absurd (let f : Labels ≡ Serials = e in cc)
 serial_at Serials w e h = ap (λ (b : Bool). cond b (Some SerialWord) None) h
 
-digits_at : (b : Sort) (d : List ℕ) → b ≡ Labels → length d ≤ 32767 → part_at b (Digits d) ≡ Some (Label d)
-digits_at Labels d e h = ap (λ (b : Bool). cond b (Some (Label d)) None) (let e : nat_le (length d) 32767 ≡ true = grind (arith, nat_tests) in e)
+digits_at : (b : Sort) (d : List ℕ) → b ≡ Labels → length d ≤ 1048576 → part_at b (Digits d) ≡ Some (Label d)
+digits_at Labels d e h = ap (λ (b : Bool). cond b (Some (Label d)) None) (let e : nat_le (length d) 1048576 ≡ true = grind (arith, nat_tests) in e)
 digits_at Names d e h = absurd (let f : Names ≡ Labels = e in cc)
 digits_at Serials d e h = absurd (let f : Serials ≡ Labels = e in cc)
 
@@ -340,8 +340,8 @@ called_at Names w h e = called_part w h e
 called_at Labels w h e = called_part w h e
 called_at Serials w h e = called_part w h e
 
-quoted_at : (b : Sort) (v : List ℕ) → b ≡ Labels → length v ≤ 32767 → part_at b (Quoted v) ≡ Some (Prompt v)
-quoted_at Labels v e h = ap (λ (b : Bool). cond b (Some (Prompt v)) None) (let e : nat_le (length v) 32767 ≡ true = grind (arith, nat_tests) in e)
+quoted_at : (b : Sort) (v : List ℕ) → b ≡ Labels → length v ≤ 1048576 → part_at b (Quoted v) ≡ Some (Prompt v)
+quoted_at Labels v e h = ap (λ (b : Bool). cond b (Some (Prompt v)) None) (let e : nat_le (length v) 1048576 ≡ true = grind (arith, nat_tests) in e)
 quoted_at Names v e h = absurd (let f : Names ≡ Labels = e in cc)
 quoted_at Serials v e h = absurd (let f : Serials ≡ Labels = e in cc)
 

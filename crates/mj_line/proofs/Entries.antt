@@ -156,9 +156,9 @@ label_apart w false = refl
 
 read_apart : (m : phrase.Limits) (t : Token) → (phrase.seek phrase.AsTarget (symbol t) ≡ phrase.Stuck) ⊎ (part_taken (OutputWanted Reads) (part_at Labels t) ≡ None)
 read_apart m (Word w) = inr (label_apart w (nat_le (length w) 31))
-read_apart m (Digits d) = inr (label_apart d (nat_le (length d) 32767))
+read_apart m (Digits d) = inr (label_apart d (nat_le (length d) 1048576))
 read_apart m (Called w) = inl (called_sought (callee_of w) (nat_le (length w) 31))
-read_apart m (Quoted v) = inl (quoted_sought v (nat_le (length v) 32767))
+read_apart m (Quoted v) = inl (quoted_sought v (nat_le (length v) 1048576))
 read_apart m (Signed s) = input_sign m s
 read_apart m t = inr refl
 

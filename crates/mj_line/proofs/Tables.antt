@@ -88,9 +88,9 @@ called_alone : (w : List ℕ) (p : Part) (b : Bool) → nat_le (length w) 31 ≡
 called_alone w p true h e = callee_alone w p (callee_of w) (let s : length w ≤ 31 = grind (arith, nat_tests) in s) refl e
 called_alone w p false h e = absurd (none_some p e)
 
-quoted_alone : (v : List ℕ) (p : Part) (b : Bool) → nat_le (length v) 32767 ≡ b → cond b (Some (Prompt v)) None ≡ Some p → Alone (Quoted v) p
+quoted_alone : (v : List ℕ) (p : Part) (b : Bool) → nat_le (length v) 1048576 ≡ b → cond b (Some (Prompt v)) None ≡ Some p → Alone (Quoted v) p
 quoted_alone v p true h e = let P : Part → Type 0 = λ q. Alone (Quoted v) q in
-    subst P (some_same (Prompt v) p e) (record { spells = (refl, (let s : length v ≤ 32767 = grind (arith, nat_tests) in s)); token = tt })
+    subst P (some_same (Prompt v) p e) (record { spells = (refl, (let s : length v ≤ 1048576 = grind (arith, nat_tests) in s)); token = tt })
 quoted_alone v p false h e = absurd (none_some p e)
 
 pub alone : (t : Token) (p : Part) → part_of t ≡ Some p → Alone t p
@@ -104,9 +104,9 @@ label_alone w p true h e = let P : Part → Type 0 = λ q. Alone (Word w) q in
     subst P (some_same (Label w) p e) (record { spells = inl (refl, (let s : length w ≤ 31 = grind (arith, nat_tests) in s)); token = tt })
 label_alone w p false h e = absurd (none_some p e)
 
-digits_alone : (d : List ℕ) (p : Part) (b : Bool) → nat_le (length d) 32767 ≡ b → cond b (Some (Label d)) None ≡ Some p → Alone (Digits d) p
+digits_alone : (d : List ℕ) (p : Part) (b : Bool) → nat_le (length d) 1048576 ≡ b → cond b (Some (Label d)) None ≡ Some p → Alone (Digits d) p
 digits_alone d p true h e = let P : Part → Type 0 = λ q. Alone (Digits d) q in
-    subst P (some_same (Label d) p e) (record { spells = inr (refl, (let s : length d ≤ 32767 = grind (arith, nat_tests) in s)); token = tt })
+    subst P (some_same (Label d) p e) (record { spells = inr (refl, (let s : length d ≤ 1048576 = grind (arith, nat_tests) in s)); token = tt })
 digits_alone d p false h e = absurd (none_some p e)
 
 serial_alone : (w : List ℕ) (p : Part) (b : Bool) → is_serial_word w ≡ b → cond b (Some SerialWord) None ≡ Some p → Alone (Word w) p
@@ -116,10 +116,10 @@ serial_alone w p false h e = absurd (none_some p e)
 -- where a label may be wanted, or the word of SERIAL
 pub alone_at : (b : Sort) (t : Token) (p : Part) → part_at b t ≡ Some p → Alone t p
 alone_at Labels (Word w) p e = label_alone w p (nat_le (length w) 31) refl e
-alone_at Labels (Digits d) p e = digits_alone d p (nat_le (length d) 32767) refl e
+alone_at Labels (Digits d) p e = digits_alone d p (nat_le (length d) 1048576) refl e
 alone_at Labels (Signed z) p e = alone (Signed z) p e
 alone_at Labels (Called w) p e = alone (Called w) p e
-alone_at Labels (Quoted v) p e = quoted_alone v p (nat_le (length v) 32767) refl e
+alone_at Labels (Quoted v) p e = quoted_alone v p (nat_le (length v) 1048576) refl e
 alone_at Labels t p e = absurd (none_some p e)
 alone_at Serials (Word w) p e = serial_alone w p (is_serial_word w) refl e
 alone_at Serials (Signed z) p e = alone (Signed z) p e

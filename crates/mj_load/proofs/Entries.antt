@@ -6,6 +6,7 @@ use Rattle.std.proofs.lemmas.Slice.Eq.{bytes_eq-Decides}
 use Rattle.std.specs.Prelude.{slice_get, All, ◌||◌, nat_lt, nat_eq, if◌then◌else◌}
 use Rattle.std.specs.List.{list_any}
 use Rattle.std.specs.Str.{bytes_eq}
+use Rattle.mj_ask.specs.declared.bounds.Bounds.{Bounds}
 use Rattle.mj_ask.specs.declared.entry.Entry.{Entry}
 use Rattle.mj_ast.specs.declared.routine.Routine.{Routine}
 use Rattle.mj_ast.specs.Trees.{routine_of}
@@ -283,8 +284,8 @@ module _ (rs : List Routine) (us : List unit.Unit) (h : AreUnits rs us) (apart :
       (deeper_at n (change enters f) (change enters g) (change_at n enters f g refl)))
       refl
 
-  pub does_entries : DoesEntries (record { routines = rs; units = us })
-  does_entries entry vs depth n le =
+  pub does_entries : (bounds : Bounds) → DoesEntries (record { routines = rs; units = us; bounds = bounds })
+  does_entries bounds entry vs depth n le =
       calls_same n (found us entry) vs ∙
       call_follows (map routine_of rs) us false depth n (entered (map routine_of rs) entry) (found us entry) vs [] (λ v. end None) le (lead_alike rs us h checked entry)
       (all_below (suc n) n (omega arith)) (same_leave n)

@@ -1,19 +1,20 @@
 // An image.
 
-ghost use Rattle.std.specs.Prelude.{◌≡◌};
-ghost use Rattle.std.specs.Prelude.{All, None, []};
+ghost use Rattle.std.specs.Prelude.{◌≡◌, ◌<◌, All, None, []};
 ghost use Rattle.mj_pcode.specs.Checked.{IsChecked};
 ghost use Rattle.mj_load.specs.Image.{AreUnits, IsImage, IsWithinLimits, names_of, repeated};
 
+use mj_ask::Bounds;
 use mj_ast::Routine;
 use mj_pcode::Unit;
 use std::marker::Model;
 
-/// Routines that are loaded together, with their p-code.
+/// Routines that are loaded together, with their p-code, and what jobs that run them are bound to.
 #[derive(Drop)]
 pub struct Image {
     routines: Vec<Routine>,
     units: Vec<Unit>,
+    bounds: Bounds,
 }
 
 impl Model for Image {
@@ -26,9 +27,9 @@ impl Model for Image {
 
     ghost coded = { Prim.hlevel (codes, routine.the_row.coded, unit.the_row.coded) };
 
-    ghost view = { λ i. record { routines = i.routines.items; units = i.units.items } };
+    ghost view = { λ i. record { routines = i.routines.items; units = i.units.items; bounds = i.bounds } };
 
-    ghost invariant = { λ i. IsImage (record { routines = i.routines.items; units = i.units.items }) };
+    ghost invariant = { λ i. IsImage (record { routines = i.routines.items; units = i.units.items; bounds = i.bounds }) };
 }
 
 impl Image {
@@ -46,15 +47,37 @@ impl Image {
     {
         self.units.as_slice()
     }
+
+    /// What jobs that run the routines are bound to.
+    pub fn bounds(&self) -> Bounds
+        ensures which { result ≡ self.now.bounds }
+        ensures some { 0 < result.events }
+    {
+        self.bounds
+    }
+
+    /// The same routines, in runs of at most so many events.
+    pub fn with_events(mut self, events: u32) -> Image
+        requires { 0 < events }
+        ensures { result ≡ record self { bounds = record self.bounds { events = events } } }
+    {
+        self.bounds.events = events;
+        self
+    }
 }
 
 /// An image of these routines and their units.
-pub fn make_image(routines: Vec<Routine>, units: Vec<Unit>) -> Image
+pub fn make_image(routines: Vec<Routine>, units: Vec<Unit>, bounds: Bounds) -> Image
     requires within { All IsWithinLimits routines.items }
     requires apart { repeated [] (names_of routines.items) ≡ None }
     requires code { AreUnits routines.items units.items }
     requires checked { All IsChecked units.items }
-    ensures { result ≡ record { routines = routines.items; units = units.items } }
+    requires some { 0 < bounds.events }
+    ensures { result ≡ record { routines = routines.items; units = units.items; bounds = bounds } }
 {
-    Image { routines, units }
+    Image {
+        routines,
+        units,
+        bounds,
+    }
 }

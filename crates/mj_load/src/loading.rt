@@ -4,14 +4,16 @@ ghost use Rattle.std.specs.Prelude.{◌≡◌, ◌<◌, ◌↔◌, ℕ, [], List
 ghost use Rattle.std.specs.List.{list_any};
 ghost use Rattle.std.specs.Str.{bytes_eq};
 ghost use Rattle.mj_ast.specs.declared.routine.Routine.{Routine};
+ghost use Rattle.mj_ask.specs.declared.bounds.TheConstants.{EVENTS_LIMIT};
 ghost use Rattle.mj_pcode.specs.Checked.{IsChecked};
 ghost use Rattle.mj_load.specs.Image.{IsWithinLimits, AreUnits, repeated, names_of};
 
 use crate::image::{Image, make_image};
+use mj_ask::{Bounds, EVENTS_LIMIT};
 use mj_asm::assemble;
 use mj_ast::Routine;
 use mj_pcode::Unit;
-use mj_text::Text;
+use mj_text::{Limit, Text};
 use std::alloc::{AllocError, Global};
 
 /// Why routines are not loaded.
@@ -23,11 +25,12 @@ pub enum LoadError {
     Memory { routines: Vec<Routine> },
 }
 
-/// An image of these routines. Each is within the limits if `mj_rou::read` gave it, whose clauses `name` and `lines` say so. No call tests
-/// it again.
-pub fn load(alloc: Global, mut routines: Vec<Routine>) -> Result<Image, LoadError>
+/// An image of these routines, in which texts have this limit and runs [`EVENTS_LIMIT`] events at most. Each routine is within the limits if
+/// `mj_rou::read` gave it, whose clauses `name` and `lines` say so. No call tests it again.
+pub fn load(alloc: Global, mut routines: Vec<Routine>, limit: Limit) -> Result<Image, LoadError>
     requires { All IsWithinLimits routines.items }
     ensures ok { IfOk result (λ image. image.routines ≡ routines.items) }
+    ensures bounds { IfOk result (λ image. image.bounds ≡ record { limit = limit; events = EVENTS_LIMIT }) }
     ensures twice { (name : List ℕ) → (result ≡ Err (LoadError.Twice name)) ↔ (repeated [] (names_of routines.items) ≡ Some name) }
     ensures memory { IfErr result (λ e. elim e [ LoadError.Twice name ↦ ⊤ | LoadError.Memory back ↦ back.items ≡ routines.items ]) }
 {
@@ -36,8 +39,19 @@ pub fn load(alloc: Global, mut routines: Vec<Routine>) -> Result<Image, LoadErro
         return Err(LoadError::Twice { name: routine.name });
     }
     match units_of(alloc, &routines) {
-        Ok(made) => Ok(make_image(routines, made)),
+        Ok(made) => Ok(make_image(routines, made, bounds_of(limit))),
         Err(_) => Err(LoadError::Memory { routines }),
+    }
+}
+
+// What jobs are bound to, where only the limit of their texts is said.
+fn bounds_of(limit: Limit) -> Bounds
+    ensures which { result ≡ record { limit = limit; events = EVENTS_LIMIT } }
+    ensures some { 0 < result.events }
+{
+    Bounds {
+        limit,
+        events: EVENTS_LIMIT,
     }
 }
 

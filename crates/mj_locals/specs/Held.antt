@@ -1,5 +1,6 @@
 -- A job's locals with what NEWs saved of them, and how NEW, the passing of actuals and the end of a frame change both.
 use Rattle.std.specs.Prelude.{ℕ, ◌-◌, List, [], ◌∷◌, Option, length, take, drop}
+use Rattle.mj_text.specs.declared.limit.Limit.TheVariants.{V2}
 use Rattle.mj_store.specs.Questions.{Content}
 use Rattle.mj_semantics.specs.State.{State, Saved, Words, newed, passed, put_back, undone}
 use Rattle.mj_semantics.specs.Job.{opening}
@@ -11,7 +12,7 @@ pub record Held : Type 0 where
 
 -- a state with these locals, of which nothing else matters here
 abbrev pub alone : Held → State
-alone h = record (opening 0) { locals = h.now; saved = h.saved }
+alone h = record (opening (record { limit = V2; events = 0 }) 0) { locals = h.now; saved = h.saved }
 
 -- the locals of a state
 abbrev pub held : State → Held

@@ -7,7 +7,7 @@ ghost use Rattle.mj_machine.specs.Kept.{Obeys, ObeysAlone, Stays, replied};
 use mj_ask::{Ask, Reply};
 use mj_machine::asking::wait;
 use mj_machine::quiet::fail;
-use mj_machine::{Control, Machine, STEPS_LIMIT, TurnOutcome, stack};
+use mj_machine::{Control, Machine, TurnOutcome, stack};
 use mj_num::Num;
 use mj_text::Fault;
 use std::alloc::{AllocError, Global};
@@ -49,7 +49,7 @@ pub fn hang(
         machine.control = Control::At(pc + 1);
         return Ok(TurnOutcome::Next);
     }
-    if machine.replied >= STEPS_LIMIT {
+    if machine.replied >= machine.bounds.events as u64 {
         return Ok(fail(Fault::Steps, machine));
     }
     match given {

@@ -11,7 +11,7 @@ ghost use Rattle.mj_lock_ops.specs.Wanted.{timeout_in, test_after};
 use mj_ask::{Ask, Reply};
 use mj_machine::asking::wait;
 use mj_machine::quiet::fail;
-use mj_machine::{Control, Machine, STEPS_LIMIT, TurnOutcome, stack};
+use mj_machine::{Control, Machine, TurnOutcome, stack};
 use mj_num::Num;
 use mj_pcode::Wait;
 use mj_text::{Fault, Text};
@@ -58,7 +58,7 @@ pub fn ask_in_time(
         (replied given.entry) step machine.new) }
     ensures err { OnErr result (Stays machine.old machine.new) }
 {
-    if machine.replied >= STEPS_LIMIT {
+    if machine.replied >= machine.bounds.events as u64 {
         drop(ask);
         return Ok(fail(Fault::Steps, machine));
     }
@@ -81,7 +81,7 @@ fn take(
 ) -> TurnOutcome
     requires next { pc + 1 < 2 ^ 64 }
     requires enough { count ≤ length machine.old.stack.items }
-    requires more { machine.old.replied < told.steps_limit }
+    requires more { machine.old.replied < machine.old.bounds.events }
     ensures { TakesReply (λ next. sharing.served timeout reply.now (without machine.old pc count next)) machine.old result machine.new }
 {
     machine.replied += 1;

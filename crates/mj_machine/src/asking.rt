@@ -6,7 +6,7 @@ ghost use Rattle.mj_semantics.specs.Commands as commands;
 ghost use Rattle.mj_machine.specs.Kept.{Does, IsWaiting, Stays, without, replied};
 
 use crate::control::Control;
-use crate::machine::{Machine, STEPS_LIMIT, TurnOutcome};
+use crate::machine::{Machine, TurnOutcome};
 use crate::quiet::fail;
 use crate::stack;
 use mj_ask::{Ask, DeviceAsk, Reply};
@@ -30,8 +30,8 @@ pub fn is_failed(reply: &Reply) -> bool
     }
 }
 
-/// Writes a text by one ask, or by none where it has no bytes, and then takes `count` operands off and goes on. Where the device failed
-/// it is a fault.
+/// Writes a text by one ask, or by none where it has no bytes, and then takes `count` operands off and goes on. One above the limit of texts is a fault, and
+/// so is it where the device failed.
 pub(crate) fn put_out(
     alloc: Global,
     pc: usize,
@@ -52,7 +52,11 @@ pub(crate) fn put_out(
         machine.control = Control::At(pc + 1);
         return Ok(TurnOutcome::Next);
     }
-    if machine.replied >= STEPS_LIMIT {
+    let most = machine.bounds.limit.bytes();
+    if size > most {
+        return Ok(fail(Fault::Length, machine));
+    }
+    if machine.replied >= machine.bounds.events as u64 {
         return Ok(fail(Fault::Steps, machine));
     }
     match given {

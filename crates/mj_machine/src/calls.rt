@@ -11,22 +11,27 @@ use mj_ast::Function;
 use mj_nref::{qlength, qsubscript};
 use mj_num::Num;
 use mj_strfn::{ascii, char, extract, find, justify, length, piece, reverse, translate};
-use mj_text::{Failure, Text};
+use mj_text::{Failure, Limit, Text};
 use std::alloc::Global;
 
-/// What a function gives of these arguments.
-pub fn value_of(alloc: Global, function: Function, arguments: &[Text]) -> Result<Text, Failure>
-    ensures { AnswersOrMemory (call_value function arguments.now) result }
+/// What a function gives of these arguments, where texts have this limit.
+pub fn value_of(
+    alloc: Global,
+    function: Function,
+    arguments: &[Text],
+    limit: Limit,
+) -> Result<Text, Failure>
+    ensures { AnswersOrMemory (call_value limit function arguments.now) result }
 {
     let none = Text::new(alloc);
     let first = needed(arguments, 0, &none);
     let second = needed(arguments, 1, &none);
     match function {
         Function::Ascii => ascii(alloc, first, optional(arguments, 1)),
-        Function::Char => char(alloc, arguments),
+        Function::Char => char(alloc, arguments, limit),
         Function::Extract => extract(first, optional(arguments, 1), optional(arguments, 2)),
         Function::Find => find(alloc, first, second, optional(arguments, 2)),
-        Function::Justify => justify(alloc, first, second),
+        Function::Justify => justify(alloc, first, second, limit),
         Function::Length => Ok(length(alloc, first, optional(arguments, 1))),
         Function::Piece => piece(
             alloc,

@@ -52,8 +52,8 @@ pub fn write_marks(
     put_bytes(alloc, pc, 0, &bytes, machine, given)
 }
 
-/// Writes bytes by one ask, or by none where there are none, and then takes `count` operands off and goes on. More than a text holds are a fault, and so is
-/// it where the device failed.
+/// Writes bytes by one ask, or by none where there are none, and then takes `count` operands off and goes on. More than the limit of texts are a fault, and
+/// so is it where the device failed.
 pub fn put_bytes(
     alloc: Global,
     pc: usize,

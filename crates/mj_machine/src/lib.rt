@@ -20,5 +20,5 @@ pub mod stack;
 pub mod values;
 
 pub use control::Control;
-pub use machine::{Machine, STEPS_LIMIT, TurnOutcome};
+pub use machine::{Machine, TurnOutcome};
 pub use mark::{Return, TransactionMark};

@@ -1,23 +1,21 @@
 // A job's machine: where it stands, and how a turn of it goes.
 
-ghost use Rattle.std.specs.Prelude.{◌≤◌};
-ghost use Rattle.mj_semantics.specs.Outcome.{steps_limit};
+ghost use Rattle.std.specs.Prelude.{◌≤◌, ◌<◌, ◌^◌};
 
 use crate::control::Control;
 use crate::mark::{Return, TransactionMark};
-use mj_ask::Ask;
+use mj_ask::{Ask, Bounds};
 use mj_frames::{Call, Frames, Loop};
 use mj_locals::Locals;
 use mj_open_devices::Devices;
 use mj_store::Nodes;
 use mj_text::Text;
 
-/// How many asks a job may make before its ending.
-pub const STEPS_LIMIT: u64 = 1_000_000;
-
 /// Where a job stands.
 #[derive(Drop)]
 pub struct Machine {
+    // how long texts may be, and how many asks the job may make before its ending; they stay
+    pub bounds: Bounds,
     // `$JOB`
     pub job: u32,
     pub control: Control,
@@ -46,7 +44,7 @@ pub struct Machine {
     pub replied: u64,
     // what a MERGE has read and not put yet
     pub held: Nodes,
-    ghost bounded: { (devices.writes ≤ replied) × (restarts ≤ replied) × (replied ≤ steps_limit) },
+    ghost bounded: { (devices.writes ≤ replied) × (restarts ≤ replied) × (replied ≤ bounds.events) × (bounds.events < 2 ^ 32) },
 }
 
 /// How a turn goes. It is small, so that a turn that asks nothing moves little.

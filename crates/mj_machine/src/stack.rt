@@ -1,12 +1,12 @@
 // Operands, in a vector of which the last one is the topmost.
 
 ghost use Rattle.std.specs.Prelude.{◌≡◌, ◌+◌, ◌≤◌, ◌<◌, ◌↔◌, ◌∷◌, ◌++◌, length, drop, reverse, OnOk, OnErr, IsOkUnless};
-ghost use Rattle.mj_text.specs.declared.text.TheConstants.{TEXT_LIMIT};
 ghost use Rattle.mj_text.specs.declared.fault.Failure.TheVariants as failure;
 ghost use Rattle.mj_text.specs.declared.fault.Fault.TheVariants as fault;
+ghost use Rattle.mj_text.specs.Limit.{most_bytes};
 ghost use Rattle.mj_pcode.specs.Machine.{top, below, operands};
 
-use mj_text::{Failure, Text};
+use mj_text::{Failure, Limit, Text};
 use std::alloc::AllocError;
 
 /// The topmost operand.
@@ -92,31 +92,32 @@ pub(crate) fn fold(stack: &mut Vec<Text>, value: Text)
     stack[kept] = value;
 }
 
-/// Puts the topmost operand to the end of the one below it, where that lies, and takes it off.
-pub(crate) fn join(stack: &mut Vec<Text>) -> Result<(), Failure>
+/// Puts the topmost operand to the end of the one below it, where that lies, and takes it off. More than the limit are `Length`.
+pub(crate) fn join(stack: &mut Vec<Text>, limit: Limit) -> Result<(), Failure>
     requires { 2 ≤ length stack.old.items }
     ensures ok { OnOk result (reverse stack.new.items
         ≡ (top (below (reverse stack.old.items)) ++ top (reverse stack.old.items)) ∷ below (below (reverse stack.old.items))) }
     ensures long { (result ≡ Err (failure.Fault fault.Length))
-        ↔ (TEXT_LIMIT < length (top (below (reverse stack.old.items))) + length (top (reverse stack.old.items))) }
-    ensures within { length (top (below (reverse stack.old.items))) + length (top (reverse stack.old.items)) ≤ TEXT_LIMIT → IsOkUnless result failure.Memory }
+        ↔ (most_bytes limit < length (top (below (reverse stack.old.items))) + length (top (reverse stack.old.items))) }
+    ensures within { length (top (below (reverse stack.old.items))) + length (top (reverse stack.old.items)) ≤ most_bytes limit
+        → IsOkUnless result failure.Memory }
     ensures err { OnErr result (stack.new.items ≡ stack.old.items) }
 {
     let n = stack.len();
     let (below, right) = stack.split_at_mut(n - 1);
-    append(&mut below[n - 2], &right[0])?;
+    append(&mut below[n - 2], &right[0], limit)?;
     take_one(stack);
     Ok(())
 }
 
 // Puts a text to the end of another.
-fn append(left: &mut Text, right: &Text) -> Result<(), Failure>
+fn append(left: &mut Text, right: &Text, limit: Limit) -> Result<(), Failure>
     ensures ok { OnOk result (left.new ≡ left.old ++ right.now) }
-    ensures long { (result ≡ Err (failure.Fault fault.Length)) ↔ (TEXT_LIMIT < length left.old + length right.now) }
-    ensures within { length left.old + length right.now ≤ TEXT_LIMIT → IsOkUnless result failure.Memory }
+    ensures long { (result ≡ Err (failure.Fault fault.Length)) ↔ (most_bytes limit < length left.old + length right.now) }
+    ensures within { length left.old + length right.now ≤ most_bytes limit → IsOkUnless result failure.Memory }
     ensures err { OnErr result (left.new ≡ left.old) }
 {
-    left.append(right)
+    left.append(right, limit)
 }
 
 /// Puts a value in the place of the `count` topmost operands.

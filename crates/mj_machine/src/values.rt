@@ -60,7 +60,7 @@ pub fn put_told(
 ) -> Result<TurnOutcome, AllocError>
     requires next { pc + 1 < 2 ^ 64 }
     requires enough { count ≤ length machine.old.stack.items }
-    requires more { machine.old.replied < told.steps_limit }
+    requires more { machine.old.replied < machine.old.bounds.events }
     ensures ok { (r : Result (List ℕ) faults.Fault) → AnswersOrMemory r value
         → IfOk result (λ step. TakesReply (λ next. told.given r (with_value machine.old pc count next)) machine.old step machine.new) }
     ensures err { OnErr result (Stays machine.old machine.new) }
@@ -132,7 +132,8 @@ fn apply_join(pc: usize, machine: &mut Machine) -> Result<TurnOutcome, AllocErro
     ensures ok { IfOk result (λ step. ObeysAlone (instrs.Binary ops.Join) pc machine.old step machine.new) }
     ensures err { OnErr result (Stays machine.old machine.new) }
 {
-    match stack::join(&mut machine.stack) {
+    let limit = machine.bounds.limit;
+    match stack::join(&mut machine.stack, limit) {
         Ok(()) => {
             machine.control = Control::At(pc + 1);
             Ok(TurnOutcome::Next)
@@ -163,6 +164,7 @@ fn apply_texts(
         op,
         stack::second(&machine.stack),
         stack::top(&machine.stack),
+        machine.bounds.limit,
     );
     put_value(pc, 2, value, machine)?;
     Ok(TurnOutcome::Next)
@@ -182,7 +184,12 @@ pub fn call(
     ensures ok { IfOk result (λ step. ObeysAlone (instrs.CallFunction function count) pc machine.old step machine.new) }
     ensures err { OnErr result (Stays machine.old machine.new) }
 {
-    let value = value_of(alloc, function, stack::topmost(&machine.stack, count));
+    let value = value_of(
+        alloc,
+        function,
+        stack::topmost(&machine.stack, count),
+        machine.bounds.limit,
+    );
     put_value(pc, count, value, machine)?;
     Ok(TurnOutcome::Next)
 }

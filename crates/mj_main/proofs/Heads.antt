@@ -13,6 +13,8 @@ use Rattle.mj_jobs.specs.Rows.{rows_limit}
 use Rattle.mj_sys.specs.Opening.{opening_of}
 use Rattle.mj_sys.specs.Shared.{Shared}
 use Rattle.mj_replica.specs.Replicas.{AreWhole}
+use Rattle.mj_text.specs.declared.limit.Limit.TheVariants.{V2}
+use Rattle.mj_trace.specs.declared.form.Form.TheVariants.{Second}
 use Rattle.mj_trace.specs.Trace.{opening_text}
 use Rattle.mj_trace.specs.Sized.{device_count_fits}
 use Rattle.mj_recorded.specs.Traces.{entries_of, IsBeginning}
@@ -36,15 +38,17 @@ module _ (globals : Content) (pool : List Shelf) (starts : List Started) (words 
 
   -- of a trace, if there is one
   pub heads : {X : Type 0} (head : X → List ℕ) (trace : Option X) (image given : Loaded) (opening : Shared) → image ≡ given → opening_of globals pool starts ≡ opening
-      → Each IsRoutineWorded (routines_of given) → IfSome trace (λ t. head t ≡ opening_text (map count_of pool) (entries_of starts))
+      → given.bounds.limit ≡ V2 → Each IsRoutineWorded (routines_of given) → IfSome trace (λ t. head t ≡ opening_text (Second V2) (map count_of pool) (entries_of starts))
       → IfSome trace (λ t. list_all device_count_fits (map count_of pool) ≡ true) → IfSome trace (λ t. AreRising pool) → IfSome trace (λ t. IsHead image opening (head t))
-  heads head None image given opening same opens worded text sized rising = tt
-  heads head (Some t) image given opening same opens worded text sized rising =
+  heads head None image given opening same opens long worded text sized rising = tt
+  heads head (Some t) image given opening same opens long worded text sized rising =
       let P : Shared → Type 0 = λ o. IsHead image o (head t) in
       let Q : Loaded → Type 0 = λ i. Each IsRoutineWorded (routines_of i) in
+      let L : Loaded → Type 0 = λ i. i.bounds.limit ≡ V2 in
       subst P opens (record {
         pool = pool;
         starts = starts;
+        long = subst L (sym same) long;
         worded = subst Q (sym same) worded;
         begins = begins_so rising;
         opens = refl;

@@ -3,6 +3,7 @@ use Rattle.std.specs.Prelude.{ℕ, ◌+◌, ◌-◌, ◌^◌, min, Bool, ◌||�
 use Rattle.std.specs.Str.{bytes_eq}
 use Rattle.mj_replica.specs.declared.replaying.Verdict.{Verdict}
 use Rattle.mj_replica.specs.declared.replaying.Verdict.TheVariants as verdicts
+use Rattle.mj_trace.specs.Refused.{head_count}
 use Rattle.mj_trace.specs.Trace.{Traced}
 
 -- where a job stands: a routine and a line of it, or nowhere
@@ -22,10 +23,10 @@ wait_line job what holder place = codes "job " ++ decimal job ++ codes " waits f
 abbrev pub idle_line : ℕ → List ℕ
 idle_line job = codes "job " ++ decimal job ++ codes " waits for input" ++ 10 ∷ []
 
--- the line of a trace on which an event stands, which counts from 0. Lines count from 1: before the events stand the header, and a line for each device and
--- each start. No number is greater than the greatest of 64 bits
+-- the line of a trace on which an event stands, which counts from 0. Lines count from 1: before the events stand those that tell the form, and one for each
+-- device and each start. No number is greater than the greatest of 64 bits
 abbrev pub event_line : Traced → ℕ → ℕ
-event_line trace at = min (length trace.pool + length trace.starts + at + 2) (2 ^ 64 - 1)
+event_line trace at = min (length trace.pool + length trace.starts + at + head_count trace.form + 1) (2 ^ 64 - 1)
 
 -- what is printed of what a replay says
 abbrev pub verdict_text : Traced → Verdict → List ℕ

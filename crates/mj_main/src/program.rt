@@ -7,6 +7,8 @@ ghost use Rattle.mj_sys.specs.Opening.{opening_of};
 ghost use Rattle.mj_rou.specs.Words.{Each, IsRoutineWorded};
 ghost use Rattle.mj_load.specs.Image.{routines_of};
 ghost use Rattle.mj_replica.specs.Replicas.{AreWhole};
+ghost use Rattle.mj_text.specs.declared.limit.Limit.TheVariants.{V2};
+ghost use Rattle.mj_trace.specs.declared.form.Form.TheVariants.{Second};
 ghost use Rattle.mj_trace.specs.Trace.{opening_text};
 ghost use Rattle.mj_trace.specs.Sized.{device_count_fits};
 ghost use Rattle.mj_recorded.specs.Traces.{entries_of};
@@ -30,6 +32,7 @@ use mj_run::run_jobs;
 use mj_sessions::Sessions;
 use mj_steps::Ending;
 use mj_sys::Opening;
+use mj_text::Limit;
 use mj_warnings::put_warnings;
 use std::alloc::Global;
 use std::convert::AsStr;
@@ -121,7 +124,7 @@ where
     requires given { WereGiven order.now beginning.starts.items beginning.pool beginning.image.routines beginning.globals.content beginning.steps }
     requires worded { Each IsRoutineWorded (routines_of beginning.image) }
     requires whole { AreWhole beginning.pool }
-    requires text { IfSome outlet.trace (λ t. t.opening.items ≡ opening_text (map count_of beginning.pool) (entries_of beginning.starts.items)) }
+    requires text { IfSome outlet.trace (λ t. t.opening.items ≡ opening_text (Second V2) (map count_of beginning.pool) (entries_of beginning.starts.items)) }
     requires sized { IfSome outlet.trace (λ t. list_all device_count_fits (map count_of beginning.pool) ≡ true) }
     requires rising { IfSome outlet.trace (λ t. AreRising beginning.pool) }
     ensures { result ≤ 4 }
@@ -156,7 +159,8 @@ where
     requires given { WereGiven order.now beginning.starts.items beginning.pool beginning.image.routines beginning.globals.content beginning.steps }
     requires worded { Each IsRoutineWorded (routines_of beginning.image) }
     requires whole { AreWhole beginning.pool }
-    requires text { IfSome outlet.now.trace (λ t. t.opening.items ≡ opening_text (map count_of beginning.pool) (entries_of beginning.starts.items)) }
+    requires text { IfSome outlet.now.trace
+        (λ t. t.opening.items ≡ opening_text (Second V2) (map count_of beginning.pool) (entries_of beginning.starts.items)) }
     requires sized { IfSome outlet.now.trace (λ t. list_all device_count_fits (map count_of beginning.pool) ≡ true) }
     requires rising { IfSome outlet.now.trace (λ t. AreRising beginning.pool) }
     ensures { result ≤ 4 }
@@ -279,7 +283,7 @@ fn check<'a, R: Files + AllocGlobal, O: Write, E: Write>(
 ) -> Result<u8, ProgramError<'a>>
     ensures { IfOk result (λ status. status ≤ 1) }
 {
-    let image = loaded(rt, files)?;
+    let image = loaded(rt, files, Limit::V2)?;
     let count = files.len();
     let told = format!(in rt.alloc(); "ok {count}\n")?;
     print(told.as_bytes(), out)?;

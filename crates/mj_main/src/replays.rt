@@ -4,6 +4,7 @@ ghost use Rattle.std.specs.Prelude.{◌≡◌, ◌≤◌, IfOk, true};
 ghost use Rattle.std.specs.String.{string_bytes};
 ghost use Rattle.mj_sys.specs.Shared.{are_global};
 ghost use Rattle.mj_trace.specs.Lines.{IsTrace};
+ghost use Rattle.mj_trace.specs.Trace.{limit_of};
 ghost use Rattle.mj_main.specs.Printed.{verdict_text};
 ghost use Rattle.mj_main.specs.Statuses.{verdict_status};
 
@@ -14,7 +15,7 @@ use mj_globs::Globals;
 use mj_load::Image;
 use mj_replay::replay_trace;
 use mj_replica::Verdict;
-use mj_trace::{Trace, TraceError, read_trace};
+use mj_trace::{Form, Trace, TraceError, read_trace};
 use std::alloc::{AllocError, Global};
 use std::mem::forget;
 use std::rt::Files;
@@ -52,7 +53,7 @@ fn recorded<'a, R: Files + AllocGlobal>(rt: &R, file: &'a str) -> Result<Trace, 
     }
 }
 
-// Replays it.
+// Replays it, where texts have its limit.
 fn verdict<'a, R: Files + AllocGlobal>(
     rt: &R,
     order: &Replay<'a>,
@@ -60,8 +61,9 @@ fn verdict<'a, R: Files + AllocGlobal>(
 ) -> Result<Verdict, ProgramError<'a>>
     requires { IsTrace trace.now }
 {
-    let image = loaded(rt, &order.files)?;
-    let verdict = match listed(rt, order.globals) {
+    let limit = trace.limit();
+    let image = loaded(rt, &order.files, limit)?;
+    let verdict = match listed(rt, order.globals, limit) {
         Ok(globals) => replay_verdict(rt.alloc(), &image, globals, trace),
         Err(stop) => Err(stop),
     };
@@ -78,11 +80,13 @@ fn replay_verdict<'a>(
 ) -> Result<Verdict, ProgramError<'a>>
     requires global { are_global globals.content ≡ true }
     requires written { IsTrace trace.now }
+    requires limit { image.now.bounds.limit ≡ limit_of trace.now.form }
 {
     Ok(replay_trace(alloc, image, globals, trace)?)
 }
 
-// What is printed of a verdict, and the exit status. Lines count from 1: before the events stand the header, and a line for each device and each start.
+// What is printed of a verdict, and the exit status. Lines count from 1: before the events stand those that tell the form, and one for each device
+// and each start.
 fn verdict_text(alloc: Global, trace: &Trace, verdict: Verdict) -> Result<(String, u8), AllocError>
     ensures text { IfOk result (λ told. string_bytes told.0 ≡ verdict_text trace.now verdict) }
     ensures which { IfOk result (λ told. told.1 ≡ verdict_status verdict) }
@@ -91,8 +95,12 @@ fn verdict_text(alloc: Global, trace: &Trace, verdict: Verdict) -> Result<(Strin
     match verdict {
         Verdict::Same => Ok((format!(in alloc; "same\n")?, 0)),
         Verdict::Differs(at) => {
+            let first = match trace.form() {
+                Form::First => 2,
+                Form::Second(_) => 3,
+            };
             let before = trace.pool().len().saturating_add(trace.starts().len());
-            let line = before.saturating_add(at).saturating_add(2);
+            let line = before.saturating_add(at).saturating_add(first);
             Ok((format!(in alloc; "differs at line {line}\n")?, DIFFERS))
         }
     }

@@ -1,7 +1,7 @@
 // What is told of a run, be it one that was stepped or one of workers.
 
 ghost use Rattle.std.specs.Prelude.{◌≡◌, ◌≤◌, IfOk, IfSome, if◌then◌else◌};
-ghost use Rattle.mj_load.specs.Image.{routines_of};
+ghost use Rattle.mj_load.specs.Image.{program_of};
 ghost use Rattle.mj_core.specs.Runs.{IsRun};
 ghost use Rattle.mj_report.specs.Faults.{has_faulted};
 ghost use Rattle.mj_report.specs.Traced.{IsHead};
@@ -39,7 +39,7 @@ where
     H: Events,
     G: Opening,
     requires head { IfSome outlet.now.trace (λ t. IsHead image.now G.opening t.opening.items) }
-    requires run { IsRun (routines_of image.now) G.opening (H.history told.now) }
+    requires run { IsRun (program_of image.now) G.opening (H.history told.now) }
     ensures { IfSome result (λ status. status ≤ 4) }
 {
     let shown = match show(rt, told, jobs, out) {

@@ -7,6 +7,8 @@ ghost use Rattle.mj_sys.specs.Opening.{opening_of};
 ghost use Rattle.mj_rou.specs.Words.{Each, IsRoutineWorded};
 ghost use Rattle.mj_load.specs.Image.{routines_of};
 ghost use Rattle.mj_replica.specs.Replicas.{AreWhole};
+ghost use Rattle.mj_text.specs.declared.limit.Limit.TheVariants.{V2};
+ghost use Rattle.mj_trace.specs.declared.form.Form.TheVariants.{Second};
 ghost use Rattle.mj_trace.specs.Trace.{opening_text};
 ghost use Rattle.mj_trace.specs.Sized.{device_count_fits};
 ghost use Rattle.mj_recorded.specs.Traces.{entries_of};
@@ -51,7 +53,8 @@ where
     requires given { WereGiven order.now beginning.starts.items beginning.pool beginning.image.routines beginning.globals.content beginning.steps }
     requires worded { Each IsRoutineWorded (routines_of beginning.image) }
     requires whole { AreWhole beginning.pool }
-    requires text { IfSome outlet.now.trace (λ t. t.opening.items ≡ opening_text (map count_of beginning.pool) (entries_of beginning.starts.items)) }
+    requires text { IfSome outlet.now.trace
+        (λ t. t.opening.items ≡ opening_text (Second V2) (map count_of beginning.pool) (entries_of beginning.starts.items)) }
     requires sized { IfSome outlet.now.trace (λ t. list_all device_count_fits (map count_of beginning.pool) ≡ true) }
     requires rising { IfSome outlet.now.trace (λ t. AreRising beginning.pool) }
     ensures { result ≤ 4 }

@@ -1,3 +1,4 @@
 pub mod Examples
 pub mod Joined
 pub mod NameTexts
+pub mod Lengths

@@ -2,6 +2,7 @@
 use Rattle.std.specs.Prelude.{◌≡◌, ℕ, ◌+◌, ◌*◌, ◌≤◌, List, [], ◌∷◌, Option, Some, None, Bool, false, map, if◌then◌else◌}
 use Rattle.std.specs.Str.{bytes_eq}
 use Rattle.mj_text.specs.declared.text.TheConstants.{TEXT_LIMIT}
+use Rattle.mj_text.specs.declared.limit.Limit.TheVariants.{V2}
 use Rattle.mj_semantics.specs.State.{State, OpenDevice, principal, column_after, row_after, device_at, wrote, broke, with_device, used, dropped}
 use Rattle.mj_semantics.specs.Job.{opening}
 use Rattle.mj_open_devices.specs.declared.devices.Spot.{Spot}
@@ -16,7 +17,11 @@ pub record Opened : Type 0 where
 
 -- a state with these devices, of which nothing else matters here
 abbrev pub alone : Opened → State
-alone o = record (opening 0) { devices = o.devices; current = o.current }
+alone o = record (opening (record { limit = V2; events = 0 }) 0) { devices = o.devices; current = o.current }
+
+-- no job makes more writes: it has no more events than a number of 32 bits says
+abbrev pub writes_limit : ℕ
+writes_limit = 4294967295
 
 -- the devices of a state, behind so many writes
 abbrev pub opened : ℕ → State → Opened

@@ -4,8 +4,7 @@ ghost use Rattle.std.specs.Prelude.{◌≡◌, ◌+◌, ◌*◌, ◌≤◌, ◌<
 ghost use Rattle.std.specs.Str.{bytes_eq};
 ghost use Rattle.mj_text.specs.declared.text.TheConstants.{TEXT_LIMIT};
 ghost use Rattle.mj_semantics.specs.State as states;
-ghost use Rattle.mj_semantics.specs.Outcome.{steps_limit};
-ghost use Rattle.mj_open_devices.specs.Opened.{alone, after_write, after_fail, after_add, after_drop, after_leave, after_use, is_named, spot_at, went};
+ghost use Rattle.mj_open_devices.specs.Opened.{alone, after_write, after_fail, after_add, after_drop, after_leave, after_use, is_named, spot_at, went, writes_limit};
 
 use crate::column::{column_after, row_after};
 use mj_text::{Digits, Text};
@@ -191,7 +190,7 @@ impl Devices {
     /// These bytes were written to the current one.
     pub fn write(&mut self, bytes: &[u8])
         requires short { length bytes.now ≤ TEXT_LIMIT }
-        requires more { self.old.writes < steps_limit }
+        requires more { self.old.writes < writes_limit }
         ensures { self.new ≡ after_write bytes.now self.old }
     {
         self.writes += 1;

@@ -1,13 +1,13 @@
 -- What each operator gives: a text, seen as the list of its bytes, or the fault that stands in its place.
 -- ISO/IEC 11756:1999, 7.2 (binary operators) and 7.1.4 (unary operators); the faults are this profile's.
-use Rattle.std.specs.Prelude.{ℕ, nat_le, length, Bool, true, false, not, ◌&&◌, ◌||◌, List, [], ◌∷◌, ◌++◌, ℤ, neg_ℤ, int_lt, Result, Ok, Err, if◌then◌else◌}
+use Rattle.std.specs.Prelude.{ℕ, Bool, true, false, not, ◌&&◌, ◌||◌, List, [], ◌∷◌, ◌++◌, ℤ, neg_ℤ, int_lt, Result, Ok, Err}
 use Rattle.std.specs.Str.{bytes_eq}
 use Rattle.std.specs.Ordering.{is_gt, nat_cmp}
 use Rattle.std.specs.Cmp.Lexicographic.{slice_cmp}
 use Rattle.std.specs.Option.{is_some}
-use Rattle.mj_text.specs.declared.text.TheConstants.{TEXT_LIMIT}
+use Rattle.mj_text.specs.Limit.{within_limit}
+use Rattle.mj_text.specs.declared.limit.Limit.{Limit}
 use Rattle.mj_text.specs.declared.fault.Fault.{Fault}
-use Rattle.mj_text.specs.declared.fault.Fault.TheVariants.{Length}
 use Rattle.mj_text.specs.Failing.{then_value}
 use Rattle.mj_text.specs.Find.{first_place}
 use Rattle.mj_num.specs.Number.{reading, canonic_text, truth_of, sum_of, difference_of, product_of, quotient_of, remainder_of, exact_quotient_of}
@@ -26,10 +26,6 @@ on_numbers f a b = then_value (reading a) (λ m. then_value (reading b) (λ n. f
 -- a number as a text: its canonic text
 abbrev pub number_text : Result ℤ Fault → Result (List ℕ) Fault
 number_text r = then_value r (λ z. Ok (canonic_text z))
-
--- `_`: the bytes of both, one after the other; more than a text holds are LENGTH
-abbrev pub joined : List ℕ → List ℕ → Result (List ℕ) Fault
-joined a b = if nat_le (length (a ++ b)) TEXT_LIMIT then Ok (a ++ b) else Err Length
 
 -- whether what a truth operator says holds: `[` where b stands somewhere in a; `]` where a comes after b by bytes, a proper
 -- front coming first. `&` and `!` read both sides, whatever the first one is.
@@ -52,17 +48,18 @@ abbrev pub truth_text : Bool → List ℕ
 truth_text true = 49 ∷ []
 truth_text false = 48 ∷ []
 
--- what a binary operator gives of its left and its right side
-abbrev pub binary_value : Op → List ℕ → List ℕ → Result (List ℕ) Fault
-binary_value Add a b = number_text (on_numbers sum_of a b)
-binary_value Subtract a b = number_text (on_numbers difference_of a b)
-binary_value Multiply a b = number_text (on_numbers product_of a b)
-binary_value Quotient a b = number_text (on_numbers quotient_of a b)
-binary_value Remainder a b = number_text (on_numbers remainder_of a b)
-binary_value Divide a b = number_text (on_numbers exact_quotient_of a b)
-binary_value Join a b = joined a b
-binary_value (Is t) a b = then_value (holds t a b) (λ h. Ok (truth_text h))
-binary_value (IsNot t) a b = then_value (holds t a b) (λ h. Ok (truth_text (not h)))
+-- what a binary operator gives of its left and its right side, where texts have this limit. `_` gives the bytes of both, one after the other; more than a
+-- text may have are LENGTH
+abbrev pub binary_value : Limit → Op → List ℕ → List ℕ → Result (List ℕ) Fault
+binary_value limit Add a b = number_text (on_numbers sum_of a b)
+binary_value limit Subtract a b = number_text (on_numbers difference_of a b)
+binary_value limit Multiply a b = number_text (on_numbers product_of a b)
+binary_value limit Quotient a b = number_text (on_numbers quotient_of a b)
+binary_value limit Remainder a b = number_text (on_numbers remainder_of a b)
+binary_value limit Divide a b = number_text (on_numbers exact_quotient_of a b)
+binary_value limit Join a b = within_limit limit (a ++ b)
+binary_value limit (Is t) a b = then_value (holds t a b) (λ h. Ok (truth_text h))
+binary_value limit (IsNot t) a b = then_value (holds t a b) (λ h. Ok (truth_text (not h)))
 
 -- what a unary operator gives of the value behind it
 abbrev pub unary_value : UnaryOp → List ℕ → Result (List ℕ) Fault

@@ -4,17 +4,25 @@ ghost use Rattle.std.specs.Prelude.{◌≡◌, true, SomeIff, IfSome, Ok};
 ghost use Rattle.mj_num.specs.Number.{reading, number_of, canonic_text, is_canonic as is_canonic_of};
 ghost use Rattle.mj_subs.specs.Collation.{subscript_cmp};
 ghost use Rattle.mj_text.specs.Failing.{failing, Answers};
+ghost use Rattle.mj_text.specs.declared.limit.Limit.{Limit as SeenLimit};
 ghost use Rattle.mj_oper.specs.Operators.{binary_value, unary_value, holds as holds_of, truth_value, truth_text as text_of_truth};
 
 use crate::op::{Op, TruthOp, UnaryOp};
 use mj_num::{Num, is_canonic};
-use mj_text::{Failure, Text};
+use mj_text::{Failure, Limit, Text};
 use std::alloc::Global;
 use std::cmp::Ordering;
 
-/// What a binary operator gives of the values on its left and its right side. Both are read before it is applied.
-pub fn binary(alloc: Global, op: Op, left: &Text, right: &Text) -> Result<Text, Failure>
-    ensures { Answers (binary_value op left.now right.now) result }
+/// What a binary operator gives of the values on its left and its right side. Both are read before it is applied. A text that `_` would make above the
+/// limit is `Length`, and no memory is asked for then.
+pub fn binary(
+    alloc: Global,
+    op: Op,
+    left: &Text,
+    right: &Text,
+    limit: Limit,
+) -> Result<Text, Failure>
+    ensures { Answers (binary_value limit op left.now right.now) result }
 {
     let number = match op {
         Op::Add => read(left)?.add(read(right)?),
@@ -23,7 +31,7 @@ pub fn binary(alloc: Global, op: Op, left: &Text, right: &Text) -> Result<Text, 
         Op::Quotient => read(left)?.quot(read(right)?),
         Op::Remainder => read(left)?.rem(read(right)?),
         Op::Divide => read(left)?.exact(read(right)?),
-        Op::Join => return left.join(right),
+        Op::Join => return left.join(right, limit),
         Op::Is(test) => return Ok(truth_text(alloc, holds(test, left, right)?)),
         Op::IsNot(test) => return Ok(truth_text(alloc, !holds(test, left, right)?)),
     };
@@ -33,10 +41,10 @@ pub fn binary(alloc: Global, op: Op, left: &Text, right: &Text) -> Result<Text, 
     }
 }
 
-/// What a binary operator gives, as a number, of two values that are kept as numbers. `None` says nothing: then [`binary`] says what it gives.
-/// It takes no memory, and few instructions.
+/// What a binary operator gives, as a number, of two values that are kept as numbers, whatever the limit of texts is. `None` says nothing: then [`binary`]
+/// says what it gives. It takes no memory, and few instructions.
 pub fn of_numbers(op: Op, left: &Text, right: &Text) -> Option<Num>
-    ensures { IfSome result (λ n. binary_value op left.now right.now ≡ Ok (canonic_text n)) }
+    ensures { IfSome result (λ n. (limit : SeenLimit) → binary_value limit op left.now right.now ≡ Ok (canonic_text n)) }
 {
     let a = Num::at_hand(left)?;
     let b = Num::at_hand(right)?;

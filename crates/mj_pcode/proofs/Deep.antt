@@ -16,7 +16,7 @@ use Rattle.mj_semantics.specs.Evaluation.{name_of, named_for}
 use Rattle.mj_semantics.specs.Sharing.{is_limit, in_time, served, take_names, give_names}
 use Rattle.mj_semantics.specs.Devices.{is_got, has_no_session, request_device, end_session}
 use Rattle.mj_semantics.specs.Commands.{mark_byte}
-use Rattle.mj_semantics.proofs.Words.{Stays, spent, same, Back, Keeps, turned, looked, changed, chosen, ended, faulted, is_given, asked, told_of, to_its_device, restarts, reads, is_about, stores, renews, removes, takes_nodes, puts_nodes, quits_frame, ends_frame, in_its_function, goes_deeper, writes, tabs, writes_code, tests, goes_again, begins as first_keeps, reads_two, hangs, starts_job, unlocks_all, uses, reads_input, begins_transaction, commits, rolls_back, gives_back, begins_again}
+use Rattle.mj_semantics.proofs.Words.{Stays, spent, same, Back, Keeps, turned, looked, changed, chosen, ended, faulted, is_given, is_composed, asked, told_of, to_its_device, restarts, reads, is_about, stores, renews, removes, takes_nodes, puts_nodes, quits_frame, ends_frame, in_its_function, goes_deeper, writes, tabs, writes_code, tests, goes_again, begins as first_keeps, reads_two, hangs, starts_job, unlocks_all, uses, reads_input, begins_transaction, commits, rolls_back, gives_back, begins_again}
 use Rattle.mj_pcode.specs.declared.instr.Span.{Span}
 use Rattle.mj_pcode.specs.declared.instr.Span.TheVariants as span
 use Rattle.mj_pcode.specs.declared.instr.LineStart.{LineStart}
@@ -125,8 +125,8 @@ module _ (more b : ℕ) (f g : Next) (keeps : KeepsNext more b f g) where
     acts_keep (PushSpecial v) = looked (λ s. keeps c (pc + 1) (special_value v s ∷ stack))
     acts_keep (Load r) = is_given (name_of r.scope r.word (operands r.count stack)) (λ x. reads x (λ v. keeps c (pc + 1) (v ∷ drop r.count stack)))
     acts_keep (Unary op) = is_given (unary_value op (top stack)) (λ v. keeps c (pc + 1) (v ∷ below stack))
-    acts_keep (Binary op) = is_given (binary_value op (top (below stack)) (top stack)) (λ v. keeps c (pc + 1) (v ∷ below (below stack)))
-    acts_keep (CallFunction h n) = is_given (call_value h (operands n stack)) (λ v. keeps c (pc + 1) (v ∷ drop n stack))
+    acts_keep (Binary op) = is_composed (λ limit. binary_value limit op (top (below stack)) (top stack)) (λ v. keeps c (pc + 1) (v ∷ below (below stack)))
+    acts_keep (CallFunction h n) = is_composed (λ limit. call_value limit h (operands n stack)) (λ v. keeps c (pc + 1) (v ∷ drop n stack))
     acts_keep (CheckNamed h r) = is_given (named_for h r.scope r.word (operands r.count stack)) (λ x. keeps c (pc + 1) stack)
     acts_keep (CallNameFunction h r k) =
         is_given (named_for h r.scope r.word (operands r.count (drop (k - r.count) stack))) (λ x.

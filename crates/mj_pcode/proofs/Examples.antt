@@ -2,6 +2,7 @@
 use Rattle.std.proofs.Common.{arith, ap, ◌∙◌}
 use Rattle.std.proofs.lemmas.Option.{none-some}
 use Rattle.std.specs.Prelude.{◌≡◌, refl, ℕ, suc, List, [], ◌∷◌, Some, None, Bool, true, false, codes, slice_get}
+use Rattle.mj_text.specs.declared.limit.Limit.TheVariants.{V2}
 use Rattle.mj_ask.specs.declared.ask.Ask.TheVariants as asks
 use Rattle.mj_ask.specs.declared.ask.DeviceAsk.TheVariants as device_asks
 use Rattle.mj_oper.specs.declared.op.Op.TheVariants.{Add}
@@ -64,12 +65,15 @@ module _ (u : Unit) (is_line : slice_get u.instrs.items 0 ≡ Some (line 2)) (is
   abbrev next : ℕ → Next
   next n = exec (u ∷ []) n
 
+  abbrev opened : State
+  opened = opening (record { limit = V2; events = 1000000 }) 1
+
   -- with n turns
   abbrev run : ℕ → Outcome
-  run n = calls false (Some first_line) [] [] (next n) n no_restart (opening 1) []
+  run n = calls false (Some first_line) [] [] (next n) n no_restart opened []
 
   abbrev begun : State
-  begun = passed (codes "X" ∷ codes "Y" ∷ []) [] (pushed (place_in u 1) 1 false None (opening 1))
+  begun = passed (codes "X" ∷ codes "Y" ∷ []) [] (pushed (place_in u 1) 1 false None opened)
 
   abbrev from : ℕ → Stack → ℕ → Outcome
   from pc stack n = exec (u ∷ []) n c pc stack n no_restart begun []

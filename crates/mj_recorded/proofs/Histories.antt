@@ -11,7 +11,7 @@ use Rattle.mj_ask.specs.Fits.{fits, is_reply_to, is_late, timeout_of, is_shared}
 use Rattle.mj_ask.specs.Written.{is_entry}
 use Rattle.mj_ask.specs.Formed.{is_ask, is_reply}
 use Rattle.mj_ask.proofs.Lists.{and_true, both_true}
-use Rattle.mj_ast.specs.Syntax.{Routine}
+use Rattle.mj_semantics.specs.Program.{Program}
 use Rattle.mj_rou.specs.Words.{Each, IsRoutineWorded}
 use Rattle.mj_written.proofs.Runs.{are_written}
 use Rattle.mj_jobs.specs.Rows.{Row, row_at, IsLive}
@@ -56,7 +56,7 @@ row_started : (rows : List Row) (job : ℕ) (row : Row) → Each IsStarted rows 
 row_started rows zero row h e = absurd cc
 row_started rows (suc k) row h e = one_of IsStarted rows k row h e
 
-module _ (image : List Routine) (opening : Shared) (history : History) (worded : Each IsRoutineWorded image) (run : IsRun image opening history) where
+module _ (program : Program) (opening : Shared) (history : History) (worded : Each IsRoutineWorded program.routines) (run : IsRun program opening history) where
   -- the ask of an event, behind events that can be written
   asked : (done rest : History) (e : Event) → history ≡ done ++ e ∷ rest → Each CanBeWritten done → IsFormed (state_of opening done) → IsLive (state_of opening done).rows e.job
       → (is_ask e.ask ≡ true) × (fits e.ask e.reply ≡ true)
@@ -70,8 +70,8 @@ module _ (image : List Routine) (opening : Shared) (history : History) (worded :
       subst (λ (x : Started). is_entry x.entry ≡ true) (sym kept.2) (row_started s.rows e.job live.0 formed.rows live.1) in
       let log : log_of e.job history ≡ log_of e.job done ++ (e.ask, e.reply) ∷ log_of e.job rest =
       ap (log_of e.job) whole ∙ log_of_append e.job done (e ∷ rest) ∙ ap (λ l. log_of e.job done ++ l) (own e rest) in
-      let m = makes image (start_in e.job row.start) (log_of e.job history) (run.traces e.job row there) (log_of e.job done) (log_of e.job rest) e.ask e.reply log in
-      ((are_written image (start_in e.job row.start) m.turns (replies_of (log_of e.job done)) e.ask m.locals m.at worded entry (replies_written e.job done written) m.needs).0, m.fit)
+      let m = makes program (start_in e.job row.start) (log_of e.job history) (run.traces e.job row there) (log_of e.job done) (log_of e.job rest) e.ask e.reply log in
+      ((are_written program (start_in e.job row.start) m.turns (replies_of (log_of e.job done)) e.ask m.locals m.at worded entry (replies_written e.job done written) m.needs).0, m.fit)
 
   -- and its reply
   told : (s : Shared) (e : Event) → IsFormed s → Happens s e → is_ask e.ask ≡ true → fits e.ask e.reply ≡ true → is_reply e.reply ≡ true
@@ -105,6 +105,6 @@ module _ (image : List Routine) (opening : Shared) (history : History) (worded :
       (subst P (sym next) formed_on) (subst Q (sym next) happen.1) in
       ((written_so, others.0), others.1)
 
-pub are_recorded : (image : List Routine) (opening : Shared) (history : History) → Each IsRoutineWorded image → IsFormed opening → IsRun image opening history
+pub are_recorded : (program : Program) (opening : Shared) (history : History) → Each IsRoutineWorded program.routines → IsFormed opening → IsRun program opening history
     → Each CanBeWritten history × IsFormed (state_of opening history)
-are_recorded image opening history worded formed run = recorded image opening history worded run [] history refl tt formed run.happen
+are_recorded program opening history worded formed run = recorded program opening history worded run [] history refl tt formed run.happen

@@ -4,7 +4,7 @@ use Rattle.std.specs.Prelude.{IsTrue}
 use Rattle.mj_ask.specs.declared.ask.Ask.{Ask}
 use Rattle.mj_ask.specs.declared.ask.Reply.{Reply}
 use Rattle.mj_ask.specs.Fits.{fits}
-use Rattle.mj_ast.specs.Syntax.{Routine}
+use Rattle.mj_semantics.specs.Program.{Program}
 use Rattle.mj_semantics.specs.State.{Locals, Place}
 use Rattle.mj_semantics.specs.Outcome.{Needs}
 use Rattle.mj_semantics.specs.Job.{Start, next}
@@ -33,24 +33,24 @@ cut {X} (z ∷ zs) x (f ∷ front) y back e = by (cut zs x front y back p.1)
     by (inr q) = inr (q.0, λ i. p.0 i ∷ q.1 i)
 
 -- after the replies before it a job asks this, and the reply fits it
-pub record Makes (image : List Routine) (start : Start) (front : Log) (a : Ask) (r : Reply) : Type 0 where
+pub record Makes (program : Program) (start : Start) (front : Log) (a : Ask) (r : Reply) : Type 0 where
   pub turns : ℕ
   pub locals : Locals
   pub at : List Place
-  pub needs : next image start turns (replies_of front) ≡ Needs a locals at
+  pub needs : next program start turns (replies_of front) ≡ Needs a locals at
   pub fit : IsTrue (fits a r)
 
-made : (image : List Routine) (start : Start) (log front : Log) (x y : Ask × Reply) → log ≡ front → x ≡ y → Makes image start log x.0 x.1 → Makes image start front y.0 y.1
-made image start log front x y p q m =
-    let P : Log → Type 0 = λ l. Makes image start l x.0 x.1 in
-    let Q : Ask × Reply → Type 0 = λ z. Makes image start front z.0 z.1 in
+made : (program : Program) (start : Start) (log front : Log) (x y : Ask × Reply) → log ≡ front → x ≡ y → Makes program start log x.0 x.1 → Makes program start front y.0 y.1
+made program start log front x y p q m =
+    let P : Log → Type 0 = λ l. Makes program start l x.0 x.1 in
+    let Q : Ask × Reply → Type 0 = λ z. Makes program start front z.0 z.1 in
     subst Q q (subst P p m)
 
-pub makes : (image : List Routine) (start : Start) (log : Log) → IsTrace image start log → (front back : Log) (a : Ask) (r : Reply) → log ≡ front ++ (a, r) ∷ back → Makes image start front a r
-makes image start _ begins front back a r e = absurd (no_end front (a, r) back e)
-makes image start _ (goes_on log b q n locals at trace needs fit) front back a r e = by (λ rest p. makes image start log trace front rest a r p) (cut log (b, q) front (a, r) back e)
+pub makes : (program : Program) (start : Start) (log : Log) → IsTrace program start log → (front back : Log) (a : Ask) (r : Reply) → log ≡ front ++ (a, r) ∷ back → Makes program start front a r
+makes program start _ begins front back a r e = absurd (no_end front (a, r) back e)
+makes program start _ (goes_on log b q n locals at trace needs fit small) front back a r e = by (λ rest p. makes program start log trace front rest a r p) (cut log (b, q) front (a, r) back e)
   where
-    by : ((rest : Log) → log ≡ front ++ (a, r) ∷ rest → Makes image start front a r) → ((log ≡ front) × (◌≡◌ {A = Ask × Reply} (b, q) (a, r))) ⊎ ((rest : Log) × (log ≡ front ++ (a, r) ∷ rest))
-        → Makes image start front a r
-    by earlier (inl p) = made image start log front (b, q) (a, r) p.0 p.1 (record { turns = n; locals = locals; at = at; needs = needs; fit = fit })
+    by : ((rest : Log) → log ≡ front ++ (a, r) ∷ rest → Makes program start front a r) → ((log ≡ front) × (◌≡◌ {A = Ask × Reply} (b, q) (a, r))) ⊎ ((rest : Log) × (log ≡ front ++ (a, r) ∷ rest))
+        → Makes program start front a r
+    by earlier (inl p) = made program start log front (b, q) (a, r) p.0 p.1 (record { turns = n; locals = locals; at = at; needs = needs; fit = fit })
     by earlier (inr p) = earlier p.0 p.1

@@ -4,7 +4,7 @@ use Rattle.mj_ask.specs.Written.{is_entry}
 use Rattle.mj_ask.specs.Formed.{is_access, is_answer, is_ask, is_reply}
 use Rattle.mj_ask.specs.Fitting.{is_content}
 use Rattle.mj_ask.specs.Fits.{is_reply_to}
-use Rattle.mj_ast.specs.Syntax.{Routine}
+use Rattle.mj_semantics.specs.Program.{Program}
 use Rattle.mj_rou.specs.Words.{Each, IsRoutineWorded}
 use Rattle.mj_jobs.specs.Rows.{Row}
 use Rattle.mj_txlog.specs.Accesses.{Transaction}
@@ -44,5 +44,5 @@ pub record IsFormed (s : Shared) : Type 0 where
 -- opening is formed; and so is what is shared behind it.
 abbrev pub AreRecorded : Type 0
 AreRecorded =
-    (image : List Routine) (opening : Shared) (history : History) → Each IsRoutineWorded image → IsFormed opening → IsRun image opening history
+    (program : Program) (opening : Shared) (history : History) → Each IsRoutineWorded program.routines → IsFormed opening → IsRun program opening history
     → Each CanBeWritten history × IsFormed (state_of opening history)

@@ -1,19 +1,22 @@
 // A job alone, let go on from ask to ask.
 
+ghost use Rattle.std.specs.Prelude.{◌≡◌, true};
+ghost use Rattle.mj_text.specs.declared.limit.Limit.TheVariants.{V2};
+ghost use Rattle.mj_ask.specs.Within.{is_reply_within};
 ghost use Rattle.mj_jobvm.specs.Jobs.{IsIn, IsRunOf};
 ghost use Rattle.mj_load.specs.Image.{Loaded};
 ghost use Rattle.mj_semantics.specs.Job.{Start as Starts};
 
 use crate::histories::put_log;
 use crate::listening::{may_not_refuse, may_refuse};
-use crate::script::{is_event, script};
+use crate::script::{is_event, noted_line, script};
 use crate::told::Told;
-use mj_ask::{Ask, Reply};
+use mj_ask::{Noted, Reply};
 use mj_jobvm::{Job, Turn};
 use mj_load::Image;
 use mj_test_core::begins::{image, start};
 use mj_text::Failure;
-use mj_trace::event_line;
+use mj_trace::{Form, event_line};
 use std::alloc::{AllocError, Global};
 
 // How many turns a job is let go on for at once, which is enough to ask.
@@ -55,19 +58,18 @@ pub fn make_all(alloc: Global, told: &mut Told) -> Result<(), Failure> {
     done
 }
 
-fn advance_all(alloc: Global, told: &mut Told, image: &Image) -> Result<(), Failure> {
+fn advance_all(alloc: Global, told: &mut Told, image: &Image) -> Result<(), Failure>
+    requires { image.now.bounds.limit ≡ V2 }
+{
     let script = script(alloc, EVENTS)?;
     let done = follow(alloc, told, image, script.events());
     drop(script);
     done
 }
 
-fn follow(
-    alloc: Global,
-    told: &mut Told,
-    image: &Image,
-    events: &[(u32, Ask, Reply)],
-) -> Result<(), Failure> {
+fn follow(alloc: Global, told: &mut Told, image: &Image, events: &[Noted]) -> Result<(), Failure>
+    requires { image.now.bounds.limit ≡ V2 }
+{
     let (entry, values) = start(alloc)?.into_parts();
     let mut job = Job::start(alloc, image, 1, entry, values);
     let done = go_on(alloc, told, image, &mut job, events);
@@ -80,9 +82,10 @@ fn go_on(
     told: &mut Told,
     image: &Image,
     job: &mut Job,
-    events: &[(u32, Ask, Reply)],
+    events: &[Noted],
 ) -> Result<(), AllocError>
-    requires { IsIn image.now job.old }
+    requires own { IsIn image.now job.old }
+    requires long { image.now.bounds.limit ≡ V2 }
 {
     for event in events {
         exchange(alloc, told, image, job, event)?;
@@ -97,13 +100,15 @@ fn exchange(
     told: &mut Told,
     image: &Image,
     job: &mut Job,
-    event: &(u32, Ask, Reply),
+    event: &Noted,
 ) -> Result<(), AllocError>
-    requires { IsIn image.now job.old }
+    requires own { IsIn image.now job.old }
+    requires long { image.now.bounds.limit ≡ V2 }
     ensures { IsIn image.now job.new }
 {
     advance(alloc, told, image, job)?;
-    answer(alloc, told, job, event)
+    let reply = event.reply.try_clone()?;
+    answer(alloc, told, job, event, reply)
 }
 
 // Lets a job go on, once more where memory was refused, and says whether it has ended.
@@ -160,16 +165,17 @@ fn again(
     }
 }
 
-// Tells a job what an event says, if it asks what that says.
+// Tells a job what an event says, by this copy of its reply, if it asks what that says.
 fn answer(
     alloc: Global,
     told: &mut Told,
     job: &mut Job,
-    event: &(u32, Ask, Reply),
+    event: &Noted,
+    reply: Reply,
 ) -> Result<(), AllocError>
-    ensures { (image : Loaded) (start : Starts) → IsRunOf image start job.old → IsRunOf image start job.new }
+    ensures { (image : Loaded) (start : Starts) → is_reply_within image.bounds.limit reply ≡ true
+        → IsRunOf image start job.old → IsRunOf image start job.new }
 {
-    let reply = event.2.try_clone()?;
     let asked = match job.ask() {
         Some(ask) if ask.fits(&reply) => is_event(alloc, 1, ask, &reply, event),
         _ => Ok(false),
@@ -190,8 +196,8 @@ fn answer(
     }
 }
 
-fn put_other(alloc: Global, told: &mut Told, event: &(u32, Ask, Reply)) -> Result<(), AllocError> {
-    let line = event_line(alloc, event.0, &event.1, &event.2)?;
+fn put_other(alloc: Global, told: &mut Told, event: &Noted) -> Result<(), AllocError> {
+    let line = noted_line(alloc, event)?;
     let put = told.hold(b"job", &line, false);
     drop(line);
     put
@@ -202,7 +208,7 @@ fn standing(alloc: Global, job: &Job) -> Result<Vec<u8>, AllocError> {
     let mut text = Vec::new(alloc);
     put_log(alloc, &mut text, 1, job.log())?;
     if let Some(ask) = job.ask() {
-        let line = event_line(alloc, 1, ask, &Reply::Done)?;
+        let line = event_line(alloc, Form::First, 1, None, ask, &Reply::Done)?;
         let put = text.extend_from_slice(&line);
         drop(line);
         put?;

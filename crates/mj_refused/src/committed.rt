@@ -3,23 +3,23 @@
 use crate::listening::{may_not_refuse, may_refuse};
 use crate::script::script;
 use crate::told::Told;
-use mj_ask::{Ask, Reply, SharedAsk};
+use mj_ask::{Ask, Noted, SharedAsk};
 use mj_gfile::{read, write};
 use mj_globs::Globals;
 use mj_store::{Access, Store};
-use mj_text::Failure;
+use mj_text::{Failure, Limit};
 use mj_txlog::{Skips, TxLog};
 use mj_txn::{Outcome, commit};
 use std::alloc::{AllocError, Global};
 
 // What stands before.
-const BEFORE: &[u8] = b"mj-globals 1\n^A(1)=\"1\"\n^A(2)=\"2\"\n^B=\"0\"\n";
+const BEFORE: &[u8] = b"mj-globals 2\n^A(1)=\"1\"\n^A(2)=\"2\"\n^B=\"0\"\n";
 
 // What another job does before the transaction that clashes is committed, and what stands then.
 const CHANGES: &str = "2 set ^B \"a text that is so long that it has room of its own\" done\n";
 
 const CHANGED: &[u8] =
-    b"mj-globals 1\n^A(1)=\"1\"\n^A(2)=\"2\"\n^B=\"a text that is so long that it has room of its own\"\n";
+    b"mj-globals 2\n^A(1)=\"1\"\n^A(2)=\"2\"\n^B=\"a text that is so long that it has room of its own\"\n";
 
 const WRITES: &str = "1 set ^A(1) \"9\" done
 1 kill ^A(2) done
@@ -97,9 +97,9 @@ fn change_all(alloc: Global, globals: &mut Globals, events: &str) -> Result<(), 
     Ok(done?)
 }
 
-fn change_each(globals: &mut Globals, events: &[(u32, Ask, Reply)]) -> Result<(), AllocError> {
-    for (_, ask, _) in events {
-        if let Ask::Shared(SharedAsk::Access(Access::Set(name, text))) = ask {
+fn change_each(globals: &mut Globals, events: &[Noted]) -> Result<(), AllocError> {
+    for event in events {
+        if let Ask::Shared(SharedAsk::Access(Access::Set(name, text))) = &event.ask {
             globals.set(name, text)?;
         }
     }
@@ -111,10 +111,10 @@ fn access_each(
     told: &mut Told,
     log: &mut TxLog,
     globals: &Globals,
-    events: &[(u32, Ask, Reply)],
+    events: &[Noted],
 ) -> Result<(), AllocError> {
-    for (_, ask, _) in events {
-        if let Ask::Shared(SharedAsk::Access(access)) = ask {
+    for event in events {
+        if let Ask::Shared(SharedAsk::Access(access)) = &event.ask {
             see(alloc, told, log, globals, access)?;
         }
     }
@@ -208,7 +208,7 @@ fn put_outcome(
 }
 
 fn listed(alloc: Global, listing: &[u8]) -> Result<Globals, Failure> {
-    match read(alloc, listing) {
+    match read(alloc, listing, Limit::V2) {
         Ok(globals) => Ok(globals),
         Err(refused) => {
             drop(refused);

@@ -2,13 +2,21 @@
 
 use mj_ask::{Ask, Reply};
 use mj_sys::Event;
-use mj_trace::put_event;
+use mj_trace::{Form, put_event};
 use std::alloc::{AllocError, Global};
 
 /// Puts a line for each event to the end.
 pub fn put_history(alloc: Global, text: &mut Vec<u8>, history: &[Event]) -> Result<(), AllocError> {
     for event in history {
-        put_event(alloc, text, event.job, &event.ask, &event.reply)?;
+        put_event(
+            alloc,
+            text,
+            Form::First,
+            event.job,
+            None,
+            &event.ask,
+            &event.reply,
+        )?;
     }
     Ok(())
 }
@@ -21,7 +29,7 @@ pub fn put_log(
     log: &[(Ask, Reply)],
 ) -> Result<(), AllocError> {
     for (ask, reply) in log {
-        put_event(alloc, text, job, ask, reply)?;
+        put_event(alloc, text, Form::First, job, None, ask, reply)?;
     }
     Ok(())
 }

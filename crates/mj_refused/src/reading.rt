@@ -9,7 +9,7 @@ use mj_ast::Routine;
 use mj_load::{LoadError, load};
 use mj_rou::read;
 use mj_test_core::begins::routine;
-use mj_text::Failure;
+use mj_text::{Failure, Limit};
 use std::alloc::{AllocError, Global};
 
 // Files, and what comes of each.
@@ -104,7 +104,7 @@ fn load_these(alloc: Global, told: &mut Told, routines: Vec<Routine>) -> Result<
     requires { All IsWithinLimits routines.items }
 {
     may_refuse(alloc);
-    let done = load(alloc, routines);
+    let done = load(alloc, routines, Limit::V2);
     may_not_refuse(alloc);
     match done {
         Ok(image) => {
@@ -142,7 +142,7 @@ fn are_two(routines: &[Routine]) -> bool {
 fn load_again(alloc: Global, told: &mut Told, routines: Vec<Routine>) -> Result<(), AllocError>
     requires { All IsWithinLimits routines.items }
 {
-    let done = load(alloc, routines);
+    let done = load(alloc, routines, Limit::V2);
     let all = matches!(&done, Ok(_));
     drop(done);
     told.hold(b"load", b"once more, it is refused", all)

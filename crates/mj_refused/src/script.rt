@@ -1,8 +1,8 @@
 // What jobs ask and are told, written down as the events of a trace.
 
-use mj_ask::{Ask, Reply};
+use mj_ask::{Ask, Noted, Reply};
 use mj_text::Failure;
-use mj_trace::{Trace, event_line, read_trace};
+use mj_trace::{Form, Trace, event_line, read_trace};
 use std::alloc::{AllocError, Global};
 
 /// The trace of two jobs with these events.
@@ -25,10 +25,10 @@ pub fn is_event(
     job: u32,
     ask: &Ask,
     reply: &Reply,
-    event: &(u32, Ask, Reply),
+    event: &Noted,
 ) -> Result<bool, AllocError> {
-    let line = event_line(alloc, job, ask, reply)?;
-    let wanted = event_line(alloc, event.0, &event.1, &event.2);
+    let line = event_line(alloc, Form::First, job, None, ask, reply)?;
+    let wanted = noted_line(alloc, event);
     let same = match &wanted {
         Ok(wanted) => Ok(line.as_slice() == wanted.as_slice()),
         Err(_) => Err(AllocError),
@@ -36,4 +36,16 @@ pub fn is_event(
     drop(wanted);
     drop(line);
     same
+}
+
+/// The line of an event, without where its ask came from.
+pub fn noted_line(alloc: Global, event: &Noted) -> Result<Vec<u8>, AllocError> {
+    event_line(
+        alloc,
+        Form::First,
+        event.job,
+        None,
+        &event.ask,
+        &event.reply,
+    )
 }

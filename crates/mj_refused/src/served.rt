@@ -8,21 +8,20 @@ ghost use Rattle.mj_sys.specs.Shared.{are_global};
 
 use crate::histories::{put_count, put_history};
 use crate::listening::{may_not_refuse, may_refuse};
-use crate::script::{is_event, script};
+use crate::script::{is_event, noted_line, script};
 use crate::told::Told;
-use mj_ask::{Ask, Reply, Start};
+use mj_ask::{Ask, Noted, Reply, Start};
 use mj_dev::{Device, Memory, Pool, Session};
 use mj_gfile::read;
 use mj_globs::Globals;
 use mj_sys::{Claim, Opening, Refused, Served, System};
 use mj_test_core::begins::{add, starts};
 use mj_test_core::standing::shared;
-use mj_text::{Failure, Text};
-use mj_trace::event_line;
+use mj_text::{Failure, Limit, Text};
 use std::alloc::{AllocError, Global};
 use std::marker::Brand;
 
-const BEFORE: &[u8] = b"mj-globals 1\n^A(1)=\"1\"\n^A(2)=\"2\"\n";
+const BEFORE: &[u8] = b"mj-globals 2\n^A(1)=\"1\"\n^A(2)=\"2\"\n";
 
 const FIRST: &str = "1 value ^A(1) \"1\"
 1 data ^A 10
@@ -116,7 +115,7 @@ fn begun(
 ) -> Result<(), Failure>
     requires { are_bare starts.items ≡ true }
 {
-    let Ok(globals) = read(alloc, BEFORE) else {
+    let Ok(globals) = read(alloc, BEFORE, Limit::V2) else {
         drop(pool);
         drop(starts);
         return Err(Failure::Memory);
@@ -235,13 +234,13 @@ fn serve_each<D: Device, O: Opening>(
     told: &mut Told,
     system: &mut System<D, O>,
     claims: &mut [Claim],
-    events: &[(u32, Ask, Reply)],
+    events: &[Noted],
     are_told: bool,
 ) -> Result<(), AllocError> {
     for event in events {
-        let at = if event.0 == 1 { 0 } else { 1 };
+        let at = if event.job == 1 { 0 } else { 1 };
         match claims.get_mut(at) {
-            Some(claim) if event.1.is_shared() => {
+            Some(claim) if event.ask.is_shared() => {
                 serve(alloc, told, system, claim, event, are_told)?;
             }
             _ => told.put(b"serve: no ask")?,
@@ -256,15 +255,15 @@ fn serve<D: Device, O: Opening>(
     told: &mut Told,
     system: &mut System<D, O>,
     claim: &mut Claim,
-    event: &(u32, Ask, Reply),
+    event: &Noted,
     are_told: bool,
 ) -> Result<(), AllocError> {
-    if !event.1.is_shared() {
+    if !event.ask.is_shared() {
         return Ok(());
     }
-    let before = standing(alloc, system, claim, &event.1)?;
+    let before = standing(alloc, system, claim, &event.ask)?;
     may_refuse(alloc);
-    let first = system.serve(claim, &event.1, false);
+    let first = system.serve(claim, &event.ask, false);
     may_not_refuse(alloc);
     let done = if let Err(Refused::Memory) = &first {
         again(alloc, told, system, claim, event, are_told, &before)
@@ -281,18 +280,18 @@ fn again<D: Device, O: Opening>(
     told: &mut Told,
     system: &mut System<D, O>,
     claim: &mut Claim,
-    event: &(u32, Ask, Reply),
+    event: &Noted,
     are_told: bool,
     before: &[u8],
 ) -> Result<(), AllocError> {
-    if !event.1.is_shared() {
+    if !event.ask.is_shared() {
         return Ok(());
     }
-    let after = standing(alloc, system, claim, &event.1)?;
+    let after = standing(alloc, system, claim, &event.ask)?;
     let put = told.refused(b"serve", after.as_slice() == before);
     drop(after);
     put?;
-    let again = system.serve(claim, &event.1, false);
+    let again = system.serve(claim, &event.ask, false);
     let done = judge(alloc, told, &again, event, are_told);
     drop(again);
     done
@@ -303,13 +302,14 @@ fn judge<D: Device>(
     alloc: Global,
     told: &mut Told,
     served: &Result<Served<Session<D>>, Refused>,
-    event: &(u32, Ask, Reply),
+    event: &Noted,
     is_told: bool,
 ) -> Result<(), AllocError> {
     let as_wanted = match served {
-        Ok(Served::Reply(reply)) => is_told && is_event(alloc, event.0, &event.1, reply, event)?,
+        Ok(Served::Reply(reply)) => is_told
+            && is_event(alloc, event.job, &event.ask, reply, event)?,
         Ok(Served::Opened(_)) => {
-            is_told && is_event(alloc, event.0, &event.1, &Reply::Got, event)?
+            is_told && is_event(alloc, event.job, &event.ask, &Reply::Got, event)?
         }
         Ok(Served::Busy { .. }) => !is_told,
         Err(_) => false,
@@ -317,7 +317,7 @@ fn judge<D: Device>(
     if as_wanted {
         return Ok(());
     }
-    let line = event_line(alloc, event.0, &event.1, &event.2)?;
+    let line = noted_line(alloc, event)?;
     let put = told.hold(b"serve", &line, false);
     drop(line);
     put

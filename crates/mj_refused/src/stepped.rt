@@ -1,6 +1,7 @@
 // Steps of a core.
 
 ghost use Rattle.std.specs.Prelude.{◌≡◌, ◌≤◌, length, true};
+ghost use Rattle.mj_text.specs.declared.limit.Limit.TheVariants.{V2};
 ghost use Rattle.mj_dev.specs.Shelves.{principal, left_of};
 ghost use Rattle.mj_jobs.specs.Rows.{rows_limit};
 ghost use Rattle.mj_sys.specs.Opening.{opening_of, are_bare};
@@ -20,8 +21,8 @@ use mj_sys::Opening;
 use mj_test_core::begins::{image, starts_at};
 use mj_test_core::boxes::{Counting, Drops, pool, put_named};
 use mj_test_core::standing::shared;
-use mj_text::Failure;
-use mj_trace::put_event;
+use mj_text::{Failure, Limit};
+use mj_trace::{Form, put_event};
 use std::alloc::{AllocError, Global};
 use std::marker::Brand;
 
@@ -116,9 +117,11 @@ fn with_image<D: Device>(
     image: Image,
     pool: Pool<D>,
     drops: &Drops,
-) -> Result<(), Failure> {
-    let text = format!(in alloc; "mj-globals 1\n{}", row.globals)?;
-    let globals = read(alloc, text.as_bytes());
+) -> Result<(), Failure>
+    requires long { image.bounds.limit ≡ V2 }
+{
+    let text = format!(in alloc; "mj-globals 2\n{}", row.globals)?;
+    let globals = read(alloc, text.as_bytes(), Limit::V2);
     drop(text);
     let Ok(globals) = globals else {
         drop(image);
@@ -146,6 +149,7 @@ fn begun<D: Device>(
     starts: Vec<Start>,
     drops: &Drops,
 ) -> Result<(), Failure>
+    requires long { image.bounds.limit ≡ V2 }
     requires global { are_global globals.content ≡ true }
     requires bare { are_bare starts.items ≡ true }
 {
@@ -170,6 +174,7 @@ fn run<D: Device, O: Opening>(
     starts: Vec<Start>,
     drops: &Drops,
 ) -> Result<(), Failure>
+    requires long { image.bounds.limit ≡ V2 }
     requires opening { opening_of globals.content pool starts.items ≡ O.opening }
     requires global { are_global globals.content ≡ true }
     requires some { 1 ≤ length starts.items }
@@ -211,7 +216,7 @@ fn make_steps<D: Device, O: Opening>(
     }
     for at in 0..core.len() {
         if let Some((job, ask, reply)) = core.event(at) {
-            put_event(alloc, &mut told.lines, job, ask, reply)?;
+            put_event(alloc, &mut told.lines, Form::First, job, None, ask, reply)?;
         }
     }
     let text = shared(alloc, core.globals(), core.locks())?;
@@ -289,7 +294,7 @@ fn put_rest<D: Device, O: Opening>(
 ) -> Result<(), AllocError> {
     for at in 0..core.len() {
         if let Some((job, ask, reply)) = core.event(at) {
-            put_event(alloc, text, job, ask, reply)?;
+            put_event(alloc, text, Form::First, job, None, ask, reply)?;
         }
     }
     let (named, principal) = drops.counts();

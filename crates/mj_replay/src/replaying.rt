@@ -3,16 +3,17 @@
 ghost use Rattle.std.specs.Prelude.{◌≡◌, ◌≤◌, length, map, true, IfOk};
 ghost use Rattle.mj_dev.specs.Shelves.{principal, left_of};
 ghost use Rattle.mj_jobs.specs.Rows.{rows_limit};
-ghost use Rattle.mj_load.specs.Image.{routines_of};
+ghost use Rattle.mj_load.specs.Image.{program_of};
 ghost use Rattle.mj_sys.specs.Opening.{opening_of, are_bare};
 ghost use Rattle.mj_sys.specs.Shared.{are_global};
 ghost use Rattle.mj_sys.specs.System.{history_limit};
 ghost use Rattle.mj_replica.specs.Replays.{history_of, Says};
 ghost use Rattle.mj_dev.specs.Pools.{shelves_of};
 ghost use Rattle.mj_trace.specs.Lines.{IsTrace};
+ghost use Rattle.mj_trace.specs.Trace.{limit_of};
 ghost use Rattle.mj_replay.specs.Traces.{opening_in, bare_start};
 
-use mj_ask::{Ask, Entry, Reply, Start};
+use mj_ask::{Entry, Noted, Start};
 use mj_dev::{Blank, Pool, pool_of};
 use mj_globs::Globals;
 use mj_load::Image;
@@ -21,7 +22,8 @@ use mj_trace::Trace;
 use std::alloc::{AllocError, Global};
 use std::marker::Brand;
 
-/// Whether the events of a trace are a run of its opening over these globals, or which one, from 0, is the first that isn't made.
+/// Whether the events of a trace are a run of its opening over these globals, or which one, from 0, is the first that isn't made. The routines have the
+/// trace's limit for texts.
 pub fn replay_trace(
     alloc: Global,
     image: &Image,
@@ -30,7 +32,8 @@ pub fn replay_trace(
 ) -> Result<Verdict, AllocError>
     requires global { are_global globals.content ≡ true }
     requires written { IsTrace trace.now }
-    ensures { IfOk result (λ verdict. Says (routines_of image.now) (opening_in globals.content trace.now) (history_of trace.now.events) verdict) }
+    requires limit { image.now.bounds.limit ≡ limit_of trace.now.form }
+    ensures { IfOk result (λ verdict. Says (program_of image.now) (opening_in globals.content trace.now) (history_of trace.now.events) verdict) }
 {
     match opened(alloc, trace) {
         Ok((pool, starts)) => replay_over(alloc, image, globals, pool, starts, trace.events()),
@@ -74,7 +77,7 @@ fn replay_over(
     globals: Globals,
     pool: Pool<Blank>,
     starts: Vec<Start>,
-    events: &[(u32, Ask, Reply)],
+    events: &[Noted],
 ) -> Result<Verdict, AllocError>
     requires global { are_global globals.content ≡ true }
     requires some { 1 ≤ length starts.items }
@@ -82,7 +85,7 @@ fn replay_over(
     requires fits { length starts.items ≤ left_of principal pool }
     requires bare { are_bare starts.items ≡ true }
     requires short { length events.now ≤ history_limit }
-    ensures { IfOk result (λ verdict. Says (routines_of image.now) (opening_of globals.content pool starts.items) (history_of events.now) verdict) }
+    ensures { IfOk result (λ verdict. Says (program_of image.now) (opening_of globals.content pool starts.items) (history_of events.now) verdict) }
 {
     replay::<Blank, Brand>(alloc, image, globals, pool, starts, events)
 }

@@ -3,7 +3,7 @@ use Rattle.std.proofs.Common.{◌≡◌, ℕ, ◌+◌, List, [], ◌∷◌, ◌+
 use Rattle.mj_ask.specs.declared.entry.Entry.{Entry}
 use Rattle.mj_semantics.specs.Job.{Start}
 use Rattle.mj_semantics.specs.State.{places}
-use Rattle.mj_load.specs.Image.{Loaded, routines_of}
+use Rattle.mj_load.specs.Image.{Loaded, program_of}
 use Rattle.mj_jobs.specs.Rows.{Row, row_at}
 use Rattle.mj_jobvm.specs.Jobs.{Running, opened, IsRunOf, IsRunOfAfter}
 use Rattle.mj_sys.specs.Shared.{Shared}
@@ -25,7 +25,8 @@ module _ (image : Loaded) (opening : Shared) (system new : Recorded) (jobs more 
     (same : new.history ≡ system.history) (claimed : new.claimed ≡ system.claimed + 1) (numbered : claim.job ≡ system.claimed + 1) (events : claim.events ≡ 0)
     (row : (row : Row) × (row_at (state_of opening system.history).rows claim.job ≡ Some row) × (row.start ≡ claim.start))
     (number : ℕ) (entry : Entry) (values : List (Option (List ℕ))) (number_is : number ≡ claim.job) (entry_is : entry ≡ claim.start.entry) (values_are : values ≡ claim.start.values)
-    (job : Running) (opening_is : job ≡ opened (record { job = number; entry = entry; values = values })) (run : IsRunOfAfter image (record { job = number; entry = entry; values = values }) 0 job)
+    (job : Running) (opening_is : job ≡ opened image.bounds (record { job = number; entry = entry; values = values }))
+    (run : IsRunOfAfter image (record { job = number; entry = entry; values = values }) 0 job)
     (heeds : Heeds) (heard : AreHeeds [] heeds) (end : more ≡ jobs ++ record { claim = claim; job = job; heeds = heeds } ∷ []) where
   runs : IsRunOf image (start_of claim) job
   runs =
@@ -37,7 +38,7 @@ module _ (image : Loaded) (opening : Shared) (system new : Recorded) (jobs more 
   first : job.run.log ≡ []
   first = ap (λ (j : Running). j.run.log) opening_is
 
-  stood : Stood (routines_of image) (start_of claim) job.run.log job.run.at.state.locals (places job.run.at.state)
+  stood : Stood (program_of image) (start_of claim) job.run.log job.run.at.state.locals (places job.run.at.state)
   stood = inl (first, ap (λ (j : Running). j.run.at.state.locals) opening_is, ap (λ (j : Running). places j.run.at.state) opening_is)
 
   pub started : (history : History) → AreStaged image opening history system jobs → AreStaged image opening history new more

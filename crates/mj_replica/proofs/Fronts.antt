@@ -1,7 +1,7 @@
 -- A front of a run is a run.
 use Rattle.std.specs.Prelude.{◌⊎◌}
 use Rattle.std.proofs.Common.{◌≡◌, List, [], ◌∷◌, ◌++◌, Some, refl, sym, ap, ◌∙◌, subst, inl, inr, append-nil}
-use Rattle.mj_ast.specs.Syntax.{Routine}
+use Rattle.mj_semantics.specs.Program.{Program}
 use Rattle.mj_semantics.specs.Job.{Start}
 use Rattle.mj_jobs.specs.Rows.{row_at}
 use Rattle.mj_jobvm.specs.Run.{Log, IsTrace, begins, goes_on}
@@ -34,15 +34,15 @@ front_of {X} (z ∷ zs) x (f ∷ front) back e = by (front_of zs x front back p.
     by (inl none) = inl none
     by (inr more) = inr (more.0, λ i. p.0 i ∷ more.1 i)
 
-trace_front : (image : List Routine) (start : Start) (log : Log) → IsTrace image start log → (front back : Log) → log ≡ front ++ back → IsTrace image start front
-trace_front image start _ begins [] back e = begins
-trace_front image start _ begins (f ∷ front) back e = absurd (let no : [] ≡ f ∷ (front ++ back) = e in cc)
-trace_front image start _ (goes_on log a r n locals at trace needs fit) front back e = by (λ rest same. trace_front image start log trace front rest same) (front_of log (a, r) front back e)
+trace_front : (program : Program) (start : Start) (log : Log) → IsTrace program start log → (front back : Log) → log ≡ front ++ back → IsTrace program start front
+trace_front program start _ begins [] back e = begins
+trace_front program start _ begins (f ∷ front) back e = absurd (let no : [] ≡ f ∷ (front ++ back) = e in cc)
+trace_front program start _ (goes_on log a r n locals at trace needs fit small) front back e = by (λ rest same. trace_front program start log trace front rest same) (front_of log (a, r) front back e)
   where
-    by : ((rest : Log) → log ≡ front ++ rest → IsTrace image start front) → (back ≡ []) ⊎ ((rest : Log) × (log ≡ front ++ rest)) → IsTrace image start front
+    by : ((rest : Log) → log ≡ front ++ rest → IsTrace program start front) → (back ≡ []) ⊎ ((rest : Log) × (log ≡ front ++ rest)) → IsTrace program start front
     by earlier (inl none) =
-        let P : Log → Type 0 = λ l. IsTrace image start l in
-        subst P (e ∙ ap (λ l. front ++ l) none ∙ append-nil front) (goes_on log a r n locals at trace needs fit)
+        let P : Log → Type 0 = λ l. IsTrace program start l in
+        subst P (e ∙ ap (λ l. front ++ l) none ∙ append-nil front) (goes_on log a r n locals at trace needs fit small)
     by earlier (inr more) = earlier more.0 more.1
 
 follow_front : (old : TalkStand) (talk more : List Exchange) (last : TalkStand) → Follow old (talk ++ more) last → (mid : TalkStand) × Follow old talk mid
@@ -56,15 +56,15 @@ happen_front s [] more all = tt
 happen_front s (e ∷ history) more all = (all.0, happen_front (after s e) history more all.1)
 
 pub fronts : AreFrontsRuns
-fronts image opening history more run = record {
+fronts program opening history more run = record {
   happen = happen_front opening history more run.happen;
   traces = λ job row is.
       (let later = (rows_kept (state_of opening history) more).starts job row is in
       let there : row_at (state_of opening (history ++ more)).rows job ≡ Some later.0 =
       ap (λ (s : Shared). row_at s.rows job) (state_of_append opening history more) ∙ later.1 in
-      let P : Start → Type 0 = λ s. IsTrace image s (log_of job (history ++ more)) in
-      let trace : IsTrace image (start_in job row.start) (log_of job (history ++ more)) = subst P (ap (start_in job) later.2) (run.traces job later.0 there) in
-      trace_front image (start_in job row.start) (log_of job (history ++ more)) trace (log_of job history) (log_of job more) (log_of_append job history more));
+      let P : Start → Type 0 = λ s. IsTrace program s (log_of job (history ++ more)) in
+      let trace : IsTrace program (start_in job row.start) (log_of job (history ++ more)) = subst P (ap (start_in job) later.2) (run.traces job later.0 there) in
+      trace_front program (start_in job row.start) (log_of job (history ++ more)) trace (log_of job history) (log_of job more) (log_of_append job history more));
   talks = λ job name.
       (let f = run.talks job name in
       let P : List Exchange → Type 0 = λ t. Follow beginning t f.0 in

@@ -5,11 +5,12 @@ use Rattle.std.proofs.Common.{◌≡◌, ℕ, zero, suc, ◌+◌, ◌<◌, ◌�
 use Rattle.std.proofs.lemmas.Option.{slice_get-map, slice_get_within, get_or_from_slice_get, none-some}
 use Rattle.std.proofs.lemmas.List.{take_more, take-append-drop}
 use Rattle.mj_ask.specs.declared.ask.Ask.{Ask}
+use Rattle.mj_ask.specs.declared.noted.Noted.{Noted}
 use Rattle.mj_ask.specs.declared.ask.Reply.{Reply}
 use Rattle.mj_ask.specs.Fits.{is_shared}
 use Rattle.mj_jobs.specs.Rows.{Row, IsLive}
 use Rattle.mj_core.specs.Happen.{shared_of}
-use Rattle.mj_load.specs.Image.{Loaded, routines_of}
+use Rattle.mj_load.specs.Image.{Loaded, program_of}
 use Rattle.mj_sys.specs.declared.event.Event.{Event}
 use Rattle.mj_sys.specs.Shared.{Shared}
 use Rattle.mj_sys.specs.History.{History}
@@ -22,7 +23,7 @@ use Rattle.mj_replica.proofs.Fronts.{fronts}
 use Rattle.mj_replica.proofs.Staging.{is_run, unmade, staged_on}
 
 abbrev Recording : Type 0
-Recording = ℕ × Ask × Reply
+Recording = Noted
 
 event_there : (events : List Recording) (at : ℕ) (e : Recording) → slice_get events at ≡ Some e → slice_get (history_of events) at ≡ Some (event_of e)
 event_there events at e is = slice_get-map event_of events at ∙ ap (option_map event_of) is
@@ -43,7 +44,7 @@ module _ (image : Loaded) (opening : Shared) (events : List Recording) (at : ℕ
       subst P (sym (take_on events at e is)) made
 
   -- it wasn't
-  pub round_off : Stages image opening (take at (history_of events)) (event_of e) false new jobs' → IsFirstUnmade (routines_of image) opening (history_of events) at
+  pub round_off : Stages image opening (take at (history_of events)) (event_of e) false new jobs' → IsFirstUnmade (program_of image) opening (history_of events) at
   round_off not = record {
     event = event_of e;
     there = event_there events at e is;
@@ -59,9 +60,9 @@ take_past f (suc n) (x ∷ xs) le = ap (λ l. f x ∷ l) (take_past f n xs (omeg
 
 -- all were made
 pub all_made : (image : Loaded) (opening : Shared) (events : List Recording) (at : ℕ) (system : Recorded) (jobs : List Playing) → length events ≤ at
-    → AreStaged image opening (take at (history_of events)) system jobs → IsRun (routines_of image) opening (history_of events)
+    → AreStaged image opening (take at (history_of events)) system jobs → IsRun (program_of image) opening (history_of events)
 all_made image opening events at system jobs past staged =
-    let P : History → Type 0 = λ h. IsRun (routines_of image) opening h in
+    let P : History → Type 0 = λ h. IsRun (program_of image) opening h in
     subst P (take_past event_of at events past) (is_run image opening (take at (history_of events)) system jobs staged)
 
 -- the history has no more events than were recorded
@@ -111,7 +112,7 @@ module _ (image : Loaded) (opening : Shared) (history : History) (system new : R
       let Q : List Playing → Type 0 = λ l. AreStaged image opening (history ++ record { job = suc k; ask = ask; reply = reply } ∷ []) new l in
       subst P (sym numbered) (subst Q (sym set) (staged_on image opening history system jobs staged k played here ask reply new played' plays))
   made_so false plays =
-      let P : ℕ → Type 0 = λ j. IsUnmade (routines_of image) opening history (record { job = j; ask = ask; reply = reply }) in
+      let P : ℕ → Type 0 = λ j. IsUnmade (program_of image) opening history (record { job = j; ask = ask; reply = reply }) in
       subst P (sym numbered) (unmade image opening history system jobs staged k played here ask reply new played'.claim played'.job played'.heeds plays)
 
   pub made_ok : {E : Type 0} (result : Result Bool E) → IfOk result (λ made. Plays image opening system played.claim played.job played.heeds ask reply made new played'.claim played'.job played'.heeds)
@@ -144,19 +145,19 @@ front_on history at e is =
     take_more history at e (slice_get_within history at e is) ∙ ap (λ x. take at history ++ x ∷ []) (get_or_from_slice_get history at e e is)
 
 -- what is recorded is made, or its job goes on for too long
-pub is_long : (image : Loaded) (opening : Shared) (history : History) (at : ℕ) (e : Event) → slice_get history at ≡ Some e → IsRun (routines_of image) opening history
-    → IsUnmade (routines_of image) opening (take at history) e → IsLongAt image opening history at
+pub is_long : (image : Loaded) (opening : Shared) (history : History) (at : ℕ) (e : Event) → slice_get history at ≡ Some e → IsRun (program_of image) opening history
+    → IsUnmade (program_of image) opening (take at history) e → IsLongAt image opening history at
 is_long image opening history at e is run (inr long) = (e, is, long)
 is_long image opening history at e is run (inl not) = absurd (not (
     let whole : history ≡ (take at history ++ e ∷ []) ++ drop (at + 1) history =
     sym (take-append-drop (at + 1) history) ∙ ap (λ l. l ++ drop (at + 1) history) (front_on history at e is) in
-    let P : History → Type 0 = λ h. IsRun (routines_of image) opening h in
-    fronts (routines_of image) opening (take at history ++ e ∷ []) (drop (at + 1) history) (subst P whole run)))
+    let P : History → Type 0 = λ h. IsRun (program_of image) opening h in
+    fronts (program_of image) opening (take at history ++ e ∷ []) (drop (at + 1) history) (subst P whole run)))
 
 -- an event that is recorded and wasn't made
 pub play_off : (image image' : Loaded) (opening : Shared) (history : History) (at : ℕ) (e : Event) (made : Bool) (new : Recorded) (jobs' : List Playing) → image' ≡ image
     → slice_get history at ≡ Some e
-    → IsRun (routines_of image) opening history → made ≡ false → Stages image' opening (take at history) e made new jobs' → IsLongAt image opening history at
+    → IsRun (program_of image) opening history → made ≡ false → Stages image' opening (take at history) e made new jobs' → IsLongAt image opening history at
 play_off image image' opening history at e made new jobs' same there run off stages =
     let P : Loaded → Type 0 = λ i. Stages i opening (take at history) e made new jobs' in
     let Q : Bool → Type 0 = λ b. Stages image opening (take at history) e b new jobs' in

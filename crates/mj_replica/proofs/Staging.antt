@@ -10,7 +10,7 @@ use Rattle.mj_ask.specs.declared.ask.Reply.{Reply}
 use Rattle.mj_dev.specs.Talk.{beginning}
 use Rattle.mj_semantics.specs.State.{places}
 use Rattle.mj_semantics.specs.Job.{Start}
-use Rattle.mj_load.specs.Image.{Loaded, routines_of}
+use Rattle.mj_load.specs.Image.{Loaded, program_of}
 use Rattle.mj_jobs.specs.Rows.{Row, row_at, IsLive}
 use Rattle.mj_jobvm.specs.Run.{Log, IsTrace, begins, GoesOn}
 use Rattle.mj_jobvm.specs.Jobs.{Running, IsRunOf}
@@ -90,7 +90,7 @@ module _ (image : Loaded) (opening : Shared) (old : Recorded) (claim : Claimed) 
       inr (inr (inl (λ happens. not_served (state_of opening old.history) claim.job ask reply not (happens.1 shared))))
 
   module _ (live : IsLive (state_of opening old.history).rows claim.job) (job' : Running) (log : job'.run.log ≡ job.run.log ++ (ask, reply) ∷ [])
-      (run : IsRunOf image (start_of claim) job') (stood : Stood (routines_of image) (start_of claim) job'.run.log job'.run.at.state.locals (places job'.run.at.state)) where
+      (run : IsRunOf image (start_of claim) job') (stood : Stood (program_of image) (start_of claim) job'.run.log job'.run.at.state.locals (places job'.run.at.state)) where
     pub heard : is_shared ask ≡ false → (heeds' : Heeds) → Heard job.run.log ask reply true heeds' → Made true old claim job' heeds'
     heard unshared heeds' all =
         let history : old.history ≡ old.history ++ shared_of (event ∷ []) =
@@ -182,20 +182,20 @@ module _ (image : Loaded) (opening : Shared) (history : History) (system : Recor
     by (x ∷ xs) zero e = absurd (let no : Some x ≡ None = e in cc)
     by (x ∷ xs) (suc i) e = let le = by xs i e in omega (arith, le)
 
-  trace_at : (job : ℕ) (row : Row) → row_at (state_of opening history).rows job ≡ Some row → IsTrace (routines_of image) (start_in job row.start) (log_of job history)
+  trace_at : (job : ℕ) (row : Row) → row_at (state_of opening history).rows job ≡ Some row → IsTrace (program_of image) (start_in job row.start) (log_of job history)
   trace_at zero row is = absurd (none-some row is)
   trace_at (suc k) row is = by (slice_get jobs k) refl where
-    by : (found : Option Playing) → slice_get jobs k ≡ found → IsTrace (routines_of image) (start_in (suc k) row.start) (log_of (suc k) history)
+    by : (found : Option Playing) → slice_get jobs k ≡ found → IsTrace (program_of image) (start_in (suc k) row.start) (log_of (suc k) history)
     by None past =
         let le = past_get k past in
-        subst (λ l. IsTrace (routines_of image) (start_in (suc k) row.start) l) (sym (staged.none (suc k) (omega (arith, le)))) begins
+        subst (λ l. IsTrace (program_of image) (start_in (suc k) row.start) l) (sym (staged.none (suc k) (omega (arith, le)))) begins
     by (Some played) here =
         let at = staged.tied k played here in
         let mine = row_of k played here in
         let one : mine.0 ≡ row = same_Some mine.0 row (sym mine.1 ∙ is) in
         let start : start_in (suc k) row.start ≡ start_of played.claim = ap (λ (r : Row). start_in (suc k) r.start) (sym one) ∙ mine.2 in
-        subst (λ l. IsTrace (routines_of image) (start_in (suc k) row.start) l) (sym at.logged)
-        (subst (λ s. IsTrace (routines_of image) s played.job.run.log) (sym start) at.placed.run.1.trace)
+        subst (λ l. IsTrace (program_of image) (start_in (suc k) row.start) l) (sym at.logged)
+        (subst (λ s. IsTrace (program_of image) s played.job.run.log) (sym start) at.placed.run.1.trace)
 
   talks_at : (job : ℕ) → AreTalks (log_of job history)
   talks_at zero = subst (λ l. AreTalks l) (sym staged.zero) (λ name. (beginning, refl))
@@ -208,13 +208,13 @@ module _ (image : Loaded) (opening : Shared) (history : History) (system : Recor
         let at = staged.tied k played here in
         subst (λ l. AreTalks l) (sym at.logged) (heard_talks played.job.run.log played.heeds at.placed.heard)
 
-  pub is_run : IsRun (routines_of image) opening history
+  pub is_run : IsRun (program_of image) opening history
   is_run = record { happen = staged.happen; traces = trace_at; talks = talks_at }
 
   -- ---- an event isn't made
 
   -- its job isn't there, or has ended
-  pub dead : (e : Event) → (IsLive (state_of opening system.history).rows e.job → ⊥) → IsUnmade (routines_of image) opening history e
+  pub dead : (e : Event) → (IsLive (state_of opening system.history).rows e.job → ⊥) → IsUnmade (program_of image) opening history e
   dead e not = inl (λ run. not (
       let L : Shared → Type 0 = λ s. IsLive s.rows e.job in
       subst L same_state (happen_last opening history e run.happen).0))
@@ -230,31 +230,31 @@ module _ (image : Loaded) (opening : Shared) (history : History) (system : Recor
     log_on = log_of_append (suc k) history (own ∷ []) ∙ ap (λ l. l ++ log_of (suc k) (own ∷ [])) at.logged ∙ ap (λ l. played.job.run.log ++ l) (log_own (suc k) own refl)
 
     -- what a run would say of the job's log
-    traced : IsRun (routines_of image) opening (history ++ own ∷ []) → IsTrace (routines_of image) (start_of played.claim) (played.job.run.log ++ (ask, reply) ∷ [])
+    traced : IsRun (program_of image) opening (history ++ own ∷ []) → IsTrace (program_of image) (start_of played.claim) (played.job.run.log ++ (ask, reply) ∷ [])
     traced run =
         let mine = row_of k played here in
         let later = (rows_kept (state_of opening history) (own ∷ [])).starts (suc k) mine.0 mine.1 in
         let there : row_at (state_of opening (history ++ own ∷ [])).rows (suc k) ≡ Some later.0 =
         ap (λ (s : Shared). row_at s.rows (suc k)) (state_of_append opening history (own ∷ [])) ∙ later.1 in
         let start : start_in (suc k) later.0.start ≡ start_of played.claim = ap (start_in (suc k)) later.2 ∙ mine.2 in
-        subst (λ l. IsTrace (routines_of image) (start_of played.claim) l) log_on
-        (subst (λ s. IsTrace (routines_of image) s (log_of (suc k) (history ++ own ∷ []))) start (run.traces (suc k) later.0 there))
+        subst (λ l. IsTrace (program_of image) (start_of played.claim) l) log_on
+        (subst (λ s. IsTrace (program_of image) s (log_of (suc k) (history ++ own ∷ []))) start (run.traces (suc k) later.0 there))
 
-    talked : IsRun (routines_of image) opening (history ++ own ∷ []) → AreTalks (played.job.run.log ++ (ask, reply) ∷ [])
+    talked : IsRun (program_of image) opening (history ++ own ∷ []) → AreTalks (played.job.run.log ++ (ask, reply) ∷ [])
     talked run = subst (λ l. AreTalks l) log_on (run.talks (suc k))
 
-    happened : IsRun (routines_of image) opening (history ++ own ∷ []) → Happens (state_of opening system.history) (record { job = played.claim.job; ask = ask; reply = reply })
+    happened : IsRun (program_of image) opening (history ++ own ∷ []) → Happens (state_of opening system.history) (record { job = played.claim.job; ask = ask; reply = reply })
     happened run =
         let P : Shared → Type 0 = λ s. Happens s own in
         let Q : ℕ → Type 0 = λ j. Happens (state_of opening system.history) (record { job = j; ask = ask; reply = reply }) in
         subst Q (sym at.numbered) (subst P same_state (happen_last opening history own run.happen))
 
     pub unmade : (new : Recorded) (claim' : Claimed) (job' : Running) (heeds' : Heeds)
-        → Plays image opening system played.claim played.job played.heeds ask reply false new claim' job' heeds' → IsUnmade (routines_of image) opening history own
+        → Plays image opening system played.claim played.job played.heeds ask reply false new claim' job' heeds' → IsUnmade (program_of image) opening history own
     unmade new claim' job' heeds' (inl long) =
         let mine = row_of k played here in
-        let P : Start → Type 0 = λ s. GoesOn (routines_of image) s played.job.run.log long.0 in
-        let Q : Log → Type 0 = λ l. GoesOn (routines_of image) (start_in (suc k) mine.0.start) l long.0 in
+        let P : Start → Type 0 = λ s. GoesOn (program_of image) s played.job.run.log long.0 in
+        let Q : Log → Type 0 = λ l. GoesOn (program_of image) (start_in (suc k) mine.0.start) l long.0 in
         inr (mine.0, mine.1, (long.0, long.1, subst Q (sym at.logged) (subst P (sym mine.2) long.2)))
     unmade new claim' job' heeds' (inr (inl not)) = inl (λ run. not (traced run))
     unmade new claim' job' heeds' (inr (inr (inl not))) = inl (λ run. not (happened run))
@@ -337,7 +337,7 @@ module _ (image : Loaded) (opening : Shared) (history : History) (system : Recor
   module _ (new : Recorded) (claim : Claimed) (same : new.history ≡ system.history) (claimed : new.claimed ≡ system.claimed + 1) (numbered : claim.job ≡ system.claimed + 1)
       (events : claim.events ≡ 0) (row : (row : Row) × (row_at (state_of opening system.history).rows claim.job ≡ Some row) × (row.start ≡ claim.start))
       (job : Running) (heeds : Heeds) (first : job.run.log ≡ []) (run : IsRunOf image (start_of claim) job) (heard_none : AreHeeds [] heeds)
-      (stood : Stood (routines_of image) (start_of claim) job.run.log job.run.at.state.locals (places job.run.at.state)) where
+      (stood : Stood (program_of image) (start_of claim) job.run.log job.run.at.state.locals (places job.run.at.state)) where
     abbrev begun : Playing
     begun = record { claim = claim; job = job; heeds = heeds }
 

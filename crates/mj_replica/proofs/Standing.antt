@@ -5,7 +5,7 @@ use Rattle.std.proofs.Common.{◌≡◌, ℕ, zero, suc, ◌≤◌, List, [], �
 use Rattle.std.proofs.lemmas.Option.{slice_get_past, none-some, same_Some}
 use Rattle.mj_semantics.specs.State.{places}
 use Rattle.mj_semantics.specs.Job.{Start}
-use Rattle.mj_load.specs.Image.{Loaded, routines_of}
+use Rattle.mj_load.specs.Image.{Loaded, program_of}
 use Rattle.mj_jobs.specs.Rows.{row_at}
 use Rattle.mj_jobvm.specs.Run.{Log}
 use Rattle.mj_jobvm.specs.Jobs.{Running}
@@ -54,11 +54,11 @@ module _ (image : Loaded) (opening : Shared) (history : History) (replica : Repl
 
   -- a job that was stands where it stood at its last ask
   pub stands : (job : ℕ) (found : Running) → job_of replica job ≡ Some found
-      → HasStood (routines_of image) opening front job found.run.at.state.locals (places found.run.at.state)
+      → HasStood (program_of image) opening front job found.run.at.state.locals (places found.run.at.state)
   stands zero found none = absurd (none-some found none)
   stands (suc k) found there = by (slice_get replica.jobs k) refl where
     by : (played : Option Playing) → slice_get replica.jobs k ≡ played
-        → HasStood (routines_of image) opening front (suc k) found.run.at.state.locals (places found.run.at.state)
+        → HasStood (program_of image) opening front (suc k) found.run.at.state.locals (places found.run.at.state)
     by None past = absurd (none-some found (sym (ap (option_map (λ (p : Playing). p.job)) past) ∙ there))
     by (Some played) here =
         let one : played.job ≡ found = same_Some played.job found (sym (ap (option_map (λ (p : Playing). p.job)) here) ∙ there) in
@@ -67,7 +67,7 @@ module _ (image : Loaded) (opening : Shared) (history : History) (replica : Repl
         let row : row_at (state_of opening front).rows (suc k) ≡ Some mine.0 =
         ap (λ (h : History). row_at (state_of opening h).rows (suc k)) (sym made_front) ∙ mine.1 in
         let log : played.job.run.log ≡ log_of (suc k) front = sym its.logged ∙ ap (log_of (suc k)) made_front in
-        let S : Start → Type 0 = λ s. Stood (routines_of image) s played.job.run.log played.job.run.at.state.locals (places played.job.run.at.state) in
-        let L : Log → Type 0 = λ l. Stood (routines_of image) (start_in (suc k) mine.0.start) l played.job.run.at.state.locals (places played.job.run.at.state) in
-        let J : Running → Type 0 = λ j. Stood (routines_of image) (start_in (suc k) mine.0.start) (log_of (suc k) front) j.run.at.state.locals (places j.run.at.state) in
+        let S : Start → Type 0 = λ s. Stood (program_of image) s played.job.run.log played.job.run.at.state.locals (places played.job.run.at.state) in
+        let L : Log → Type 0 = λ l. Stood (program_of image) (start_in (suc k) mine.0.start) l played.job.run.at.state.locals (places played.job.run.at.state) in
+        let J : Running → Type 0 = λ j. Stood (program_of image) (start_in (suc k) mine.0.start) (log_of (suc k) front) j.run.at.state.locals (places j.run.at.state) in
         (mine.0, row, subst J one (subst L log (subst S (sym mine.2) its.placed.stood)))

@@ -4,9 +4,10 @@ use Rattle.std.proofs.Common.{◌≡◌, [], ◌∷◌, ◌++◌, Bool, true, fa
 use Rattle.mj_ask.specs.declared.ask.Ask.{Ask}
 use Rattle.mj_ask.specs.declared.ask.Reply.{Reply}
 use Rattle.mj_ask.specs.Fits.{fits, is_shared}
+use Rattle.mj_ask.specs.Within.{is_reply_within}
 use Rattle.mj_semantics.specs.State.{State, places}
 use Rattle.mj_semantics.specs.Outcome.{Needs}
-use Rattle.mj_load.specs.Image.{Loaded, routines_of}
+use Rattle.mj_load.specs.Image.{Loaded, program_of}
 use Rattle.mj_jobs.specs.Rows.{IsLive}
 use Rattle.mj_jobvm.specs.Jobs.{Running, IsRunOf}
 use Rattle.mj_sys.specs.Shared.{Shared}
@@ -52,11 +53,15 @@ module _ (image : Loaded) (opening : Shared) (old : Recorded) (claim : Claimed) 
     on told = told.0 ∙ ap (λ l. l ++ (ask, reply) ∷ []) log
 
     -- it stands where it asked
-    stood : IsToldOn mid ask reply job' → Stood (routines_of image) (start_of claim) job'.run.log job'.run.at.state.locals (places job'.run.at.state)
+    stood : IsToldOn mid ask reply job' → Stood (program_of image) (start_of claim) job'.run.log job'.run.at.state.locals (places job'.run.at.state)
     stood told =
         let P : Bool → Type 0 = λ x. AsksIt image (start_of claim) job ask reply x mid in
-        let needs = (subst P so asks).2 in
+        let needs = (subst P so asks).3 in
         inr (job.run.log, ask, reply, on told, (needs.0, needs.1 ∙ ap (λ (s : State). Needs ask s.locals (places s)) (sym told.2)))
+
+    -- its texts are those that it may be told
+    small : is_reply_within image.bounds.limit reply ≡ true
+    small = let P : Bool → Type 0 = λ x. AsksIt image (start_of claim) job ask reply x mid in (subst P so asks).2
 
     -- it is served, and told
     pub is_served_on : {E : Type 0} (b : Bool) → b ≡ true → (given : Ask) → ask ≡ given → is_shared given ≡ true → (new : Recorded) (claim' : Claimed)
@@ -67,7 +72,7 @@ module _ (image : Loaded) (opening : Shared) (old : Recorded) (claim : Claimed) 
         let S : Ask → Type 0 = λ a. ServesIt opening old claim a reply b new claim' in
         let Q : Bool → Type 0 = λ x. Plays image opening old claim job heeds ask reply x new claim' job' heeds in
         subst Q (sym told.0)
-        (shares image opening old claim job heeds ask reply tied live job' (on told.1) (told.1.1 image (start_of claim) run) (stood told.1) (ap is_shared same ∙ shared) new claim'
+        (shares image opening old claim job heeds ask reply tied live job' (on told.1) (told.1.1 image (start_of claim) small run) (stood told.1) (ap is_shared same ∙ shared) new claim'
         (subst P is (subst S (sym same) serves)))
     is_served_on b is given same shared new claim' serves (Err e) told = tt
 
@@ -78,5 +83,5 @@ module _ (image : Loaded) (opening : Shared) (old : Recorded) (claim : Claimed) 
     is_heard_on b is unshared heeds' all (Ok made) told =
         let P : Bool → Type 0 = λ x. Heard job.run.log ask reply x heeds' in
         let Q : Bool → Type 0 = λ x. Plays image opening old claim job heeds ask reply x old claim job' heeds' in
-        subst Q (sym told.0) (heard image opening old claim job heeds ask reply tied live job' (on told.1) (told.1.1 image (start_of claim) run) (stood told.1) unshared heeds' (subst P is all))
+        subst Q (sym told.0) (heard image opening old claim job heeds ask reply tied live job' (on told.1) (told.1.1 image (start_of claim) small run) (stood told.1) unshared heeds' (subst P is all))
     is_heard_on b is unshared heeds' all (Err e) told = tt

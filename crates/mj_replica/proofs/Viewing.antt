@@ -7,7 +7,7 @@ use Rattle.std.proofs.lemmas.Bool.{ltb-false}
 use Rattle.std.proofs.lemmas.Option.{slice_get-map, slice_get_past, none-some, same_Some}
 use Rattle.mj_semantics.specs.State.{Frame}
 use Rattle.mj_store.specs.Questions.{Content}
-use Rattle.mj_load.specs.Image.{Loaded, routines_of}
+use Rattle.mj_load.specs.Image.{Loaded, program_of}
 use Rattle.mj_jobvm.specs.Jobs.{Running}
 use Rattle.mj_sys.specs.Shared.{Shared}
 use Rattle.mj_sys.specs.History.{History}
@@ -72,7 +72,7 @@ is_view image opening history replica is full place at =
       none = λ job missing. no_row image opening history replica is place at full job (unmapped (job_of replica job) (sym (job_there opening replica job) ∙ missing));
       some = λ job stand found. (
           let its = mapped (job_of replica job) stand (sym (job_there opening replica job) ∙ found) in
-          let P : JobView → Type 0 = λ s. HasStood (routines_of image) opening (take place history) job s.locals (map (λ (f : Frame). f.place) s.frames) in
+          let P : JobView → Type 0 = λ s. HasStood (program_of image) opening (take place history) job s.locals (map (λ (f : Frame). f.place) s.frames) in
           subst P its.2 (stands image opening history replica is place at job its.0 its.1));
     }
 

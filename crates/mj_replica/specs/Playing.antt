@@ -3,10 +3,11 @@ use Rattle.std.specs.Prelude.{◌≡◌, ℕ, suc, ◌+◌, ◌≤◌, ◌<◌, 
 use Rattle.mj_ask.specs.declared.ask.Ask.{Ask}
 use Rattle.mj_ask.specs.declared.ask.Reply.{Reply}
 use Rattle.mj_ask.specs.Fits.{fits}
+use Rattle.mj_ask.specs.Within.{is_reply_within}
 use Rattle.mj_semantics.specs.State.{places}
 use Rattle.mj_semantics.specs.Outcome as outcomes
 use Rattle.mj_semantics.specs.Job.{Start, next}
-use Rattle.mj_load.specs.Image.{Loaded, routines_of}
+use Rattle.mj_load.specs.Image.{Loaded, program_of}
 use Rattle.mj_jobs.specs.Rows.{Row, row_at}
 use Rattle.mj_jobvm.specs.Run.{replies_of, GoesOn, IsTrace}
 use Rattle.mj_jobvm.specs.Jobs.{Running, IsRunOf}
@@ -41,16 +42,17 @@ pub record IsPlaying (image : Loaded) (opening : Shared) (system : Recorded) (cl
   pub counted : claim.events ≡ events_of claim.job system.history
   pub run : IsRunOf image (start_of claim) job
   pub heard : AreHeeds job.run.log heeds
-  pub stood : Stood (routines_of image) (start_of claim) job.run.log job.run.at.state.locals (places job.run.at.state)
+  pub stood : Stood (program_of image) (start_of claim) job.run.log job.run.at.state.locals (places job.run.at.state)
 
--- behind its log the job asks just this where it stands, and the reply fits; or it goes on for too long, or it asks something else
+-- behind its log the job asks just this where it stands, the reply fits, and its texts are within the image's limit; or it goes on for too long, or it isn't
+-- asked and told so
 abbrev pub AsksIt : Loaded → Start → Running → Ask → Reply → Bool → Running → Type 0
 AsksIt image start old ask reply true new =
-    (new.run.pending ≡ Some ask) × (fits ask reply ≡ true)
-    × ((n : ℕ) × (next (routines_of image) start n (replies_of old.run.log) ≡ outcomes.Needs ask new.run.at.state.locals (places new.run.at.state)))
+    (new.run.pending ≡ Some ask) × (fits ask reply ≡ true) × (is_reply_within image.bounds.limit reply ≡ true)
+    × ((n : ℕ) × (next (program_of image) start n (replies_of old.run.log) ≡ outcomes.Needs ask new.run.at.state.locals (places new.run.at.state)))
 AsksIt image start old ask reply false new =
-    ((turns : ℕ) × (turns_limit ≤ turns) × GoesOn (routines_of image) start old.run.log turns)
-    ⊎ (IsTrace (routines_of image) start (old.run.log ++ (ask, reply) ∷ []) → ⊥)
+    ((turns : ℕ) × (turns_limit ≤ turns) × GoesOn (program_of image) start old.run.log turns)
+    ⊎ (IsTrace (program_of image) start (old.run.log ++ (ask, reply) ∷ []) → ⊥)
 
 -- the shared state serves the ask by just this reply; or by none, or by another, even if it is late
 abbrev pub ServesIt : Shared → Recorded → Claimed → Ask → Reply → Bool → Recorded → Claimed → Type 0
@@ -60,10 +62,11 @@ ServesIt opening old claim ask reply true new claim' =
 ServesIt opening old claim ask reply false new claim' =
     (left : Shared) → served (state_of opening old.history) claim.job ask true ≡ Some (reply, left) → ⊥
 
--- the job was told the reply to what it asked, and stands where it stood
+-- the job was told the reply to what it asked, in each image that lets it be told that, and stands where it stood
 abbrev pub IsToldOn : Running → Ask → Reply → Running → Type 0
 IsToldOn old ask reply new =
-    (new.run.log ≡ old.run.log ++ (ask, reply) ∷ []) × ((image : Loaded) (start : Start) → IsRunOf image start old → IsRunOf image start new)
+    (new.run.log ≡ old.run.log ++ (ask, reply) ∷ [])
+    × ((image : Loaded) (start : Start) → is_reply_within image.bounds.limit reply ≡ true → IsRunOf image start old → IsRunOf image start new)
     × (new.run.at.state ≡ old.run.at.state)
 
 -- an event of a job, made: it could happen, and all that is known goes on; or why it isn't made
@@ -75,8 +78,8 @@ Plays image opening old claim job heeds ask reply true new claim' job' heeds' =
     × (job'.run.log ≡ job.run.log ++ (ask, reply) ∷ [])
     × (new ≡ record old { history = old.history ++ shared_of (record { job = claim.job; ask = ask; reply = reply } ∷ []) })
 Plays image opening old claim job heeds ask reply false new claim' job' heeds' =
-    ((turns : ℕ) × (turns_limit ≤ turns) × GoesOn (routines_of image) (start_of claim) job.run.log turns)
-    ⊎ ((IsTrace (routines_of image) (start_of claim) (job.run.log ++ (ask, reply) ∷ []) → ⊥)
+    ((turns : ℕ) × (turns_limit ≤ turns) × GoesOn (program_of image) (start_of claim) job.run.log turns)
+    ⊎ ((IsTrace (program_of image) (start_of claim) (job.run.log ++ (ask, reply) ∷ []) → ⊥)
     ⊎ ((Happens (state_of opening old.history) (record { job = claim.job; ask = ask; reply = reply }) → ⊥)
     ⊎ (AreTalks (job.run.log ++ (ask, reply) ∷ []) → ⊥)))
 
@@ -101,4 +104,4 @@ pub record AreStaged (image : Loaded) (opening : Shared) (history : History) (sy
 -- one event more: it was made, or it isn't
 abbrev pub Stages : Loaded → Shared → History → Event → Bool → Recorded → List Playing → Type 0
 Stages image opening history e true system jobs = AreStaged image opening (history ++ e ∷ []) system jobs
-Stages image opening history e false system jobs = IsUnmade (routines_of image) opening history e
+Stages image opening history e false system jobs = IsUnmade (program_of image) opening history e

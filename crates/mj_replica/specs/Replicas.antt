@@ -4,7 +4,7 @@ use Rattle.mj_ask.specs.Started.{Started}
 use Rattle.mj_store.specs.Questions.{Content}
 use Rattle.mj_dev.specs.Shelves.{Shelf, shelf_of, AreRising, principal, left_of}
 use Rattle.mj_jobs.specs.Rows.{rows_limit}
-use Rattle.mj_load.specs.Image.{Loaded, routines_of}
+use Rattle.mj_load.specs.Image.{Loaded, program_of}
 use Rattle.mj_jobvm.specs.Jobs.{Running}
 use Rattle.mj_sys.specs.declared.event.Event.{Event}
 use Rattle.mj_sys.specs.Opening.{opening_of, are_bare}
@@ -67,7 +67,7 @@ job_of replica (suc k) = option_map (λ played. played.job) (slice_get replica.j
 
 -- behind the reply before this event its job went on for longer than it is followed
 abbrev pub IsLongAt : Loaded → Shared → History → ℕ → Type 0
-IsLongAt image opening history at = (e : Event) × (slice_get history at ≡ Some e) × IsLong (routines_of image) opening (take at history) e.job
+IsLongAt image opening history at = (e : Event) × (slice_get history at ≡ Some e) × IsLong (program_of image) opening (take at history) e.job
 
 -- why the events before a place aren't played again
 abbrev pub IsUnshown : Loaded → Shared → History → ℕ → Unshown → Type 0

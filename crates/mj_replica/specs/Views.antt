@@ -1,6 +1,6 @@
 -- Views of places of a history.
 use Rattle.std.specs.Prelude.{◌≡◌, ℕ, ◌+◌, ◌<◌, ◌≤◌, ◌∷◌, [], ◌++◌, length, map, take, Bool, true, false, Some, None}
-use Rattle.mj_load.specs.Image.{Loaded, routines_of}
+use Rattle.mj_load.specs.Image.{Loaded, program_of}
 use Rattle.mj_jobs.specs.Rows.{row_at}
 use Rattle.mj_sys.specs.Shared.{Shared}
 use Rattle.mj_sys.specs.History.{History, state_of}
@@ -28,7 +28,7 @@ pub record IsView (image : Loaded) (opening : Shared) (front : History) (view : 
   pub locks : view.locks ≡ (state_of opening front).locks
   pub none : (job : ℕ) → job_in view job ≡ None → row_at (state_of opening front).rows job ≡ None
   pub some : (job : ℕ) (stand : JobView) → job_in view job ≡ Some stand
-      → HasStood (routines_of image) opening front job stand.locals (map (λ f. f.place) stand.frames)
+      → HasStood (program_of image) opening front job stand.locals (map (λ f. f.place) stand.frames)
 
 -- each view is of a place before the history's end, and shows what the events before its place leave
 abbrev pub AreViews : Loaded → Shared → History → Window → Type 0

@@ -1,7 +1,8 @@
 // One job of a replay.
 
-ghost use Rattle.std.specs.Prelude.{◌≡◌, ◌<◌, ◌↔◌, length, true, Some, IsTrue, IfOk, OnErr, option_copied};
+ghost use Rattle.std.specs.Prelude.{◌≡◌, ◌<◌, ◌↔◌, ◌&&◌, length, true, Some, IsTrue, IfOk, OnErr, option_copied};
 ghost use Rattle.mj_ask.specs.Fits.{fits};
+ghost use Rattle.mj_ask.specs.Within.{is_reply_within};
 ghost use Rattle.mj_ask.specs.declared.ask.Ask.TheVariants as asks;
 ghost use Rattle.mj_jobs.specs.Rows.{IsLive};
 ghost use Rattle.mj_semantics.specs.Job.{Start as Starts};
@@ -84,7 +85,7 @@ fn tell(job: &mut Job, ask: &Ask, reply: &Reply) -> Result<bool, AllocError>
     Ok(true)
 }
 
-// Brings a job to its next ask, and says whether that is this, and the reply fits it.
+// Brings a job to its next ask, and says whether that is this, and the reply one that it may be told.
 fn asks_it(image: &Image, job: &mut Job, ask: &Ask, reply: &Reply) -> Result<bool, AllocError>
     requires { IsIn image.now job.old }
     ensures run { (start : Starts) → IsRunOf image.now start job.old → IsRunOf image.now start job.new }
@@ -95,8 +96,16 @@ fn asks_it(image: &Image, job: &mut Job, ask: &Ask, reply: &Reply) -> Result<boo
     match job.advance(image, TURNS)? {
         Turn::Ran => Ok(false),
         Turn::Ended => Ok(false),
-        Turn::Asks => Ok(is_it(job.ask(), ask) && ask.fits(reply)),
+        Turn::Asks => Ok(is_it(job.ask(), ask) && may_be_told(image, ask, reply)),
     }
+}
+
+// Whether a job of an image may be told this reply to this ask: it fits, and its texts are within the image's limit.
+fn may_be_told(image: &Image, ask: &Ask, reply: &Reply) -> bool
+    ensures { result ≡ (fits ask.now reply.now && is_reply_within image.now.bounds.limit reply.now) }
+{
+    let bounds = image.bounds();
+    ask.fits(reply) && reply.is_within(bounds.limit)
 }
 
 // Whether what a job asks is this.

@@ -5,7 +5,7 @@ ghost use Rattle.mj_ask.specs.declared.ask.Ask as asks;
 ghost use Rattle.mj_ask.specs.declared.ask.Reply as replies;
 ghost use Rattle.mj_dev.specs.Shelves.{principal, left_of};
 ghost use Rattle.mj_jobs.specs.Rows.{IsLive, rows_limit};
-ghost use Rattle.mj_load.specs.Image.{routines_of};
+ghost use Rattle.mj_load.specs.Image.{program_of};
 ghost use Rattle.mj_sys.specs.History.{History, state_of};
 ghost use Rattle.mj_sys.specs.Opening.{opening_of, are_bare};
 ghost use Rattle.mj_sys.specs.Shared.{are_global};
@@ -14,7 +14,7 @@ ghost use Rattle.mj_replica.specs.Replays.{event_of, history_of, Says};
 ghost use Rattle.mj_replica.specs.Playing.{AreStaged, Stages};
 
 use crate::playing::{Played, play};
-use mj_ask::{Ask, Reply, Start};
+use mj_ask::{Ask, Noted, Reply, Start};
 use mj_dev::{Device, Pool};
 use mj_expect::Heeds;
 use mj_globs::Globals;
@@ -32,16 +32,16 @@ pub enum Verdict {
     Differs(usize),
 }
 
-/// Replays recorded events over these routines, from the opening of a system of these globals, devices and starts. What the system serves must be told as
+/// Replays recorded events over this image, from the opening of a system of these globals, devices and starts. What the system serves must be told as
 /// it serves it; what a device is recorded to have answered must be what some device may have, and no device is called. An event may be taken for one that
-/// isn't made where its job goes on for 10,000,000,000 turns behind its last reply.
+/// isn't made where its job goes on for 10,000,000,000 turns behind its last reply. Where an ask is recorded to have come from isn't looked at.
 pub fn replay<D: Device, O: Opening>(
     alloc: Global,
     image: &Image,
     globals: Globals,
     pool: Pool<D>,
     starts: Vec<Start>,
-    events: &[(u32, Ask, Reply)],
+    events: &[Noted],
 ) -> Result<Verdict, AllocError>
     requires opening { opening_of globals.content pool starts.items ≡ O.opening }
     requires global { are_global globals.content ≡ true }
@@ -50,7 +50,7 @@ pub fn replay<D: Device, O: Opening>(
     requires fits { length starts.items ≤ left_of principal pool }
     requires bare { are_bare starts.items ≡ true }
     requires short { length events.now ≤ history_limit }
-    ensures { IfOk result (λ verdict. Says (routines_of image.now) O.opening (history_of events.now) verdict) }
+    ensures { IfOk result (λ verdict. Says (program_of image.now) O.opening (history_of events.now) verdict) }
 {
     let mut system = match System::<D, O>::new(alloc, globals, pool, starts) {
         Ok(system) => system,
@@ -61,8 +61,16 @@ pub fn replay<D: Device, O: Opening>(
     };
     let mut jobs = Vec::new(alloc);
     for at in 0..events.len() {
-        let (job, ask, reply) = &events[at];
-        if !make_event(alloc, image, &mut system, &mut jobs, *job, ask, reply)? {
+        let event = &events[at];
+        if !make_event(
+            alloc,
+            image,
+            &mut system,
+            &mut jobs,
+            event.job,
+            &event.ask,
+            &event.reply,
+        )? {
             return Ok(Verdict::Differs(at));
         }
     }

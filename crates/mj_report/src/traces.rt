@@ -3,9 +3,11 @@
 ghost use Rattle.std.specs.Prelude.{◌≡◌, ◌≤◌, ◌++◌, true, map, option_map, length, IfOk, IfSome, OnOk};
 ghost use Rattle.std.specs.List.{list_all};
 ghost use Rattle.mj_dev.specs.Shelves.{AreRising, count_of};
-ghost use Rattle.mj_load.specs.Image.{routines_of};
-ghost use Rattle.mj_sys.specs.System.{history_limit};
+ghost use Rattle.mj_load.specs.Image.{program_of};
 ghost use Rattle.mj_core.specs.Runs.{IsRun};
+ghost use Rattle.mj_text.specs.declared.limit.Limit.TheVariants.{V2};
+ghost use Rattle.mj_trace.specs.declared.form.Form.TheVariants.{Second};
+ghost use Rattle.mj_trace.specs.Lines.{events_limit};
 ghost use Rattle.mj_trace.specs.Trace.{opening_text, event_lines};
 ghost use Rattle.mj_trace.specs.Sized.{device_count_fits, event_fits};
 ghost use Rattle.mj_recorded.specs.Traces.{told_of, entries_of, IsReadBack};
@@ -17,8 +19,12 @@ use mj_dev::{Device, Pool};
 use mj_load::Image;
 use mj_recorded::traces_are_read_back;
 use mj_sys::Opening;
-use mj_trace::{put_event, put_opening};
+use mj_text::Limit;
+use mj_trace::{Form, put_event, put_opening};
 use std::alloc::{AllocError, Global};
+
+// How traces are written: what runs has the greater limit for its texts.
+const FORM: Form = Form::Second(Limit::V2);
 
 /// A trace that is to be written: where it goes, and what stands in it before the events.
 #[derive(Drop)]
@@ -36,7 +42,8 @@ pub fn trace_of<'a, D: Device>(
     pool: &Pool<D>,
     starts: &[Start],
 ) -> Result<Option<Trace<'a>>, AllocError>
-    ensures text { IfOk result (λ trace. IfSome trace (λ trace. trace.opening.items ≡ opening_text (map count_of pool.now) (entries_of starts.now))) }
+    ensures text { IfOk result
+        (λ trace. IfSome trace (λ trace. trace.opening.items ≡ opening_text (Second V2) (map count_of pool.now) (entries_of starts.now))) }
     ensures sized { IfOk result (λ trace. IfSome trace (λ trace. list_all device_count_fits (map count_of pool.now) ≡ true)) }
     ensures rising { IfOk result (λ trace. IfSome trace (λ trace. AreRising pool.now)) }
     ensures traced { IfOk result (λ trace. option_map (λ t. t.file.now) trace ≡ option_map (λ word. word.now) file.entry) }
@@ -47,7 +54,7 @@ pub fn trace_of<'a, D: Device>(
     let counts = pool.counts()?;
     let entries = entries(alloc, starts)?;
     let mut opening = Vec::new(alloc);
-    put_opening(alloc, &mut opening, &counts, &entries)?;
+    put_opening(alloc, &mut opening, FORM, &counts, &entries)?;
     Ok(Some(Trace { file, opening }))
 }
 
@@ -64,8 +71,8 @@ fn entries(alloc: Global, starts: &[Start]) -> Result<Vec<Entry>, AllocError>
 }
 
 impl<'a> Trace<'a> {
-    /// Its bytes, of a run of these routines that began as it says: they are read back as the trace of the run, and a replay of that says that it is a run. A
-    /// run of more events than a core may make has a trace that no one reads.
+    /// Its bytes, of a run of this image that began as it says: they are read back as the trace of the run, and a replay of that says that it is a run. A run
+    /// of more events than a trace may have has one that no one reads.
     pub fn run<O: Opening, H: Events>(
         &self,
         alloc: Global,
@@ -73,9 +80,9 @@ impl<'a> Trace<'a> {
         told: &H,
     ) -> Result<Vec<u8>, AllocError>
         requires head { IsHead image.now O.opening self.now.opening.items }
-        requires run { IsRun (routines_of image.now) O.opening (H.history told.now) }
-        ensures text { IfOk result (λ bytes. bytes.items ≡ self.now.opening.items ++ event_lines (told_of (H.history told.now))) }
-        ensures read { length (H.history told.now) ≤ history_limit
+        requires run { IsRun (program_of image.now) O.opening (H.history told.now) }
+        ensures text { IfOk result (λ bytes. bytes.items ≡ self.now.opening.items ++ event_lines (Second V2) (told_of (H.history told.now))) }
+        ensures read { length (H.history told.now) ≤ events_limit
             → IfOk result (λ bytes. IsReadBack image.now O.opening (H.history told.now) bytes.items) }
     {
         traces_are_read_back();
@@ -84,7 +91,7 @@ impl<'a> Trace<'a> {
 
     /// Its bytes: a line for each event behind what stands before them.
     pub fn bytes<H: Events>(&self, alloc: Global, told: &H) -> Result<Vec<u8>, AllocError>
-        ensures text { IfOk result (λ bytes. bytes.items ≡ self.now.opening.items ++ event_lines (told_of (H.history told.now))) }
+        ensures text { IfOk result (λ bytes. bytes.items ≡ self.now.opening.items ++ event_lines (Second V2) (told_of (H.history told.now))) }
         ensures sized { IfOk result (λ bytes. list_all event_fits (told_of (H.history told.now)) ≡ true) }
     {
         let mut bytes = Vec::new(alloc);
@@ -96,14 +103,14 @@ impl<'a> Trace<'a> {
 
 // Puts a line for each event to the end.
 fn put_events<H: Events>(alloc: Global, bytes: &mut Vec<u8>, told: &H) -> Result<(), AllocError>
-    ensures text { OnOk result (bytes.new.items ≡ bytes.old.items ++ event_lines (told_of (H.history told.now))) }
+    ensures text { OnOk result (bytes.new.items ≡ bytes.old.items ++ event_lines (Second V2) (told_of (H.history told.now))) }
     ensures sized { OnOk result (list_all event_fits (told_of (H.history told.now)) ≡ true) }
 {
     'events: for at in 0..told.count() {
         let Some((job, ask, reply)) = told.event_at(at) else {
             unreachable!();
         };
-        put_event(alloc, bytes, job, ask, reply)?;
+        put_event(alloc, bytes, FORM, job, None, ask, reply)?;
     }
     Ok(())
 }

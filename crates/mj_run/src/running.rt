@@ -1,10 +1,11 @@
 // Jobs run from their beginning.
 
 ghost use Rattle.std.specs.Prelude.{◌≡◌, ◌≤◌, true, length, IfOk, IfErr, IfSome, IfNone};
+ghost use Rattle.mj_text.specs.declared.limit.Limit.TheVariants.{V2};
 ghost use Rattle.mj_dev.specs.Shelves.{principal, left_of};
 ghost use Rattle.mj_dev.specs.Told.{IsToldBy};
 ghost use Rattle.mj_jobs.specs.Rows.{rows_limit};
-ghost use Rattle.mj_load.specs.Image.{routines_of};
+ghost use Rattle.mj_load.specs.Image.{program_of};
 ghost use Rattle.mj_locktab.specs.Locks.{LocksApart};
 ghost use Rattle.mj_steps.specs.Driven.{ByList};
 ghost use Rattle.mj_sys.specs.History.{state_of};
@@ -32,7 +33,7 @@ use std::alloc::Global;
 /// until all have ended, all wait, or as many steps were made as may be. Gives the core that they leave, and how it ended. The arguments are those of
 /// `Core::new`. At want of memory for the system nothing was stepped, and all comes back that the system was to be made of.
 ///
-/// Whatever the steps were: the history is a run of these routines from the opening; no two jobs hold overlapping names; what the jobs did is as their
+/// Whatever the steps were: the history is a run of the image's program from the opening; no two jobs hold overlapping names; what the jobs did is as their
 /// committed transactions run alone, one after the other; and each commit that clashed had to. No job asked what nobody could serve, and what a job was told
 /// of its device comes of a call to a device.
 pub fn run_jobs<D: Device, O: Opening>(
@@ -43,6 +44,7 @@ pub fn run_jobs<D: Device, O: Opening>(
     starts: Vec<Start>,
     steps: Option<&[Step]>,
 ) -> Result<(Core<D, Sessions<D>, O>, Ending), Unmade<D>>
+    requires long { image.bounds.limit ≡ V2 }
     requires opening { opening_of globals.content pool starts.items ≡ O.opening }
     requires global { are_global globals.content ≡ true }
     requires some { 1 ≤ length starts.items }
@@ -55,10 +57,10 @@ pub fn run_jobs<D: Device, O: Opening>(
     ensures in_turn { IfOk result (λ ran. IfNone steps.entry
         (IsInTurn (IsToldBy D.inside D.failures D.taken D.given D.IsTold) O.opening in_turn_limit (begun image) ran.1 ran.0)) }
     ensures gives { IfOk result (λ ran. AreSteps (IsToldBy D.inside D.failures D.taken D.given D.IsTold) O.opening (begun image) ran.0) }
-    ensures run { IfOk result (λ ran. IsRun (routines_of image) O.opening ran.0.history) }
+    ensures run { IfOk result (λ ran. IsRun (program_of image) O.opening ran.0.history) }
     ensures apart { IfOk result (λ ran. LocksApart (state_of O.opening ran.0.history).locks) }
-    ensures serial { IfOk result (λ ran. IsAsAlone (routines_of image) O.opening ran.0.history) }
-    ensures clashes { IfOk result (λ ran. AllMustClash (routines_of image) O.opening ran.0.history) }
+    ensures serial { IfOk result (λ ran. IsAsAlone (program_of image) O.opening ran.0.history) }
+    ensures clashes { IfOk result (λ ran. AllMustClash (program_of image) O.opening ran.0.history) }
     ensures globals { IfErr result (λ back. back.globals ≡ globals) }
     ensures pool { IfErr result (λ back. back.pool ≡ pool) }
     ensures starts { IfErr result (λ back. back.starts.items ≡ starts.items) }
@@ -85,6 +87,7 @@ pub fn begin_jobs<D: Device, O: Opening>(
     pool: Pool<D>,
     starts: Vec<Start>,
 ) -> Result<Jobs<D, Sessions<D>, O>, Unmade<D>>
+    requires long { image.bounds.limit ≡ V2 }
     requires opening { opening_of globals.content pool starts.items ≡ O.opening }
     requires global { are_global globals.content ≡ true }
     requires some { 1 ≤ length starts.items }

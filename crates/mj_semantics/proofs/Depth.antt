@@ -20,8 +20,9 @@ use Rattle.mj_semantics.specs.Functions.{call_value, optional}
 use Rattle.mj_semantics.specs.Evaluation.{name_of, named_for, ev, ev_tails, ev_operand, ev_choices, ev_name, ev_named, ev_all, ev_actuals, ev_local, when}
 use Rattle.mj_semantics.specs.Commands.{Aim, Whole, Part, mark_byte, end_frame, quit_frame, in_function, quit, ev_destination, ev_destinations, assign_to, assign_all, kill, kill_list, kill_all, merge, merge_all, arrange, output, output_all, ev_timeout, hang_all, start_all, ev_names, ev_lock_names, lock_list, lock_all, open_all, use_all, close_all, receive, input, read_all, ifs, ranges, calls, block, jumps, do_all, if_all, start_transaction, obey, obey_all}
 use Rattle.mj_semantics.specs.Transactions.{restored_by, listed_by, serial_by}
+use Rattle.mj_semantics.specs.Program.{Program}
 use Rattle.mj_semantics.specs.Job.{quit_before, obey_line, call, jump, in_pass, at_point, points_of, Start, start, opening, run, next}
-use Rattle.mj_semantics.proofs.Words.{Stays, spent, same, Back, Keeps, none_back, less, no_turns, turned, a_turn, some_turns, looked, changed, chosen, ended, faulted, is_given, to_its_device, restarts, reads, is_about, stores, puts, puts_all, removes, names_keep, takes_nodes, puts_nodes, news_all, ends_frame, quits_frame, in_its_function, goes_deeper, writes, tabs, writes_code, tests, goes_again, begins, reads_two, hangs, starts_job, unlocks_all, locks, opens, uses, closes, reads_input, begins_transaction, commits, rolls_back, gives_back, begins_again}
+use Rattle.mj_semantics.proofs.Words.{Stays, spent, same, Back, Keeps, none_back, less, no_turns, turned, a_turn, some_turns, looked, changed, chosen, ended, faulted, is_given, is_composed, to_its_device, restarts, reads, is_about, stores, puts, puts_all, removes, names_keep, takes_nodes, puts_nodes, news_all, ends_frame, quits_frame, in_its_function, goes_deeper, writes, tabs, writes_code, tests, goes_again, begins, reads_two, hangs, starts_job, unlocks_all, locks, opens, uses, closes, reads_input, begins_transaction, commits, rolls_back, gives_back, begins_again}
 
 data KeepsQuit (more b : ℕ) : Option Timed → Option Timed → Type 0 where
   no_for : KeepsQuit more b None None
@@ -66,7 +67,7 @@ module _ (more b : ℕ) (P Q : Points) (keeps : KeepsPoints more b P Q) (here : 
 
     tails_keep : (v : List ℕ) (ts : Tails) {f g : List ℕ → Timed} → ((v : List ℕ) → Keeps more (suc b) (f v) (g v)) → Keeps more (suc b) (ev_tails P here v ts f) (ev_tails Q here v ts g)
     tails_keep v Done l = l v
-    tails_keep v (Then op x ts) l = operand_keeps x (λ w. a_turn (is_given (binary_value op v w) (λ u. tails_keep u ts l)))
+    tails_keep v (Then op x ts) l = operand_keeps x (λ w. a_turn (is_composed (λ limit. binary_value limit op v w) (λ u. tails_keep u ts l)))
 
     operand_keeps : (x : Operand) {f g : List ℕ → Timed} → ((v : List ℕ) → Keeps more (suc b) (f v) (g v)) → Keeps more (suc b) (ev_operand P here x f) (ev_operand Q here x g)
     operand_keeps (Literal t) l = a_turn (l t)
@@ -74,7 +75,7 @@ module _ (more b : ℕ) (P Q : Points) (keeps : KeepsPoints more b P Q) (here : 
     operand_keeps (Intrinsic v) l = a_turn (looked (λ s. l (special_value v s)))
     operand_keeps (Unary op x) l = operand_keeps x (λ v. a_turn (is_given (unary_value op v) l))
     operand_keeps (Group e) l = evaluates e l
-    operand_keeps (Call f es) l = all_keep es (λ vs. a_turn (is_given (call_value f vs) l))
+    operand_keeps (Call f es) l = all_keep es (λ vs. a_turn (is_composed (λ limit. call_value limit f vs) l))
     operand_keeps (About f v es) l = named_keeps f v (λ x. all_keep es (λ vs. a_turn (is_about f x (optional 0 vs) l)))
     operand_keeps (Select choices) l = choices_keep choices l
     operand_keeps (Extrinsic t es) l = actuals_keep es (λ vs. turned (keeps.by (called (λ v. less (changed {c = popped} (l v))))))
@@ -356,42 +357,42 @@ starts_keep image job more d e n lt lt' =
     a_turn (to_its_device principal _ (λ r. points.by (called (λ v. ended))))
 
 -- a run, beside one with as many turns or more at another depth
-runs_keep : (image : List Routine) (job : Start) (d e n q : ℕ) (replies : List Reply) → n < d → n < e → n ≤ q → Stays (run image job e q replies) (run image job d n replies)
-runs_keep image job d e n q replies lt lt' le =
-    (starts_keep image job q d e n lt lt').by n q (omega arith) le (omega arith) no_restart no_restart (none_back n q) (opening job.job) replies
+runs_keep : (program : Program) (job : Start) (d e n q : ℕ) (replies : List Reply) → n < d → n < e → n ≤ q → Stays (run program job e q replies) (run program job d n replies)
+runs_keep program job d e n q replies lt lt' le =
+    (starts_keep program.routines job q d e n lt lt').by n q (omega arith) le (omega arith) no_restart no_restart (none_back n q) (opening program.bounds job.job) replies
 
 both : {o p : Outcome} → Stays o p → Stays p o → o ≡ p
 both same k = refl
 both spent spent = refl
 both spent same = refl
 
-pub deep_enough : (image : List Routine) (job : Start) (depth n : ℕ) (replies : List Reply) → n < depth → run image job depth n replies ≡ next image job n replies
-deep_enough image job depth n replies lt =
-    both (runs_keep image job (suc n) depth n n replies (omega arith) lt (omega arith)) (runs_keep image job depth (suc n) n n replies lt (omega arith) (omega arith))
+pub deep_enough : (program : Program) (job : Start) (depth n : ℕ) (replies : List Reply) → n < depth → run program job depth n replies ≡ next program job n replies
+deep_enough program job depth n replies lt =
+    both (runs_keep program job (suc n) depth n n replies (omega arith) lt (omega arith)) (runs_keep program job depth (suc n) n n replies lt (omega arith) (omega arith))
 
 or_more : {o p : Outcome} → Stays o p → (p ≡ More) ⊎ (o ≡ p)
 or_more spent = inl refl
 or_more same = inr refl
 
-pub steady : (image : List Routine) (job : Start) (n k : ℕ) (replies : List Reply) → (next image job n replies ≡ More) ⊎ (next image job (n + k) replies ≡ next image job n replies)
-steady image job n k replies = or_more (runs_keep image job (suc n) (suc (n + k)) n (n + k) replies (omega arith) (omega arith) (omega arith))
+pub steady : (program : Program) (job : Start) (n k : ℕ) (replies : List Reply) → (next program job n replies ≡ More) ⊎ (next program job (n + k) replies ≡ next program job n replies)
+steady program job n k replies = or_more (runs_keep program job (suc n) (suc (n + k)) n (n + k) replies (omega arith) (omega arith) (omega arith))
 
 -- so there is one answer, however many turns it takes
-pub one_answer : (image : List Routine) (job : Start) (n m : ℕ) (replies : List Reply)
-    → (next image job n replies ≡ More) ⊎ ((next image job m replies ≡ More) ⊎ (next image job n replies ≡ next image job m replies))
-one_answer image job n m replies = by (cases_lt n m)
+pub one_answer : (program : Program) (job : Start) (n m : ℕ) (replies : List Reply)
+    → (next program job n replies ≡ More) ⊎ ((next program job m replies ≡ More) ⊎ (next program job n replies ≡ next program job m replies))
+one_answer program job n m replies = by (cases_lt n m)
   where
-    later : (i j : ℕ) → i ≤ j → (next image job i replies ≡ More) ⊎ (next image job j replies ≡ next image job i replies)
+    later : (i j : ℕ) → i ≤ j → (next program job i replies ≡ More) ⊎ (next program job j replies ≡ next program job i replies)
     later i j le =
         let e : i + (j - i) ≡ j = omega (arith, le) in
-        subst (λ q. (next image job i replies ≡ More) ⊎ (next image job q replies ≡ next image job i replies)) e (steady image job i (j - i) replies)
+        subst (λ q. (next program job i replies ≡ More) ⊎ (next program job q replies ≡ next program job i replies)) e (steady program job i (j - i) replies)
 
-    before : (next image job n replies ≡ More) ⊎ (next image job m replies ≡ next image job n replies)
-        → (next image job n replies ≡ More) ⊎ ((next image job m replies ≡ More) ⊎ (next image job n replies ≡ next image job m replies))
+    before : (next program job n replies ≡ More) ⊎ (next program job m replies ≡ next program job n replies)
+        → (next program job n replies ≡ More) ⊎ ((next program job m replies ≡ More) ⊎ (next program job n replies ≡ next program job m replies))
     before (inl e) = inl e
     before (inr e) = inr (inr (sym e))
 
-    by : (n < m) ⊎ (m ≤ n) → (next image job n replies ≡ More) ⊎ ((next image job m replies ≡ More) ⊎ (next image job n replies ≡ next image job m replies))
+    by : (n < m) ⊎ (m ≤ n) → (next program job n replies ≡ More) ⊎ ((next program job m replies ≡ More) ⊎ (next program job n replies ≡ next program job m replies))
     by (inl lt) = before (later n m (omega (arith, lt)))
     by (inr le) = inr (later m n le)
 

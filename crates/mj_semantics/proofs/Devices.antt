@@ -12,7 +12,7 @@ use Rattle.mj_semantics.specs.Outcome.{Outcome, Needs, Ended, More, Handler, no_
 use Rattle.mj_semantics.specs.Devices.{close}
 use Rattle.mj_semantics.specs.Commands.{quit_frame}
 use Rattle.mj_semantics.specs.Job.{next, opening}
-use Rattle.mj_semantics.proofs.Talk.{asks, line, text, get, write, image_of, first_at, spot}
+use Rattle.mj_semantics.proofs.Talk.{bounds, asks, line, text, get, write, program_of, first_at, spot}
 
 -- WRITE "a"
 abbrev says_a : List Line
@@ -52,7 +52,7 @@ no_line_of_fault = refl
 
 -- how a job of WRITE "a" stops within so many turns, where the reply to its first ask is that the device failed
 abbrev without_session : ℕ → Outcome
-without_session n = next (image_of (("R", says_a) ∷ [])) (first_at (codes "R")) n (reply.Failed ∷ [])
+without_session n = next (program_of (("R", says_a) ∷ [])) (first_at (codes "R")) n (reply.Failed ∷ [])
 
 -- the begin of the session, the fault, though it writes nothing, and the end of the session take a turn each
 turns_of_failure : (without_session 2 ≡ More) × (without_session 3 ≡ Needs (ask.Device principal device_asks.End) [] [])
@@ -64,15 +64,15 @@ abbrev device : List ℕ → ℕ → ℕ → OpenDevice
 device name column row = record { name = name; column = column; row = row; failed = false }
 
 -- "ab", a line feed, "c"
-next_row : (wrote (codes "ab" ++ 10 ∷ codes "c") (opening 1)).devices ≡ device principal 1 1 ∷ []
+next_row : (wrote (codes "ab" ++ 10 ∷ codes "c") (opening bounds 1)).devices ≡ device principal 1 1 ∷ []
 next_row = refl
 
 -- two line feeds, a form feed, "c"
-first_row : (wrote (10 ∷ 10 ∷ 12 ∷ codes "c") (opening 1)).devices ≡ device principal 1 0 ∷ []
+first_row : (wrote (10 ∷ 10 ∷ 12 ∷ codes "c") (opening bounds 1)).devices ≡ device principal 1 0 ∷ []
 first_row = refl
 
 -- a carriage return stays in the row
-same_row : (wrote (10 ∷ codes "ab" ++ 13 ∷ []) (opening 1)).devices ≡ device principal 0 1 ∷ []
+same_row : (wrote (10 ∷ codes "ab" ++ 13 ∷ []) (opening bounds 1)).devices ≡ device principal 0 1 ∷ []
 same_row = refl
 
 abbrev other : List ℕ
@@ -80,7 +80,7 @@ other = codes "1:other"
 
 -- two devices are open, of which the second is the current one
 abbrev two_open : State
-two_open = record (opening 1) { devices = device principal 3 2 ∷ device other 0 0 ∷ []; current = other }
+two_open = record (opening bounds 1) { devices = device principal 3 2 ∷ device other 0 0 ∷ []; current = other }
 
 -- only the current device moves
 current_moves : (wrote (codes "ab" ++ 10 ∷ codes "c") two_open).devices ≡ device principal 3 2 ∷ device other 1 1 ∷ []
@@ -123,7 +123,7 @@ abbrev mark : List Frame → TransactionMark
 mark frames = record { restored = None; serial = false; locals = []; test = false; height = 0; depth = length frames; place = Some (spot 4) }
 
 abbrev in_transaction : List Frame → List Frame → State
-in_transaction now then = record (opening 1) { frames = now; level = 1; mark = Some (mark then) }
+in_transaction now then = record (opening bounds 1) { frames = now; level = 1; mark = Some (mark then) }
 
 -- a QUIT out of the frame of the outermost TSTART
 out_of_frame : quit_frame over 1 no_restart (in_transaction (frame ∷ []) (frame ∷ [])) []
@@ -136,7 +136,7 @@ out_of_call : quit_frame over 1 no_restart (in_transaction (frame ∷ frame ∷ 
 out_of_call = refl
 
 -- a restart goes on where it is said, with the turns that are left
-goes_back : (restartable over go_back 1 no_restart (opening 1) [] ≡ Ended) × (restartable over go_back 0 no_restart (opening 1) [] ≡ More)
+goes_back : (restartable over go_back 1 no_restart (opening bounds 1) [] ≡ Ended) × (restartable over go_back 0 no_restart (opening bounds 1) [] ≡ More)
 goes_back = (refl, refl)
 
 -- what a restart of an earlier transaction would go on with
@@ -144,5 +144,5 @@ abbrev earlier : Handler
 earlier = λ n s replies. Ended
 
 -- behind it there is no other restart
-forgets : restartable go_back go_back 9 earlier (opening 1) [] ≡ Ended
+forgets : restartable go_back go_back 9 earlier (opening bounds 1) [] ≡ Ended
 forgets = refl

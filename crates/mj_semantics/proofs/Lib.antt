@@ -1,5 +1,6 @@
 pub mod Talk
 pub mod Examples
+pub mod Bounds
 pub mod Controls
 pub mod Loops
 pub mod Words

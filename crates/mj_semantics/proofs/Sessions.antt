@@ -21,7 +21,7 @@ use Rattle.mj_semantics.specs.State.{OpenDevice as Device, principal, untouched}
 use Rattle.mj_semantics.specs.Outcome.{Outcome, no_restart, over}
 use Rattle.mj_semantics.specs.Devices.{open_device}
 use Rattle.mj_semantics.specs.Job.{opening}
-use Rattle.mj_semantics.proofs.Talk.{asks, asked, cmd, line, one, local, global, name, text, get, test, write, marks}
+use Rattle.mj_semantics.proofs.Talk.{bounds, asks, asked, cmd, line, one, local, global, name, text, get, test, write, marks}
 
 -- the asks of a job of one line, where the replies are that it is done, these, and again that it is done
 abbrev of_line : List LineCommand → List Reply → List Ask
@@ -127,7 +127,7 @@ abbrev others : ℕ → List Device
 others n = replicate n (record { name = codes "x"; column = 0; row = 0; failed = false })
 
 abbrev with_open : ℕ → Outcome
-with_open n = open_device file None over 9 no_restart (record (opening 1) { devices = untouched ∷ others n }) []
+with_open n = open_device file None over 9 no_restart (record (opening bounds 1) { devices = untouched ∷ others n }) []
 
 -- a seventeenth one is LIMIT
 no_more : (asked (with_open 15) ≡ ask.Shared (shared_asks.Open file None) ∷ []) × (asked (with_open 16) ≡ says (codes "F18 LIMIT -" ++ 10 ∷ []) ∷ [])

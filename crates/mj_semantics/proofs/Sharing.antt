@@ -22,7 +22,7 @@ use Rattle.mj_semantics.specs.State.{principal, plain_name}
 use Rattle.mj_semantics.specs.Outcome.{Needs, More, no_restart, end}
 use Rattle.mj_semantics.specs.Points.{AtLine}
 use Rattle.mj_semantics.specs.Job.{opening, points_of}
-use Rattle.mj_semantics.proofs.Talk.{asks, asked, turns, cmd, cmd_if, line, one, local, local_at, global, global_at, name, name_at, text, get, test, write, here, there, top, image_of, spot}
+use Rattle.mj_semantics.proofs.Talk.{bounds, asks, asked, turns, cmd, cmd_if, line, one, local, local_at, global, global_at, name, name_at, text, get, test, write, here, there, top, image_of, spot}
 
 -- the asks of a job of one line, where the replies are that it is done, these, and again that it is done
 abbrev of_line : List LineCommand → List Reply → List Ask
@@ -188,7 +188,7 @@ lock_turns = refl
 abbrev in_transaction : List LineCommand → List Ask
 in_transaction steps =
     asked (points_of (image_of (("R", line steps ∷ []) ∷ [])) 40 (AtLine (record { routine = codes "R"; line = 1 }) (λ v. end None)) 40 no_restart
-    (record (opening 1) { level = 1 }) [])
+    (record (opening bounds 1) { level = 1 }) [])
 
 abbrev intx : List Ask
 intx = ask.Device principal (device_asks.Write (codes "F13 INTX -" ++ 10 ∷ [])) ∷ []

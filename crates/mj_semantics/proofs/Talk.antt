@@ -9,6 +9,8 @@ use Rattle.mj_ast.specs.declared.function.Special.TheVariants.{Test}
 use Rattle.mj_ast.specs.declared.function.NameFunction.TheVariants as names
 use Rattle.mj_ask.specs.declared.ask.Ask.{Ask}
 use Rattle.mj_ask.specs.declared.ask.Reply.{Reply}
+use Rattle.mj_ask.specs.declared.bounds.Bounds.{Bounds}
+use Rattle.mj_text.specs.declared.limit.Limit.TheVariants.{V2}
 use Rattle.mj_subs.specs.Name.{Name}
 use Rattle.mj_ast.specs.declared.routine.FormatMark.{FormatMark}
 use Rattle.mj_ast.specs.declared.expr.Scope.TheVariants.{Local, Global}
@@ -16,6 +18,7 @@ use Rattle.mj_ast.specs.Syntax.{Expr, Chain, Done, Operand, Literal, Value, Intr
 use Rattle.mj_semantics.specs.Outcome.{Outcome, Needs, Ended, More, no_restart, end}
 use Rattle.mj_semantics.specs.State.{Frame, Place}
 use Rattle.mj_semantics.specs.Points.{AtLine}
+use Rattle.mj_semantics.specs.Program.{Program}
 use Rattle.mj_semantics.specs.Job.{Start, next, points_of, opening}
 
 abbrev pub asked : Outcome → List Ask
@@ -36,10 +39,24 @@ first_job entry = record { job = 1; entry = entry; values = [] }
 abbrev pub first_at : List ℕ → Start
 first_at routine = first_job (record { label = None; routine = routine })
 
+-- the bounds that jobs of the rows have, where nothing else is said
+abbrev pub bounds : Bounds
+bounds = record { limit = V2; events = 1000000 }
+
+-- routines, by their names
+abbrev pub image_of : List (String × List Line) → List Routine
+image_of list = map (λ r. record { name = codes r.0; lines = r.1 }) list
+
+-- the program of these
+abbrev pub program_of : List (String × List Line) → Program
+program_of list = record { routines = image_of list; bounds = bounds }
+
 -- the asks of a job that starts at the first line of the routine R, within 1,000 turns
+abbrev pub asks_within : Bounds → List Line → List Reply → List Ask
+asks_within given lines replies = talk (next (record { routines = image_of (("R", lines) ∷ []); bounds = given }) (first_at (codes "R")) 1000) [] replies
+
 abbrev pub asks : List Line → List Reply → List Ask
-asks lines replies =
-    talk (next (record { name = codes "R"; lines = lines } ∷ []) (first_at (codes "R")) 1000) [] replies
+asks lines replies = asks_within bounds lines replies
 
 abbrev pub cmd : Command → LineCommand
 cmd c = record { condition = None; command = c }
@@ -172,13 +189,9 @@ heard run (suc left) told bytes = elim (run (replicate told reply_kinds.Done)) [
   | More ↦ None
 ]
 
--- an image of routines, by their names
-abbrev pub image_of : List (String × List Line) → List Routine
-image_of list = map (λ r. record { name = codes r.0; lines = r.1 }) list
-
 -- what a job writes that starts at an entry of some routines, where it is over within 40 asks and so many turns; none where it isn't
 abbrev pub says_within : ℕ → List (String × List Line) → Entry → Option (List ℕ)
-says_within turns routines entry = heard (next (image_of routines) (first_job entry) turns) 40 0 []
+says_within turns routines entry = heard (next (program_of routines) (first_job entry) turns) 40 0 []
 
 -- what a job writes that starts at the first line of R
 abbrev pub says_with : List (String × List Line) → Option (List ℕ)
@@ -197,7 +210,7 @@ frame = record { place = record { routine = codes "R"; line = 9 }; level = 1; fu
 abbrev pub says_deep : ℕ → List Line → List ℕ
 says_deep frames lines =
     elim (points_of (image_of (("R", lines) ∷ [])) 40 (AtLine (record { routine = codes "R"; line = 1 }) (λ v. end None)) 40 no_restart
-    (record (opening 1) { frames = replicate frames frame }) []) [
+    (record (opening bounds 1) { frames = replicate frames frame }) []) [
       | Needs a locals places ↦ written a
       | Ended ↦ []
       | More ↦ []
@@ -205,13 +218,13 @@ says_deep frames lines =
 
 -- how a job stops that starts at the first line of R, at the ask after so many to which the reply is that it is done
 abbrev pub stands : List Line → ℕ → Outcome
-stands lines told = next (image_of (("R", lines) ∷ [])) (first_at (codes "R")) 400 (replicate told reply_kinds.Done)
+stands lines told = next (program_of (("R", lines) ∷ [])) (first_at (codes "R")) 400 (replicate told reply_kinds.Done)
 
 -- how a job stops that starts at the first line of R, after one turn less than so many, and after so many, where the reply to its first
 -- ask is that it is done
 abbrev pub turns : List Line → ℕ → Outcome × Outcome
 turns lines n =
-    let run : ℕ → Outcome = (λ k. next (image_of (("R", lines) ∷ [])) (first_at (codes "R")) k (reply_kinds.Done ∷ [])) in
+    let run : ℕ → Outcome = (λ k. next (program_of (("R", lines) ∷ [])) (first_at (codes "R")) k (reply_kinds.Done ∷ [])) in
     (run (n - 1), run n)
 
 -- line k of R

@@ -22,7 +22,7 @@ use Rattle.mj_ast.specs.Syntax.{Expr, Chain, Tails, Done, Then, Operand, Literal
 use Rattle.mj_semantics.specs.State.{Locals, principal, plain_name}
 use Rattle.mj_semantics.specs.Outcome.{Outcome, Needs, More}
 use Rattle.mj_semantics.specs.Job.{next}
-use Rattle.mj_semantics.proofs.Talk.{asks, says, says_within, turns, spot, image_of, first_at, name, cmd, cmd_if, line, at, one, local, global, to, set, text, get, data_of, write, assign, let_be, here, do_it, go}
+use Rattle.mj_semantics.proofs.Talk.{asks, says, says_within, turns, spot, program_of, first_at, name, cmd, cmd_if, line, at, one, local, global, to, set, text, get, data_of, write, assign, let_be, here, do_it, go}
 
 -- the asks of a job, where the replies are that it is done, these, and again that it is done
 abbrev of_lines : List Line → List Reply → List Ask
@@ -159,7 +159,7 @@ halts = refl
 
 -- how a job stops that starts at the first line of R, within so many turns, told that these are done
 abbrev stops : List Line → ℕ → ℕ → Outcome
-stops lines k told = next (image_of (("R", lines) ∷ [])) (first_at (codes "R")) k (replicate told reply.Done)
+stops lines k told = next (program_of (("R", lines) ∷ [])) (first_at (codes "R")) k (replicate told reply.Done)
 
 abbrev x_is : String → Locals
 x_is t = (plain_name (codes "X"), codes t) ∷ []

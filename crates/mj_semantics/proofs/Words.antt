@@ -3,7 +3,8 @@
 use Rattle.std.proofs.Common.{◌≡◌, ℕ, zero, suc, ◌<◌, ◌≤◌, List, [], ◌∷◌, length, Bool, true, false, Option, Some, None, Result, Ok, Err, refl, arith}
 use Rattle.std.proofs.lemmas.Bool.{leb-false}
 use Rattle.std.specs.Prelude.{◌+◌, ℤ, pos, int_lt, ◌+ℤ◌, not, nat_eq, nat_lt, nat_le, if◌then◌else◌}
-use Rattle.mj_text.specs.declared.text.TheConstants.{TEXT_LIMIT}
+use Rattle.mj_text.specs.Limit.{within_limit}
+use Rattle.mj_text.specs.declared.limit.Limit.{Limit}
 use Rattle.mj_text.specs.declared.fault.Fault.{Fault}
 use Rattle.mj_text.specs.declared.fault.Fault.TheVariants.{Undefined, ForIndex}
 use Rattle.mj_num.specs.Number.{reading, sum_of, canonic_text}
@@ -27,7 +28,7 @@ use Rattle.mj_ast.specs.declared.function.NameFunction.{NameFunction}
 use Rattle.mj_ast.specs.Syntax.{Renewed, Fresh, Kept}
 use Rattle.mj_strfn.specs.Functions.{assigned_pieces, set_piece_value}
 use Rattle.mj_semantics.specs.State.{State, Words as Listed, Only, AllBut, accessed, wrote, broke, counted, hold, column_at, has_failed, principal, devices_limit, ending_order, is_open, may_close, with_device, used, dropped, is_function, is_in_function, is_at_mark, newed, marked, raised, lowered, settled, can_restart, restarted}
-use Rattle.mj_semantics.specs.Outcome.{Outcome, More, Handler, Timed, turn, turns, look, change, asking, over, no_restart, until, restartable, go_back, halt, ends, end, fault, steps_limit, ask, tell, is_failed, to_device, need, given}
+use Rattle.mj_semantics.specs.Outcome.{Outcome, More, Handler, Timed, turn, turns, look, change, asking, over, no_restart, until, restartable, go_back, halt, ends, end, fault, ask, tell, is_failed, to_device, need, given, composed}
 use Rattle.mj_semantics.specs.Names.{spelled, asks, question, function_told}
 use Rattle.mj_semantics.specs.Functions.{needed, optional}
 use Rattle.mj_semantics.specs.Accesses.{answer_told, answered, access, value_told, nodes_told}
@@ -119,8 +120,12 @@ pub is_given : {more b : ℕ} {A : Type 0} {g h : A → Timed} (r : Result A Fau
 is_given (Ok v) l = l v
 is_given (Err f) l = faulted
 
+pub is_composed : {more b : ℕ} {g h : List ℕ → Timed} (text : Limit → Result (List ℕ) Fault) → ((v : List ℕ) → Keeps more b (g v) (h v))
+    → Keeps more b (composed text g) (composed text h)
+is_composed text l = looked (λ s. is_given (text s.bounds.limit) l)
+
 pub asked : {more b : ℕ} (a : Ask) {f g : Reply → Timed} → ((r : Reply) → Keeps more b (f r) (g r)) → Keeps more b (ask a f) (ask a g)
-asked a l = looked (λ s. chosen (nat_lt s.replied steps_limit) (replied_to (λ r. changed {c = counted} (l r))) faulted)
+asked a l = looked (λ s. chosen (nat_lt s.replied s.bounds.events) (replied_to (λ r. changed {c = counted} (l r))) faulted)
 
 pub told_of : {more b : ℕ} (a : Ask) {f g : Timed} → Keeps more b f g → Keeps more b (tell a f) (tell a g)
 told_of a l = asked a (λ r. l)
@@ -167,7 +172,7 @@ reads x l = accesses_keep (accesses.Value x) (λ a. needs Undefined (value_told 
 
 pub is_about : {more b : ℕ} (k : NameFunction) (x : Name) (o : Option (List ℕ)) {f g : List ℕ → Timed} → ((v : List ℕ) → Keeps more b (f v) (g v)) → Keeps more b (about k x o f) (about k x o g)
 is_about k x o l =
-    chosen (asks k) (is_given (question k x o) (λ a. accesses_keep a (λ r. is_given (function_told k o r) l))) (is_given (spelled x) l)
+    chosen (asks k) (is_given (question k x o) (λ a. accesses_keep a (λ r. is_composed (λ limit. function_told limit k o r) l))) (is_composed (λ limit. spelled limit x) l)
 
 -- Commands.
 
@@ -176,7 +181,7 @@ stores x v l = accesses_keep (accesses.Set x v) (λ a. l)
 
 renews_pieces : {more b : ℕ} (x : Name) (d : List ℕ) (range : ℕ × ℕ) (e : List ℕ) {f g : List ℕ → Timed}
     → ((v : List ℕ) → Keeps more b (f v) (g v)) → Keeps more b (renewed x d range e f) (renewed x d range e g)
-renews_pieces x d range e l = accesses_keep (accesses.Value x) (λ a. is_given (set_piece_value (or_empty (value_told a)) d range e) l)
+renews_pieces x d range e l = accesses_keep (accesses.Value x) (λ a. is_composed (λ limit. set_piece_value limit (or_empty (value_told a)) d range e) l)
 
 pub renews : {more b : ℕ} (x : Name) (ts : List (List ℕ)) (e : List ℕ) {f f' : Timed} {g g' : List ℕ → Timed} → Keeps more b f f' → ((v : List ℕ) → Keeps more b (g v) (g' v))
     → Keeps more b (assign_piece x ts e f g) (assign_piece x ts e f' g')
@@ -238,7 +243,7 @@ goes_deeper l = looked (λ s. chosen (nat_lt (length s.frames) frames_limit) l f
 pub writes : {more b : ℕ} (bytes : List ℕ) {f g : Timed} → Keeps more b f g → Keeps more b (write bytes f) (write bytes g)
 writes [] l = l
 writes (x ∷ bytes) l =
-    chosen (nat_lt TEXT_LIMIT (length (x ∷ bytes))) faulted (looked (λ s. to_its_device s.current _ (λ r. changed {c = wrote (x ∷ bytes)} l)))
+    is_composed (λ limit. within_limit limit (x ∷ bytes)) (λ text. looked (λ s. to_its_device s.current _ (λ r. changed {c = wrote text} l)))
 
 pub tabs : {more b : ℕ} (marks : List FormatMark) (v : List ℕ) {f g : Timed} → Keeps more b f g → Keeps more b (tab marks v f) (tab marks v g)
 tabs marks v l = is_given (reading v) (λ n. looked (λ s. writes (tab_bytes marks n (column_at s.current s)) l))

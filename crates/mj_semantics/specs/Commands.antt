@@ -1,8 +1,8 @@
 -- What the commands of a line do (ISO/IEC 11756:1999, 8.2).
 use Rattle.std.specs.Prelude.{ℕ, ◌+◌, ◌-◌, ℤ, int_le, ◌+ℤ◌, pos, negsuc, List, [], ◌∷◌, ◌++◌, Option, Some, None, Bool, true, false, Result, Ok, Err, length, map, replicate, nat_lt, if◌then◌else◌}
-use Rattle.mj_text.specs.declared.text.TheConstants.{TEXT_LIMIT}
+use Rattle.mj_text.specs.Limit.{within_limit}
 use Rattle.mj_text.specs.declared.fault.Fault.{Fault}
-use Rattle.mj_text.specs.declared.fault.Fault.TheVariants.{Quit as WrongQuit, QuitInTransaction, Length, Overlap, ForIndex, Char, Depth}
+use Rattle.mj_text.specs.declared.fault.Fault.TheVariants.{Quit as WrongQuit, QuitInTransaction, Overlap, ForIndex, Char, Depth}
 use Rattle.mj_num.specs.Number.{reading, sum_of, canonic_text}
 use Rattle.mj_oper.specs.Operators.{truth_value}
 use Rattle.mj_subs.specs.Name.{Name, overlaps}
@@ -14,7 +14,7 @@ use Rattle.mj_ast.specs.declared.routine.FormatMark.TheVariants.{NewLine, NewPag
 use Rattle.mj_ast.specs.Syntax.{Expr, Chain, Done, Literal, as_actuals, Destination, Plain, Pieces, Targets, One, Several, Assignment, Killed, Gone, Spared, Merged, Output, Shown, Format, Coded, Called, Jumped, Started, LockNames, Lone, Together, Locked, Opened, Received, Input, Prompted, Arranged, Into, Range, Single, Endless, UpTo, Renewed, Fresh, Kept, Variable, Command, Set, Write, Halt, Hang, Job, Lock, OpenDevice, UseDevice, CloseDevice, Read, Kill, Merge, If, Else, For, Forever, Do, Goto, Quit, New, Restartable, TStart, TCommit, TRestart, TRollback, Break, LineCommand}
 use Rattle.mj_strfn.specs.Functions.{place, assigned_pieces, set_piece_value}
 use Rattle.mj_semantics.specs.State.{Only, AllBut, column_at, column_after, wrote, kill_except, hold, level_of, is_function, is_at_mark, set_test, newed, pushed, popped}
-use Rattle.mj_semantics.specs.Outcome.{Timed, turn, look, change, to_device, need, given, end, fault}
+use Rattle.mj_semantics.specs.Outcome.{Timed, turn, look, change, to_device, need, given, composed, end, fault}
 use Rattle.mj_semantics.specs.Lines.{Here, place_at, next_line, entry_of}
 use Rattle.mj_semantics.specs.Points.{Leave, Ways, Loop, Once, Always, By, Points, AtLine, Called as CalledAt, Jumped as JumpedAt, Pass, Started as StartedAt}
 use Rattle.mj_semantics.specs.Accesses.{access, value_told, nodes_told}
@@ -44,7 +44,7 @@ or_empty (Some v) = v
 -- the pieces of a range of a name's value become e: the rest with the whole new value; the old one is empty where there is none
 abbrev pub renewed : Name → List ℕ → ℕ × ℕ → List ℕ → (List ℕ → Timed) → Timed
 renewed x separator range e rest =
-    access (accesses.Value x) (λ a. given (set_piece_value (or_empty (value_told a)) separator range e) rest)
+    access (accesses.Value x) (λ a. composed (λ limit. set_piece_value limit (or_empty (value_told a)) separator range e) rest)
 
 -- which pieces become e, by the separator and the places, which are read now; where it is none, the name is neither read nor
 -- assigned, and the first rest follows
@@ -134,8 +134,8 @@ deeper rest = look (λ s. if nat_lt (length s.frames) frames_limit then rest els
 abbrev pub write : List ℕ → Timed → Timed
 write [] rest = rest
 write (b ∷ bytes) rest =
-    if nat_lt TEXT_LIMIT (length (b ∷ bytes)) then fault Length
-    else look (λ s. to_device s.current (device_asks.Write (b ∷ bytes)) (λ r. change (wrote (b ∷ bytes)) rest))
+    composed (λ limit. within_limit limit (b ∷ bytes))
+    (λ text. look (λ s. to_device s.current (device_asks.Write text) (λ r. change (wrote text) rest)))
 
 -- the byte that a format mark writes: a line feed, or a form feed
 abbrev pub mark_byte : FormatMark → ℕ

@@ -13,7 +13,7 @@ use Rattle.mj_ast.specs.Syntax.{Expr, Chain, Tails, Done, Then, Operand, Literal
 use Rattle.mj_semantics.specs.Functions.{call_value, optional}
 use Rattle.mj_semantics.specs.Names.{spelled, asks, question, function_told}
 use Rattle.mj_semantics.specs.State.{special_value, popped}
-use Rattle.mj_semantics.specs.Outcome.{Timed, turn, look, change, need, given, fault}
+use Rattle.mj_semantics.specs.Outcome.{Timed, turn, look, change, need, given, composed, fault}
 use Rattle.mj_semantics.specs.Lines.{Here, entry_of}
 use Rattle.mj_semantics.specs.Points.{Points, Called}
 use Rattle.mj_semantics.specs.Accesses.{access, value_told}
@@ -65,8 +65,8 @@ read x rest = access (accesses.Value x) (λ a. need Undefined (value_told a) res
 -- what a function gives of a name and what stands behind it: the text of the name, or what it makes of an answer
 abbrev pub about : NameFunction → Name → Option (List ℕ) → (List ℕ → Timed) → Timed
 about f x other rest =
-    if asks f then given (question f x other) (λ a. access a (λ r. given (function_told f other r) rest))
-    else given (spelled x) rest
+    if asks f then given (question f x other) (λ a. access a (λ r. composed (λ limit. function_told limit f other r) rest))
+    else composed (λ limit. spelled limit x) rest
 
 -- the values that a call passes: parentheses with nothing in them are one that is left out, and pass none
 abbrev pub plain_values : List (Option (List ℕ)) → List (Option (List ℕ))
@@ -84,7 +84,7 @@ module _ (points : Points) (here : Here) where
     pub ev_tails : List ℕ → Tails → (List ℕ → Timed) → Timed
     ev_tails v Done rest = rest v
     ev_tails v (Then op x ts) rest =
-        ev_operand x (λ w. turn (given (binary_value op v w) (λ u. ev_tails u ts rest)))
+        ev_operand x (λ w. turn (composed (λ limit. binary_value limit op v w) (λ u. ev_tails u ts rest)))
 
     -- 7.1: a literal, a variable, a special variable, an operator with its operand, an expression in parentheses, a function with its arguments, of
     -- which the first may be a variable. That one's name is complete before the others have their values, and the function asks once
@@ -96,7 +96,7 @@ module _ (points : Points) (here : Here) where
     ev_operand (Intrinsic v) rest = turn (look (λ s. rest (special_value v s)))
     ev_operand (Unary op x) rest = ev_operand x (λ v. turn (given (unary_value op v) rest))
     ev_operand (Group e) rest = ev e rest
-    ev_operand (Call f es) rest = ev_all es (λ vs. turn (given (call_value f vs) rest))
+    ev_operand (Call f es) rest = ev_all es (λ vs. turn (composed (λ limit. call_value limit f vs) rest))
     ev_operand (About f v es) rest = ev_named f v (λ x. ev_all es (λ vs. turn (about f x (optional 0 vs) rest)))
     ev_operand (Select choices) rest = ev_choices choices rest
     ev_operand (Extrinsic t actuals) rest =

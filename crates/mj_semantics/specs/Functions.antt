@@ -4,6 +4,7 @@ use Rattle.std.specs.Prelude.{ℕ, List, [], Option, Some, None, Result, Ok, Err
 use Rattle.mj_text.specs.declared.fault.Fault.{Fault}
 use Rattle.mj_text.specs.declared.fault.Fault.TheVariants.{Subscript}
 use Rattle.mj_text.specs.Failing.{then_value}
+use Rattle.mj_text.specs.declared.limit.Limit.{Limit}
 use Rattle.mj_num.specs.Number.{reading}
 use Rattle.mj_subs.specs.Name.{Name}
 use Rattle.mj_nref.specs.Reading.{name_of}
@@ -24,16 +25,16 @@ needed n arguments = elim (slice_get arguments n) [ None ↦ [] | Some t ↦ t ]
 abbrev pub spelled_name : List ℕ → Result Name Fault
 spelled_name t = elim (name_of t) [ None ↦ Err Subscript | Some n ↦ Ok n ]
 
--- the value of a call
-abbrev pub call_value : Function → List (List ℕ) → Result (List ℕ) Fault
-call_value Ascii a = ascii_value (needed 0 a) (optional 1 a)
-call_value Char a = char_value a
-call_value Extract a = extract_value (needed 0 a) (optional 1 a) (optional 2 a)
-call_value Find a = find_value (needed 0 a) (needed 1 a) (optional 2 a)
-call_value Justify a = justify_value (needed 0 a) (needed 1 a)
-call_value Length a = Ok (length_value (needed 0 a) (optional 1 a))
-call_value Piece a = piece_value (needed 0 a) (needed 1 a) (optional 2 a) (optional 3 a)
-call_value QLength a = then_value (spelled_name (needed 0 a)) (λ n. Ok (number_text (length n.subscripts)))
-call_value QSubscript a = then_value (spelled_name (needed 0 a)) (λ n. then_value (reading (needed 1 a)) (λ k. Ok (part_at n k)))
-call_value Reverse a = Ok (reverse_value (needed 0 a))
-call_value Translate a = Ok (translate_value (needed 0 a) (needed 1 a) (optional 2 a))
+-- the value of a call, where texts have this limit
+abbrev pub call_value : Limit → Function → List (List ℕ) → Result (List ℕ) Fault
+call_value limit Ascii a = ascii_value (needed 0 a) (optional 1 a)
+call_value limit Char a = char_value limit a
+call_value limit Extract a = extract_value (needed 0 a) (optional 1 a) (optional 2 a)
+call_value limit Find a = find_value (needed 0 a) (needed 1 a) (optional 2 a)
+call_value limit Justify a = justify_value limit (needed 0 a) (needed 1 a)
+call_value limit Length a = Ok (length_value (needed 0 a) (optional 1 a))
+call_value limit Piece a = piece_value (needed 0 a) (needed 1 a) (optional 2 a) (optional 3 a)
+call_value limit QLength a = then_value (spelled_name (needed 0 a)) (λ n. Ok (number_text (length n.subscripts)))
+call_value limit QSubscript a = then_value (spelled_name (needed 0 a)) (λ n. then_value (reading (needed 1 a)) (λ k. Ok (part_at n k)))
+call_value limit Reverse a = Ok (reverse_value (needed 0 a))
+call_value limit Translate a = Ok (translate_value (needed 0 a) (needed 1 a) (optional 2 a))

@@ -3,12 +3,14 @@ use Rattle.std.specs.Prelude.{ℕ, zero, suc, List, [], ◌∷◌, Option, Some,
 use Rattle.mj_text.specs.declared.fault.Fault.TheVariants.{NoLine, Params}
 use Rattle.mj_ask.specs.declared.ask.DeviceAsk.TheVariants as device_asks
 use Rattle.mj_ask.specs.declared.ask.Reply.{Reply}
+use Rattle.mj_ask.specs.declared.bounds.Bounds.{Bounds}
 use Rattle.mj_ask.specs.declared.entry.Entry.{Entry}
 use Rattle.mj_ast.specs.Syntax.{Line, Routine}
 use Rattle.mj_semantics.specs.State.{State, principal, untouched, level_of, may_go, pushed, passed, at_place}
 use Rattle.mj_semantics.specs.Outcome.{Outcome, More, Timed, no_restart, turn, turns, look, change, restartable, to_device, end, fault}
 use Rattle.mj_semantics.specs.Lines.{Here, place_at, next_line, line_before, line_at, levels_of, entered}
 use Rattle.mj_semantics.specs.Points.{Leave, Ways, Loop, AtLine, Called, Jumped, Pass, Started, Points}
+use Rattle.mj_semantics.specs.Program.{Program}
 use Rattle.mj_semantics.specs.Commands.{quit_frame, for_again, deeper, obey_all}
 
 -- the end of a routine or of a block is a QUIT of its frame, at the line before it
@@ -69,8 +71,9 @@ pub record Start : Type 0 where
   pub values : List (Option (List ℕ))
 
 -- a job before its first ask: only its principal device is open
-abbrev pub opening : ℕ → State
-opening job = record {
+abbrev pub opening : Bounds → ℕ → State
+opening bounds job = record {
+  bounds = bounds;
   job = job;
   locals = [];
   saved = [];
@@ -91,9 +94,9 @@ abbrev pub start : List Routine → Start → ℕ → Timed
 start image job depth =
     turn (to_device principal device_asks.Begin (λ r. points_of image depth (Called false job.entry job.values (λ v. end None))))
 
-abbrev pub run : List Routine → Start → ℕ → ℕ → List Reply → Outcome
-run image job depth n replies = start image job depth n no_restart (opening job.job) replies
+abbrev pub run : Program → Start → ℕ → ℕ → List Reply → Outcome
+run program job depth n replies = start program.routines job depth n no_restart (opening program.bounds job.job) replies
 
 -- a job from its start, for at most n turns, fed with these replies: the private run
-abbrev pub next : List Routine → Start → ℕ → List Reply → Outcome
-next image job n replies = run image job (suc n) n replies
+abbrev pub next : Program → Start → ℕ → List Reply → Outcome
+next program job n replies = run program job (suc n) n replies

@@ -7,6 +7,7 @@ pub mod Names
 pub mod Evaluation
 pub mod Lines
 pub mod Points
+pub mod Program
 pub mod Sharing
 pub mod Devices
 pub mod Transactions

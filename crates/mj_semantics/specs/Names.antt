@@ -12,14 +12,16 @@ use Rattle.mj_store.specs.declared.store.Direction.TheVariants.{Forward, Backwar
 use Rattle.mj_store.specs.declared.access.Access.{Access}
 use Rattle.mj_store.specs.declared.access.Access.TheVariants as accesses
 use Rattle.mj_store.specs.declared.access.Answer.{Answer}
-use Rattle.mj_strfn.specs.Functions.{within_limit, number_text}
+use Rattle.mj_text.specs.Limit.{within_limit}
+use Rattle.mj_text.specs.declared.limit.Limit.{Limit}
+use Rattle.mj_strfn.specs.Functions.{number_text}
 use Rattle.mj_semantics.specs.Accesses.{data_told, order_told, query_told, value_told}
 use Rattle.mj_ast.specs.declared.function.NameFunction.{NameFunction}
 use Rattle.mj_ast.specs.declared.function.NameFunction.TheVariants as names
 
 -- the text of a name, if it is no longer than a text may be
-abbrev pub spelled : Name → Result (List ℕ) Fault
-spelled x = within_limit (name_text x)
+abbrev pub spelled : Limit → Name → Result (List ℕ) Fault
+spelled limit x = within_limit limit (name_text x)
 
 -- a direction of `$ORDER`: 1 or -1, anything else is RANGE
 abbrev pub way_of : ℤ → Result Direction Fault
@@ -57,14 +59,14 @@ or_other None (Some t) = t
 or_other None None = []
 
 -- the text of a name, and the empty text where there is none
-abbrev pub spelled_if : Option Name → Result (List ℕ) Fault
-spelled_if None = Ok []
-spelled_if (Some x) = spelled x
+abbrev pub spelled_if : Limit → Option Name → Result (List ℕ) Fault
+spelled_if limit None = Ok []
+spelled_if limit (Some x) = spelled limit x
 
 -- what the answer gives
-abbrev pub function_told : NameFunction → Option (List ℕ) → Answer → Result (List ℕ) Fault
-function_told names.Data other a = Ok (number_text (data_told a))
-function_told names.Get other a = Ok (or_other (value_told a) other)
-function_told names.Name other a = Ok []
-function_told names.Order other a = Ok (or_other (order_told a) None)
-function_told names.Query other a = spelled_if (query_told a)
+abbrev pub function_told : Limit → NameFunction → Option (List ℕ) → Answer → Result (List ℕ) Fault
+function_told limit names.Data other a = Ok (number_text (data_told a))
+function_told limit names.Get other a = Ok (or_other (value_told a) other)
+function_told limit names.Name other a = Ok []
+function_told limit names.Order other a = Ok (or_other (order_told a) None)
+function_told limit names.Query other a = spelled_if limit (query_told a)

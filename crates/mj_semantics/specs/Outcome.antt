@@ -2,6 +2,7 @@
 use Rattle.std.specs.Prelude.{ℕ, zero, suc, ◌==◌, List, [], ◌∷◌, ◌++◌, Option, Some, None, Bool, true, false, Result, Ok, Err, nat_lt, nat_le, if◌then◌else◌}
 use Rattle.mj_text.specs.declared.fault.Fault.{Fault}
 use Rattle.mj_text.specs.declared.fault.Fault.TheVariants.{Steps, Device}
+use Rattle.mj_text.specs.declared.limit.Limit.{Limit}
 use Rattle.mj_ask.specs.declared.ask.Ask.{Ask}
 use Rattle.mj_ask.specs.declared.ask.Ask.TheVariants as asks
 use Rattle.mj_ask.specs.declared.ask.SharedAsk.TheVariants as shared_asks
@@ -93,14 +94,10 @@ abbrev pub fault : Fault → Timed
 fault f = turn (look (λ s.
     if has_failed principal s then end (Some f) else asking (asks.Device principal (device_asks.Write (fault_bytes f s))) (λ r. end (Some f))))
 
--- how many asks a job may make before its ending (this profile)
-abbrev pub steps_limit : ℕ
-steps_limit = 1000000
-
--- an ask, and then the rest with its reply; where as many as a job may make were replied to, STEPS in its place
+-- an ask, and then the rest with its reply; where as many as a job of the program may make were replied to, STEPS in its place
 abbrev pub ask : Ask → (Reply → Timed) → Timed
 ask a rest = look (λ s.
-    if nat_lt s.replied steps_limit then asking a (λ r. change counted (rest r)) else fault Steps)
+    if nat_lt s.replied s.bounds.events then asking a (λ r. change counted (rest r)) else fault Steps)
 
 -- an ask of which the reply changes nothing
 abbrev pub tell : Ask → Timed → Timed
@@ -124,3 +121,7 @@ need f (Some v) rest = rest v
 abbrev pub given : {A : Type 0} → Result A Fault → (A → Timed) → Timed
 given (Ok v) rest = rest v
 given (Err f) rest = fault f
+
+-- the rest with a text that is put together, where the limit is the program's, or its fault
+abbrev pub composed : (Limit → Result (List ℕ) Fault) → (List ℕ → Timed) → Timed
+composed text rest = look (λ s. given (text s.bounds.limit) rest)

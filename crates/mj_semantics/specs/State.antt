@@ -12,6 +12,7 @@ use Rattle.mj_store.specs.Questions.{Content, Subtree}
 use Rattle.mj_store.specs.Changes.{after_set}
 use Rattle.mj_store.specs.Runs.{after_access}
 use Rattle.mj_store.specs.declared.access.Access.{Access}
+use Rattle.mj_ask.specs.declared.bounds.Bounds.{Bounds}
 
 -- the locals that have a value, with it, by rising names
 abbrev pub Locals : Type 0
@@ -60,11 +61,12 @@ pub record TransactionMark : Type 0 where
   pub depth : ℕ
   pub place : Option Place
 
--- the job's number, `$JOB`; the locals; what NEWs saved, the newest first; `$TEST`; the frames, the innermost first; the open
+-- the bounds of the program, which stay; the job's number, `$JOB`; the locals; what NEWs saved, the newest first; `$TEST`; the frames, the innermost first; the open
 -- devices in order of opening, of which the principal one is the first; the name of the current one, `$IO`; `$TLEVEL`, `$TRESTART`
 -- and the mark of the outermost TSTART, if a transaction is open; how many asks were replied to; and what a MERGE has read and not
 -- put yet
 pub record State : Type 0 where
+  pub bounds : Bounds
   pub job : ℕ
   pub locals : Locals
   pub saved : List Saved

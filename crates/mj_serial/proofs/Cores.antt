@@ -6,7 +6,7 @@ use Rattle.std.proofs.lemmas.Option.{none-some}
 use Rattle.std.proofs.lemmas.List.{length-map, length-replicate}
 use Rattle.mj_ask.specs.Fits.{is_shared}
 use Rattle.mj_ask.specs.declared.ask.Reply.{Reply}
-use Rattle.mj_ast.specs.Syntax.{Routine}
+use Rattle.mj_semantics.specs.Program as loaded
 use Rattle.mj_semantics.specs.Outcome.{More, Ended}
 use Rattle.mj_semantics.specs.Job.{Start, next}
 use Rattle.mj_semantics.proofs.Depth as depth
@@ -33,19 +33,19 @@ use Rattle.mj_serial.proofs.Clashes.{clashes}
 
 -- ---- programs
 
-pub steady : (image : List Routine) (rows : List Row) (job : ℕ) → IsSteady (program_in image rows job)
-steady image rows job n k replies = by (row_at rows job)
+pub steady : (program : loaded.Program) (rows : List Row) (job : ℕ) → IsSteady (program_in program rows job)
+steady program rows job n k replies = by (row_at rows job)
   where
-    by : (o : Option Row) → ((elim o [ None ↦ Ended | Some row ↦ next image (start_in job row.start) n replies ]) ≡ More)
-        ⊎ ((elim o [ None ↦ Ended | Some row ↦ next image (start_in job row.start) (n + k) replies ]) ≡ (elim o [ None ↦ Ended | Some row ↦ next image (start_in job row.start) n replies ]))
+    by : (o : Option Row) → ((elim o [ None ↦ Ended | Some row ↦ next program (start_in job row.start) n replies ]) ≡ More)
+        ⊎ ((elim o [ None ↦ Ended | Some row ↦ next program (start_in job row.start) (n + k) replies ]) ≡ (elim o [ None ↦ Ended | Some row ↦ next program (start_in job row.start) n replies ]))
     by None = inr refl
-    by (Some row) = depth.steady image (start_in job row.start) n k replies
+    by (Some row) = depth.steady program (start_in job row.start) n k replies
 
 -- a trace is asked so
-trace_asked : {image : List Routine} {start : Start} {log : Log} (p : Program) → ((n : ℕ) (replies : List Reply) → p n replies ≡ next image start n replies)
-    → IsTrace image start log → AreAsked p [] log
+trace_asked : {program : loaded.Program} {start : Start} {log : Log} (p : Program) → ((n : ℕ) (replies : List Reply) → p n replies ≡ next program start n replies)
+    → IsTrace program start log → AreAsked p [] log
 trace_asked p same begins = tt
-trace_asked p same (goes_on log a r n locals at t e f) =
+trace_asked p same (goes_on log a r n locals at t e f w) =
     asked_more p [] log a r (trace_asked p same t) (n, locals, at, same n (replies_of log) ∙ e)
 
 -- a job without a row has no events
@@ -61,14 +61,14 @@ no_events job s (e ∷ h) all none = by (e.job == job) refl (no_events job (afte
         absurd (none-some kept.0 (sym (ap (row_at (state_of s (e ∷ h)).rows) (eqb-true e.job job q) ∙ none) ∙ there))
     by false q rest = rest
 
-asked_in : (image : List Routine) (opening : Shared) (h : History) → IsRun image opening h → (job : ℕ)
-    → AreAsked (program_in image (state_of opening h).rows job) [] (log_of job h)
-asked_in image opening h run job = by (row_at (state_of opening h).rows job) refl
+asked_in : (program : loaded.Program) (opening : Shared) (h : History) → IsRun program opening h → (job : ℕ)
+    → AreAsked (program_in program (state_of opening h).rows job) [] (log_of job h)
+asked_in program opening h run job = by (row_at (state_of opening h).rows job) refl
   where
-    by : (o : Option Row) → row_at (state_of opening h).rows job ≡ o → AreAsked (program_in image (state_of opening h).rows job) [] (log_of job h)
-    by None is = subst (AreAsked (program_in image (state_of opening h).rows job) []) (sym (no_events job opening h run.happen is)) tt
-    by (Some row) is = trace_asked (program_in image (state_of opening h).rows job)
-        (λ n replies. ap (λ (o : Option Row). elim o [ None ↦ Ended | Some row ↦ next image (start_in job row.start) n replies ]) is)
+    by : (o : Option Row) → row_at (state_of opening h).rows job ≡ o → AreAsked (program_in program (state_of opening h).rows job) [] (log_of job h)
+    by None is = subst (AreAsked (program_in program (state_of opening h).rows job) []) (sym (no_events job opening h run.happen is)) tt
+    by (Some row) is = trace_asked (program_in program (state_of opening h).rows job)
+        (λ n replies. ap (λ (o : Option Row). elim o [ None ↦ Ended | Some row ↦ next program (start_in job row.start) n replies ]) is)
         (run.traces job row is)
 
 -- ---- what is seen
@@ -134,11 +134,11 @@ opens globals shelves starts = ap (λ n. replicate n None) (sym (length-map star
 
 -- ---- runs
 
-run_by : (image : List Routine) (opening : Shared) (h : History) → NoneIsOpen opening → IsRun image opening h
-    → IsRunBy Exactly (program_in image (state_of opening h).rows) opening.globals h
-run_by image opening h none run = record {
+run_by : (program : loaded.Program) (opening : Shared) (h : History) → NoneIsOpen opening → IsRun program opening h
+    → IsRunBy Exactly (program_in program (state_of opening h).rows) opening.globals h
+run_by program opening h none run = record {
   told = subst (λ x. AreTold Exactly x h) (opens_seen opening none) (steps opening h (opens_places opening none) run.happen).told;
-  asked = asked_in image opening h run;
+  asked = asked_in program opening h run;
 }
 
 committed_is : (opening : Shared) (h : History) → NoneIsOpen opening → AllHappen opening h → committed_by opening.globals h ≡ (state_of opening h).globals
@@ -150,19 +150,19 @@ happen_front s [] more all = tt
 happen_front s (e ∷ h) more all = (all.0, happen_front (after s e) h more all.1)
 
 pub is_serial : laws.IsSerial
-is_serial image opening h none run =
-    subst (λ c. AsAlone (program_in image (state_of opening h).rows) opening.globals c h) (committed_is opening h none run.happen)
-    (serial (program_in image (state_of opening h).rows) opening.globals h (steady image (state_of opening h).rows) (run_by image opening h none run))
+is_serial program opening h none run =
+    subst (λ c. AsAlone (program_in program (state_of opening h).rows) opening.globals c h) (committed_is opening h none run.happen)
+    (serial (program_in program (state_of opening h).rows) opening.globals h (steady program (state_of opening h).rows) (run_by program opening h none run))
 
 pub clashes_must : laws.ClashesMust
-clashes_must image opening h later job clash none run =
+clashes_must program opening h later job clash none run =
     let whole : History = h ++ clashes_at job clash ∷ later in
-    subst (λ c. MustClash (program_in image (state_of opening whole).rows) c h job clash)
+    subst (λ c. MustClash (program_in program (state_of opening whole).rows) c h job clash)
     (committed_is opening h none (happen_front opening h (clashes_at job clash ∷ later) run.happen))
-    (clashes (program_in image (state_of opening whole).rows) opening.globals h later job clash (steady image (state_of opening whole).rows) (run_by image opening whole none run))
+    (clashes (program_in program (state_of opening whole).rows) opening.globals h later job clash (steady program (state_of opening whole).rows) (run_by program opening whole none run))
 
 -- a run's clashes, each behind the events before it
-pub all_must : (image : List Routine) (opening : Shared) (h : History) → IsRun image opening h → NoneIsOpen opening → AllMustClash image opening h
-all_must image opening h run none earlier later job clash is =
-    subst (λ x. MustClash (program_in image (state_of opening x).rows) (state_of opening earlier).globals earlier job clash) (sym is)
-    (clashes_must image opening earlier later job clash none (subst (λ x. IsRun image opening x) is run))
+pub all_must : (program : loaded.Program) (opening : Shared) (h : History) → IsRun program opening h → NoneIsOpen opening → AllMustClash program opening h
+all_must program opening h run none earlier later job clash is =
+    subst (λ x. MustClash (program_in program (state_of opening x).rows) (state_of opening earlier).globals earlier job clash) (sym is)
+    (clashes_must program opening earlier later job clash none (subst (λ x. IsRun program opening x) is run))

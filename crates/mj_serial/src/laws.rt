@@ -1,6 +1,6 @@
 // Laws of every run: each function has nothing to do, and its contract is the law.
 
-ghost use Rattle.mj_load.specs.Image.{routines_of};
+ghost use Rattle.mj_load.specs.Image.{program_of};
 ghost use Rattle.mj_serial.specs.Laws.{OpensSo, IsSerial, ClashesMust, IsAsAlone, AllMustClash};
 ghost use Rattle.mj_serial.specs.Rules.{Exactly, ByNames, AfterAll, IsSerialBy, ClashesMustBy};
 
@@ -10,8 +10,8 @@ use mj_sys::Opening;
 
 /// What the jobs of a core did is as their blocks run alone, and each commit of theirs that clashed had to.
 pub fn holds<D: Device, A: Answerer<Fresh<D>>, O: Opening>(core: &Core<D, A, O>)
-    ensures serial { IsAsAlone (routines_of core.now.image) O.opening core.now.history }
-    ensures clashes { AllMustClash (routines_of core.now.image) O.opening core.now.history }
+    ensures serial { IsAsAlone (program_of core.now.image) O.opening core.now.history }
+    ensures clashes { AllMustClash (program_of core.now.image) O.opening core.now.history }
 {
     // that its history is a run, and that no transaction was open at its opening, comes with its length
     let _run = core.len(); // for the proof

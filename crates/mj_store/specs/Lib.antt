@@ -1,4 +1,5 @@
 pub mod Nodes
 pub mod Questions
+pub mod Within
 pub mod Changes
 pub mod Runs

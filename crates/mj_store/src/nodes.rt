@@ -1,9 +1,10 @@
 // What stands at a name and below it.
 
 ghost use Rattle.std.specs.Prelude.{◌≡◌, ◌++◌, ◌∷◌, [], if◌then◌else◌, is_ok, IfOk};
+ghost use Rattle.mj_store.specs.Within.{is_node_within, are_nodes_within};
 
 use mj_subs::Subs;
-use mj_text::Text;
+use mj_text::{Limit, Text};
 use std::alloc::{AllocError, Global};
 use std::marker::Model;
 
@@ -46,6 +47,15 @@ impl Nodes {
         Ok(())
     }
 
+    /// Whether each of their subscripts and of their texts is one of this limit.
+    pub fn are_within(&self, limit: Limit) -> bool
+        ensures { result ≡ are_nodes_within limit self.now }
+    {
+        self.as_slice()
+            .iter()
+            .all(|node| is_node_within(node, limit))
+    }
+
     /// A copy.
     pub fn try_clone(&self) -> Result<Nodes, AllocError>
         ensures { IfOk result (λ nodes. nodes ≡ self.now) }
@@ -54,4 +64,11 @@ impl Nodes {
             list: self.list.clone()?,
         })
     }
+}
+
+// Whether each of the subscripts and the text is one of this limit.
+fn is_node_within(node: &(Subs, Text), limit: Limit) -> bool
+    ensures { result ≡ is_node_within limit node.now }
+{
+    node.0.are_within(limit) && node.1.is_within(limit)
 }

@@ -1,16 +1,20 @@
 -- Bytes by their place, the bytes of codes, and the table of `$TRANSLATE`.
-use Rattle.std.proofs.Common.{◌≡◌, ℕ, zero, suc, ◌+◌, ◌-◌, ◌<◌, ◌≤◌, List, [], ◌∷◌, ◌++◌, length, take, drop, get_or, set, Ok, Err, Result, Option, ℤ, pos, negsuc, refl, sym, subst, ◌∙◌, ap, arith, append_assoc, take-append-drop, length-append, ⊎_elim, ◌⊎◌, lit≤, eqb, IfOk, IsOkUnless}
+use Rattle.std.proofs.Common.{◌≡◌, ℕ, zero, suc, ◌+◌, ◌-◌, ◌<◌, ◌≤◌, List, [], ◌∷◌, ◌++◌, length, take, drop, get_or, set, Ok, Err, Result, Option, ℤ, pos, negsuc, refl, sym, subst, ◌∙◌, ap, arith, append_assoc, take-append-drop, length-append, ⊎_elim, ◌⊎◌, lit≤, eqb, Bool, true, false, cond, nat_lt, replicate, IfOk, IsOkUnless}
 use Rattle.std.specs.List.{flat_map}
 use Rattle.std.proofs.lemmas.Bool.{cond-true, cond-false, cond_both, eq-eqb, ne_eqb, cases_eq}
-use Rattle.std.proofs.lemmas.List.{append-nil, take_more, drop_more, take_all, drop_all, get_or-set_same, get_or-set_other, flat_map_more, take-set, take_more_set}
+use Rattle.std.proofs.lemmas.List.{append-nil, take_more, drop_more, take_all, drop_all, get_or-set_same, get_or-set_other, flat_map_more, take-set, take_more_set, length-replicate}
 use Rattle.mj_text.specs.declared.fault.Fault.{Fault}
+use Rattle.mj_text.specs.declared.fault.Fault.TheVariants.{Char, Length}
+use Rattle.mj_text.specs.declared.limit.Limit.{Limit}
+use Rattle.mj_text.specs.Limit.{most_bytes, within_limit}
+use Rattle.mj_text.proofs.LimitLemmas.{most_above, fits_limit, above_limit}
 use Rattle.mj_text.specs.declared.fault.Failure.{Failure}
 use Rattle.mj_text.specs.declared.fault.Failure.TheVariants.{Fault as FaultFailure, Memory}
-use Rattle.mj_num.specs.Number.{canonic_text}
+use Rattle.mj_num.specs.Number.{canonic_text, reading}
 use Rattle.mj_strfn.specs.declared.translation.Becomes.{Becomes}
 use Rattle.mj_strfn.specs.declared.translation.Becomes.TheVariants.{Itself, Byte, Nothing}
 use Rattle.mj_text.specs.Failing.{then_value, failing, Answers}
-use Rattle.mj_strfn.specs.Functions.{number_or, ascii_value, place, code_behind, code_at, byte_of_text, bytes_of_codes, char_value, within_limit, becomes, AnswersOrMemory}
+use Rattle.mj_strfn.specs.Functions.{number_or, ascii_value, place, code_behind, code_at, byte_of, byte_of_text, bytes_of_codes, char_value, justify_value, becomes, AnswersOrMemory}
 use Rattle.mj_strfn.specs.Parts.{AnswersByte}
 use Rattle.mj_strfn.specs.Table.{bytes_of, IsTable, translated_by}
 
@@ -111,13 +115,55 @@ codes_fault xs i x bs e l is before here =
     ∙ ap (λ r. then_value (then_value r (λ b. then_value (bytes_of_codes (drop (i + 1) xs)) (λ cs. Ok (b ++ cs)))) (λ cs. Ok (bs ++ cs))) here
 
 -- a code that gives no byte ends the call
-pub char_exit : (xs : List (List ℕ)) (i : ℕ) (x bs : List ℕ) (e : Failure) → i < length xs → x ≡ get_or xs i x → bytes_of_codes (take i xs) ≡ Ok bs → AnswersByte (byte_of_text x) (Err e)
-    → AnswersOrMemory (char_value xs) (Err e)
-char_exit xs i x bs (FaultFailure f) l is before here = ap (λ r. then_value r within_limit) (codes_fault xs i x bs f l is before here)
-char_exit xs i x bs Memory l is before here = absurd here
+pub char_exit : (limit : Limit) (xs : List (List ℕ)) (i : ℕ) (x bs : List ℕ) (e : Failure) → i < length xs → x ≡ get_or xs i x → bytes_of_codes (take i xs) ≡ Ok bs
+    → AnswersByte (byte_of_text x) (Err e) → AnswersOrMemory (char_value limit xs) (Err e)
+char_exit limit xs i x bs (FaultFailure f) l is before here = ap (λ r. then_value r (within_limit limit)) (codes_fault xs i x bs f l is before here)
+char_exit limit xs i x bs Memory l is before here = absurd here
 
-pub char_all : (xs : List (List ℕ)) (n : ℕ) (bs : List ℕ) → length xs ≤ n → bytes_of_codes (take n xs) ≡ Ok bs → char_value xs ≡ within_limit bs
-char_all xs n bs l h = ap (λ r. then_value r within_limit) (ap bytes_of_codes (sym (take_all n xs l)) ∙ h)
+pub char_all : (limit : Limit) (xs : List (List ℕ)) (n : ℕ) (bs : List ℕ) → length xs ≤ n → bytes_of_codes (take n xs) ≡ Ok bs → char_value limit xs ≡ within_limit limit bs
+char_all limit xs n bs l h = ap (λ r. then_value r (within_limit limit)) (ap bytes_of_codes (sym (take_all n xs l)) ∙ h)
+
+-- the byte of one code is within each limit
+abbrev bytes_in : Result (List ℕ) Fault → ℕ
+bytes_in (Ok b) = length b
+bytes_in (Err e) = 0
+
+byte_short : (b : Bool) (n : ℕ) → bytes_in (cond b (Ok (n ∷ [])) (Err Char)) ≤ 1
+byte_short true n = lit≤ tt
+byte_short false n = lit≤ tt
+
+code_short : (z : Result ℤ Fault) → bytes_in (then_value z byte_of) ≤ 1
+code_short (Err e) = lit≤ tt
+code_short (Ok (pos n)) = byte_short (nat_lt n 256) n
+code_short (Ok (negsuc n)) = lit≤ tt
+
+one_byte : (limit : Limit) (r : Result (List ℕ) Fault) → bytes_in r ≤ 1 → then_value (then_value r (λ b. Ok (b ++ []))) (within_limit limit) ≡ r
+one_byte limit (Err e) few = refl
+one_byte limit (Ok b) few =
+    let short : length b ≤ 1 = few in
+    let most = most_above limit in
+    ap (within_limit limit) (append-nil b) ∙ fits_limit limit b (omega arith)
+
+pub one_char : (limit : Limit) (t : List ℕ) → char_value limit (t ∷ []) ≡ byte_of_text t
+one_char limit t = one_byte limit (byte_of_text t) (code_short (reading t))
+
+-- ---- $JUSTIFY
+
+-- a text with blanks before it, up to a width, has the greater of the two lengths
+length_justified : (s : List ℕ) (w : ℕ) → length (replicate (w - length s) 32 ++ s) ≡ w - length s + length s
+length_justified s w = length-append (replicate (w - length s) 32) s ∙ ap (λ n. n + length s) (length-replicate (w - length s) 32)
+
+pub justify_above : (limit : Limit) (s w : List ℕ) (m : ℤ) → reading w ≡ Ok m → (most_bytes limit < place m) ⊎ (most_bytes limit < length s) → justify_value limit s w ≡ Err Length
+justify_above limit s w m is above =
+    let long = length_justified s (place m) in
+    let more : most_bytes limit < length (replicate (place m - length s) 32 ++ s) = ⊎_elim (λ (h : most_bytes limit < place m). omega arith) (λ h. omega arith) above in
+    ap (λ r. then_value r (λ m. within_limit limit (replicate (place m - length s) 32 ++ s))) is ∙ above_limit limit _ more
+
+pub justify_fits : (limit : Limit) (s w : List ℕ) (m : ℤ) → reading w ≡ Ok m → place m ≤ most_bytes limit → length s ≤ most_bytes limit
+    → justify_value limit s w ≡ Ok (replicate (place m - length s) 32 ++ s)
+justify_fits limit s w m is width small =
+    let long = length_justified s (place m) in
+    ap (λ r. then_value r (λ m. within_limit limit (replicate (place m - length s) 32 ++ s))) is ∙ fits_limit limit _ (omega arith)
 
 -- ---- the table of `$TRANSLATE`
 
@@ -216,9 +262,9 @@ length-translated_by t (x ∷ xs) =
     one_at_most Nothing c = lit≤ tt
 
 -- a text made of bytes that a text has room for
-pub made_answers : (v made : List ℕ) (r : Result (List ℕ) Failure) → made ≡ v → length v ≤ 32767 → IfOk r (λ t. t ≡ made) → (length made ≤ 32767 → IsOkUnless r Memory) → Answers (Ok v) r
+pub made_answers : (v made : List ℕ) (r : Result (List ℕ) Failure) → made ≡ v → length v ≤ 1048576 → IfOk r (λ t. t ≡ made) → (length made ≤ 1048576 → IsOkUnless r Memory) → Answers (Ok v) r
 made_answers v made (Ok t) same room ok within = ap Ok (sym (ok ∙ same))
 made_answers v made (Err (FaultFailure f)) same room ok within =
-    let is = within (subst (λ (l : List ℕ). length l ≤ 32767) (sym same) room) in
+    let is = within (subst (λ (l : List ℕ). length l ≤ 1048576) (sym same) room) in
     cc
 made_answers v made (Err Memory) same room ok within = refl

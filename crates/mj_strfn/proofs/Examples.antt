@@ -3,6 +3,7 @@ use Rattle.std.proofs.Common.{◌≡◌, refl, [], ◌∷◌, Ok, Err, Some, Non
 use Rattle.std.specs.Prelude.{codes}
 use Rattle.std.specs.Fmt.{digits}
 use Rattle.mj_text.specs.declared.fault.Fault.TheVariants.{Char, Range}
+use Rattle.mj_text.specs.declared.limit.Limit.TheVariants.{V1}
 use Rattle.mj_strfn.specs.Functions.{ascii_value, char_value, extract_value, find_value, justify_value, length_value, piece_value, assigned_pieces, set_piece_value, reverse_value, translate_value}
 
 -- ---- $ASCII and $CHAR
@@ -19,10 +20,10 @@ ascii_at_0 : ascii_value (codes "abc") (Some (codes "0")) ≡ Ok (codes "-1")
 unfolding digits
 ascii_at_0 = refl
 
-char_of_codes : char_value (codes "77" ∷ codes "-1" ∷ codes "10" ∷ []) ≡ Ok (77 ∷ 10 ∷ [])
+char_of_codes : char_value V1 (codes "77" ∷ codes "-1" ∷ codes "10" ∷ []) ≡ Ok (77 ∷ 10 ∷ [])
 char_of_codes = refl
 
-char_first_fault : char_value (codes "256" ∷ codes "9999999999999999999" ∷ []) ≡ Err Char
+char_first_fault : char_value V1 (codes "256" ∷ codes "9999999999999999999" ∷ []) ≡ Err Char
 char_first_fault = refl
 
 -- ---- $EXTRACT
@@ -77,10 +78,10 @@ find_below_1 = refl
 
 -- ---- $JUSTIFY
 
-justify_blanks : justify_value (codes "ab") (codes "4") ≡ Ok (codes "  ab")
+justify_blanks : justify_value V1 (codes "ab") (codes "4") ≡ Ok (codes "  ab")
 justify_blanks = refl
 
-justify_wide_enough : justify_value (codes "ab") (codes "-4") ≡ Ok (codes "ab")
+justify_wide_enough : justify_value V1 (codes "ab") (codes "-4") ≡ Ok (codes "ab")
 justify_wide_enough = refl
 
 -- ---- $LENGTH
@@ -143,13 +144,13 @@ assigned_none_backwards = refl
 assigned_none_by_nothing : assigned_pieces [] None None ≡ Ok None
 assigned_none_by_nothing = refl
 
-set_piece_pads : set_piece_value (codes "a,b") (codes ",") (4, 4) (codes "d") ≡ Ok (codes "a,b,,d")
+set_piece_pads : set_piece_value V1 (codes "a,b") (codes ",") (4, 4) (codes "d") ≡ Ok (codes "a,b,,d")
 set_piece_pads = refl
 
-set_piece_inside : set_piece_value (codes "a,b,c,d") (codes ",") (2, 3) (codes "x") ≡ Ok (codes "a,x,d")
+set_piece_inside : set_piece_value V1 (codes "a,b,c,d") (codes ",") (2, 3) (codes "x") ≡ Ok (codes "a,x,d")
 set_piece_inside = refl
 
-set_piece_of_nothing : set_piece_value [] (codes ",") (1, 1) (codes "x") ≡ Ok (codes "x")
+set_piece_of_nothing : set_piece_value V1 [] (codes ",") (1, 1) (codes "x") ≡ Ok (codes "x")
 set_piece_of_nothing = refl
 
 -- ---- $REVERSE and $TRANSLATE

@@ -10,7 +10,10 @@ use Rattle.mj_text.proofs.FindLemmas.{FindsNeedle-later}
 use Rattle.memchr.proofs.lemmas.MatchLemmas.{OccursAt-part, OccursAt-from_part, OccursAt-split}
 use Rattle.mj_strfn.specs.Pieces.{pieces_behind, pieces, joined, ended, IsBehind, IsBehindFirst}
 use Rattle.mj_text.specs.Failing.{Answers}
-use Rattle.mj_strfn.specs.Functions.{place, piece_count, some_pieces, set_piece_value, with_pieces, within_limit}
+use Rattle.mj_strfn.specs.Functions.{place, piece_count, some_pieces, set_piece_value, with_pieces}
+use Rattle.mj_text.specs.declared.limit.Limit.{Limit}
+use Rattle.mj_text.specs.Limit.{most_bytes, within_limit}
+use Rattle.mj_text.proofs.LimitLemmas as limits
 use Rattle.std.specs.Result.{is_ok}
 use Rattle.mj_text.specs.declared.fault.Fault.{Fault}
 use Rattle.mj_text.specs.declared.fault.Fault.TheVariants.{Length}
@@ -365,9 +368,9 @@ pub some_pieces_is : (s d : List ℕ) (a b : ℤ) → 0 < length d → some_piec
 some_pieces_is s [] a b some = absurd (omega arith)
 some_pieces_is s (x ∷ d) a b some = refl
 
-pub set_piece_is : (old d e : List ℕ) (range : ℕ × ℕ) → 0 < length d → set_piece_value old d range e ≡ within_limit (with_pieces old d range e)
-set_piece_is old [] e range some = absurd (omega arith)
-set_piece_is old (x ∷ d) e range some = refl
+pub set_piece_is : (limit : Limit) (old d e : List ℕ) (range : ℕ × ℕ) → 0 < length d → set_piece_value limit old d range e ≡ within_limit limit (with_pieces old d range e)
+set_piece_is limit old [] e range some = absurd (omega arith)
+set_piece_is limit old (x ∷ d) e range some = refl
 
 -- nothing from the last piece to one before it, or behind the last piece
 pub between_nothing : (d s : List ℕ) (first last : ℕ) → last < first → pieces_between d s first last ≡ []
@@ -445,18 +448,19 @@ length_assembled front d middle back n =
     omega arith
 
 -- whether all of it fits
-pub assembled_fits : (front d middle back : List ℕ) (n : ℕ) → length front + length middle + length back + n * length d ≤ 32767
-    → within_limit (front ++ repeat n d ++ middle ++ back) ≡ Ok (front ++ repeat n d ++ middle ++ back)
-assembled_fits front d middle back n h =
+pub assembled_fits : (limit : Limit) (front d middle back : List ℕ) (n : ℕ) → length front + length middle + length back + n * length d ≤ most_bytes limit
+    → within_limit limit (front ++ repeat n d ++ middle ++ back) ≡ Ok (front ++ repeat n d ++ middle ++ back)
+assembled_fits limit front d middle back n h =
     let long = length_assembled front d middle back n in
-    let small : length (front ++ repeat n d ++ middle ++ back) ≤ 32767 = omega arith in
-    cond-true _ _ _ (le-leb _ _ small)
+    let small : length (front ++ repeat n d ++ middle ++ back) ≤ most_bytes limit = omega arith in
+    limits.fits_limit limit _ small
 
-pub assembled_long : (front d middle back : List ℕ) (n : ℕ) → 32767 < length front + length middle + length back + n * length d → within_limit (front ++ repeat n d ++ middle ++ back) ≡ Err Length
-assembled_long front d middle back n h =
+pub assembled_long : (limit : Limit) (front d middle back : List ℕ) (n : ℕ) → most_bytes limit < length front + length middle + length back + n * length d
+    → within_limit limit (front ++ repeat n d ++ middle ++ back) ≡ Err Length
+assembled_long limit front d middle back n h =
     let long = length_assembled front d middle back n in
-    let large : 32767 < length (front ++ repeat n d ++ middle ++ back) = omega arith in
-    cond-false _ _ _ (lt-leb _ _ large)
+    let large : most_bytes limit < length (front ++ repeat n d ++ middle ++ back) = omega arith in
+    limits.above_limit limit _ large
 
 pub assembled_within : (front d middle back : List ℕ) (n limit : ℕ) → length front + length middle + length back + n * length d ≤ limit → length (front ++ repeat n d ++ middle ++ back) ≤ limit
 assembled_within front d middle back n limit h =
@@ -501,8 +505,8 @@ pub wants_memory : (v : Result (List ℕ) Fault) (t : List ℕ) (r : Result (Lis
 wants_memory v t r is ends = rw ends (ap is_ok is)
 
 -- what isn't at most the limit is above it
-pub above_limit : (n : ℕ) → (n ≤ 32767 → false ≡ true) → 32767 < n
-above_limit n h = ⊎_elim (λ l. l) (λ l. absurd (false≢true (h l))) (cases_lt 32767 n)
+pub not_within : (most n : ℕ) → (n ≤ most → false ≡ true) → most < n
+not_within most n h = ⊎_elim (λ l. l) (λ l. absurd (false≢true (h l))) (cases_lt most n)
 
 pub answers_as : (v w : Result (List ℕ) Fault) (r : Result (List ℕ) Failure) → v ≡ w → Answers w r → Answers v r
 answers_as v w r is h = rw is h
@@ -511,14 +515,14 @@ some_text : (d : List ℕ) → (d ≡ [] → false ≡ true) → 0 < length d
 some_text [] h = absurd (false≢true (h refl))
 some_text (x ∷ d) h = omega arith
 
-pub set_answers : (old d e old' d' e' : List ℕ) (range range' : ℕ × ℕ) (r : Result (List ℕ) Failure) → old' ≡ old → d' ≡ d → e' ≡ e → range' ≡ range → (d ≡ [] → false ≡ true)
-    → Answers (within_limit (with_pieces old' d' range' e')) r → Answers (set_piece_value old d range e) r
-set_answers old d e old' d' e' range range' r same_old same_d same_e same_range some h =
-    answers_as _ _ r (set_piece_is old d e range (some_text d some)) (
-    subst (λ (l : List ℕ). Answers (within_limit (with_pieces l d range e)) r) same_old (
-    subst (λ (l : List ℕ). Answers (within_limit (with_pieces old' l range e)) r) same_d (
-    subst (λ (l : List ℕ). Answers (within_limit (with_pieces old' d' range l)) r) same_e (
-    subst (λ (p : ℕ × ℕ). Answers (within_limit (with_pieces old' d' p e')) r) same_range h
+pub set_answers : (limit : Limit) (old d e old' d' e' : List ℕ) (range range' : ℕ × ℕ) (r : Result (List ℕ) Failure) → old' ≡ old → d' ≡ d → e' ≡ e → range' ≡ range → (d ≡ [] → false ≡ true)
+    → Answers (within_limit limit (with_pieces old' d' range' e')) r → Answers (set_piece_value limit old d range e) r
+set_answers limit old d e old' d' e' range range' r same_old same_d same_e same_range some h =
+    answers_as _ _ r (set_piece_is limit old d e range (some_text d some)) (
+    subst (λ (l : List ℕ). Answers (within_limit limit (with_pieces l d range e)) r) same_old (
+    subst (λ (l : List ℕ). Answers (within_limit limit (with_pieces old' l range e)) r) same_d (
+    subst (λ (l : List ℕ). Answers (within_limit limit (with_pieces old' d' range l)) r) same_e (
+    subst (λ (p : ℕ × ℕ). Answers (within_limit limit (with_pieces old' d' p e')) r) same_range h
     )
     )
     )

@@ -1,11 +1,12 @@
 -- What each string function gives: a text, seen as the list of its bytes, or the fault that stands in its place.
 -- The arguments are texts; those that stand for numbers are read here, from left to right, before anything else is looked at.
 -- ISO/IEC 11756:1999, 7.1.5 (functions) and 8.2.18 (SET); the limits, the faults and the edge cases are this profile's.
-use Rattle.std.specs.Prelude.{◌≡◌, ℕ, zero, suc, ◌+◌, ◌-◌, ◌==◌, max, nat_le, nat_lt, Bool, true, ◌||◌, List, [], ◌∷◌, ◌++◌, length, take, drop, reverse, replicate, ℤ, pos, negsuc, int_lt, Option, Some, None, Result, Ok, Err, ⊤, if◌then◌else◌}
+use Rattle.std.specs.Prelude.{◌≡◌, ℕ, zero, suc, ◌+◌, ◌-◌, ◌==◌, max, nat_lt, Bool, true, ◌||◌, List, [], ◌∷◌, ◌++◌, length, take, drop, reverse, replicate, ℤ, pos, negsuc, int_lt, Option, Some, None, Result, Ok, Err, ⊤, if◌then◌else◌}
 use Rattle.std.specs.List.{flat_map}
-use Rattle.mj_text.specs.declared.text.TheConstants.{TEXT_LIMIT}
+use Rattle.mj_text.specs.Limit.{within_limit}
+use Rattle.mj_text.specs.declared.limit.Limit.{Limit}
 use Rattle.mj_text.specs.declared.fault.Fault.{Fault}
-use Rattle.mj_text.specs.declared.fault.Fault.TheVariants.{Length, Char}
+use Rattle.mj_text.specs.declared.fault.Fault.TheVariants.{Char}
 use Rattle.mj_text.specs.declared.fault.Failure.{Failure}
 use Rattle.mj_text.specs.declared.fault.Failure.TheVariants.{Fault as FaultFailure, Memory}
 use Rattle.mj_num.specs.Number.{reading, canonic_text}
@@ -38,10 +39,6 @@ abbrev pub AnswersOrMemory : Result (List ℕ) Fault → Result (List ℕ) Failu
 AnswersOrMemory value (Ok text) = value ≡ Ok text
 AnswersOrMemory value (Err (FaultFailure fault)) = value ≡ Err fault
 AnswersOrMemory value (Err Memory) = ⊤
-
--- a text, unless it has more bytes than a text may
-abbrev pub within_limit : List ℕ → Result (List ℕ) Fault
-within_limit s = if nat_le (length s) TEXT_LIMIT then Ok s else Err Length
 
 -- a number as a text
 abbrev pub number_text : ℕ → List ℕ
@@ -82,8 +79,8 @@ bytes_of_codes [] = Ok []
 bytes_of_codes (t ∷ ts) = then_value (byte_of_text t) (λ b. then_value (bytes_of_codes ts) (λ bs. Ok (b ++ bs)))
 
 -- `$CHAR(n1,..)`
-abbrev pub char_value : List (List ℕ) → Result (List ℕ) Fault
-char_value ts = then_value (bytes_of_codes ts) within_limit
+abbrev pub char_value : Limit → List (List ℕ) → Result (List ℕ) Fault
+char_value limit ts = then_value (bytes_of_codes ts) (within_limit limit)
 
 -- ---- $EXTRACT
 
@@ -110,8 +107,8 @@ find_value s t k = then_value (number_or (pos 1) k) (λ m. Ok (number_text (foun
 -- ---- $JUSTIFY
 
 -- `$JUSTIFY(s,w)`: blanks before s up to w bytes
-abbrev pub justify_value : List ℕ → List ℕ → Result (List ℕ) Fault
-justify_value s w = then_value (reading w) (λ m. within_limit (replicate (place m - length s) 32 ++ s))
+abbrev pub justify_value : Limit → List ℕ → List ℕ → Result (List ℕ) Fault
+justify_value limit s w = then_value (reading w) (λ m. within_limit limit (replicate (place m - length s) 32 ++ s))
 
 -- ---- $LENGTH
 
@@ -157,9 +154,9 @@ with_pieces old d range e =
 
 -- the new value where the pieces from `first` to `last` become e: the pieces before, with empty ones where there are too few,
 -- then e, then the pieces after. By an empty separator there are no pieces to set: the value stays.
-abbrev pub set_piece_value : List ℕ → List ℕ → ℕ × ℕ → List ℕ → Result (List ℕ) Fault
-set_piece_value old [] range e = Ok old
-set_piece_value old (x ∷ d) range e = within_limit (with_pieces old (x ∷ d) range e)
+abbrev pub set_piece_value : Limit → List ℕ → List ℕ → ℕ × ℕ → List ℕ → Result (List ℕ) Fault
+set_piece_value limit old [] range e = Ok old
+set_piece_value limit old (x ∷ d) range e = within_limit limit (with_pieces old (x ∷ d) range e)
 
 -- ---- $REVERSE
 

@@ -8,7 +8,7 @@ ghost use Rattle.mj_strfn.specs.Parts.{AnswersByte};
 
 use crate::arguments::{count_text, first_and_last, number, number_or, place};
 use mj_num::Num;
-use mj_text::{Digits, Failure, Fault, TEXT_LIMIT, Text};
+use mj_text::{Digits, Failure, Fault, Limit, Text};
 use std::alloc::Global;
 
 /// `$ASCII`: the code of the byte at a place, the first where none is given; -1 where no byte stands. It takes no memory.
@@ -24,13 +24,13 @@ pub fn ascii(alloc: Global, text: &Text, at: Option<&Text>) -> Result<Text, Fail
     Ok(count_text(alloc, u64::from(bytes[at as usize - 1])))
 }
 
-/// `$CHAR`: the bytes of these codes. One below 0 gives no byte, one above 255 is the fault `Char`.
-pub fn char(alloc: Global, codes: &[Text]) -> Result<Text, Failure>
-    ensures { AnswersOrMemory (char_value codes.now) result }
+/// `$CHAR`: the bytes of these codes. One below 0 gives no byte, one above 255 is the fault `Char`. More bytes than the limit are `Length`.
+pub fn char(alloc: Global, codes: &[Text], limit: Limit) -> Result<Text, Failure>
+    ensures { AnswersOrMemory (char_value limit codes.now) result }
 {
     match codes {
         [code] => char_of_one(alloc, code),
-        _ => char_of_all(alloc, codes),
+        _ => char_of_all(alloc, codes, limit),
     }
 }
 
@@ -46,14 +46,17 @@ fn char_of_one(alloc: Global, code: &Text) -> Result<Text, Failure>
 
 /// The text of the bytes of any number of codes.
 #[inline(never)]
-fn char_of_all(alloc: Global, codes: &[Text]) -> Result<Text, Failure>
-    ensures { AnswersOrMemory (char_value codes.now) result }
+fn char_of_all(alloc: Global, codes: &[Text], limit: Limit) -> Result<Text, Failure>
+    ensures { AnswersOrMemory (char_value limit codes.now) result }
 {
     let mut bytes = Vec::new(alloc);
     for code in codes {
         if let Some(byte) = byte(code)? {
             bytes.push(byte)?;
         }
+    }
+    if bytes.len() > limit.bytes() {
+        return Err(Failure::Fault(Fault::Length));
     }
     Text::from(alloc, bytes.as_slice())
 }
@@ -100,16 +103,16 @@ pub fn find(alloc: Global, text: &Text, part: &Text, from: Option<&Text>) -> Res
     })
 }
 
-/// `$JUSTIFY`: the text with blanks before it, up to a width.
-pub fn justify(alloc: Global, text: &Text, width: &Text) -> Result<Text, Failure>
-    ensures { Answers (justify_value text.now width.now) result }
+/// `$JUSTIFY`: the text with blanks before it, up to a width. Where the width or the text is above the limit, that is `Length`, and no memory is asked for.
+pub fn justify(alloc: Global, text: &Text, width: &Text, limit: Limit) -> Result<Text, Failure>
+    ensures { Answers (justify_value limit text.now width.now) result }
 {
     let width = place(number(width)?);
-    if width > TEXT_LIMIT as u64 {
-        return Err(Failure::Fault(Fault::Length));
-    }
     let mut digits = Digits::new();
     let bytes = text.bytes(&mut digits);
+    if width > limit.bytes() as u64 || bytes.len() > limit.bytes() {
+        return Err(Failure::Fault(Fault::Length));
+    }
     let mut justified = vec![in alloc; b' '; (width as usize).saturating_sub(bytes.len())]?;
     justified.extend_from_slice(bytes)?;
     Text::from(alloc, justified.as_slice())

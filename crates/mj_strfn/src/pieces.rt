@@ -6,13 +6,13 @@ ghost use Rattle.std.specs.List.{repeat};
 ghost use Rattle.mj_strfn.specs.Pieces.{pieces, joined};
 ghost use Rattle.mj_text.specs.Failing.{failing, Answers};
 ghost use Rattle.mj_strfn.specs.Functions.{length_value, piece_value, some_pieces, assigned_pieces as pieces_assigned, set_piece_value, with_pieces};
-ghost use Rattle.mj_strfn.specs.Functions.{within_limit};
+ghost use Rattle.mj_text.specs.Limit.{most_bytes, within_limit};
 ghost use Rattle.mj_strfn.specs.Parts.{pieces_between};
 
 use crate::arguments::{count_text, first_and_last, place};
 use crate::room::{ROOM, Room};
 use crate::search::{behind, count, front};
-use mj_text::{Digits, Failure, Fault, TEXT_LIMIT, Text};
+use mj_text::{Digits, Failure, Fault, Limit, TEXT_LIMIT, Text};
 use std::alloc::Global;
 use std::marker::Model;
 
@@ -112,15 +112,17 @@ pub fn assigned_pieces(
     }))
 }
 
-/// The new value where the pieces of a range give way to `value`. Where there are too few before it, empty ones are put in.
+/// The new value where the pieces of a range give way to `value`. Where there are too few before it, empty ones are put in. One above the limit is
+/// `Length`, and no memory is asked for then.
 pub fn set_piece(
     alloc: Global,
     old: &Text,
     separator: &Text,
     range: PieceRange,
     value: &Text,
+    limit: Limit,
 ) -> Result<Text, Failure>
-    ensures { Answers (set_piece_value old.now separator.now range value.now) result }
+    ensures { Answers (set_piece_value limit old.now separator.now range value.now) result }
 {
     if separator.is_empty() {
         return Ok(old.try_clone()?);
@@ -131,7 +133,7 @@ pub fn set_piece(
     let old = old.bytes(&mut old_digits);
     let separator = separator.bytes(&mut separator_digits);
     let value = value.bytes(&mut value_digits);
-    replaced(alloc, old, separator, range.first, range.last, value)
+    replaced(alloc, old, separator, range.first, range.last, value, limit)
 }
 
 /// The text where the pieces from `first` to `last` give way to `value`.
@@ -142,6 +144,7 @@ fn replaced(
     first: u64,
     last: u64,
     value: &[u8],
+    limit: Limit,
 ) -> Result<Text, Failure>
     requires some { 0 < length_of separator.now }
     requires from_one { 0 < first }
@@ -149,19 +152,19 @@ fn replaced(
     requires old_limit { length_of old.now ≤ TEXT_LIMIT }
     requires separator_limit { length_of separator.now ≤ TEXT_LIMIT }
     requires value_limit { length_of value.now ≤ TEXT_LIMIT }
-    ensures { Answers (within_limit (with_pieces old.now separator.now (first, last) value.now)) result }
+    ensures { Answers (within_limit limit (with_pieces old.now separator.now (first, last) value.now)) result }
 {
     let Some(rest) = behind(old, separator, first - 1) else {
         let missing = first - count(old, separator) as u64;
-        return assembled(alloc, old, separator, missing, value, &[]);
+        return assembled(alloc, old, separator, missing, value, &[], limit);
     };
     let kept = &old[..old.len() - rest.len()];
     match behind(rest, separator, last - (first - 1)) {
         Some(more) => {
             let back = &rest[rest.len() - more.len() - separator.len()..];
-            assembled(alloc, kept, separator, 0, value, back)
+            assembled(alloc, kept, separator, 0, value, back, limit)
         }
-        None => assembled(alloc, kept, separator, 0, value, &[]),
+        None => assembled(alloc, kept, separator, 0, value, &[], limit),
     }
 }
 
@@ -173,16 +176,17 @@ fn assembled(
     times: u64,
     middle: &[u8],
     back: &[u8],
+    limit: Limit,
 ) -> Result<Text, Failure>
     requires some { 0 < length_of filling.now }
     requires front_limit { length_of front.now ≤ TEXT_LIMIT }
     requires filling_limit { length_of filling.now ≤ TEXT_LIMIT }
     requires middle_limit { length_of middle.now ≤ TEXT_LIMIT }
     requires back_limit { length_of back.now ≤ TEXT_LIMIT }
-    ensures { Answers (within_limit (front.now ++ repeat times filling.now ++ middle.now ++ back.now)) result }
+    ensures { Answers (within_limit limit (front.now ++ repeat times filling.now ++ middle.now ++ back.now)) result }
 {
     let others = front.len() + middle.len() + back.len();
-    if !has_room(others, filling.len(), times) {
+    if !has_room(others, filling.len(), times, limit) {
         return Err(Failure::Fault(Fault::Length));
     }
     let len = others + times as usize * filling.len();
@@ -240,11 +244,13 @@ fn assembled_long(
 }
 
 /// Whether a text has room for so many bytes and a filling of so many more, so many times.
-fn has_room(others: usize, filling: usize, times: u64) -> bool
+fn has_room(others: usize, filling: usize, times: u64, limit: Limit) -> bool
     requires some { 0 < filling }
     requires others_limit { others ≤ 3 * TEXT_LIMIT }
     requires filling_limit { filling ≤ TEXT_LIMIT }
-    ensures { IsTrue result ↔ (others + times * filling ≤ TEXT_LIMIT) }
+    ensures fits { IsTrue result ↔ (others + times * filling ≤ most_bytes limit) }
+    ensures within { IsTrue result → others + times * filling ≤ TEXT_LIMIT }
 {
-    times <= TEXT_LIMIT as u64 && others + times as usize * filling <= TEXT_LIMIT
+    let most = limit.bytes();
+    times <= most as u64 && others + times as usize * filling <= most
 }

@@ -2,10 +2,11 @@
 
 ghost use Rattle.std.specs.Prelude.{◌≡◌, ◌↔◌, [], true, false, IsTrue, IfOk, MatchOption};
 ghost use Rattle.mj_num.specs.Number.{number_of, is_canonic};
+ghost use Rattle.mj_text.specs.Limit.{is_within};
 ghost use Rattle.mj_subs.specs.Tag.{IsTag};
 
 use mj_num::{Num, is_canonic as is_canonic_text};
-use mj_text::{Digits, Text};
+use mj_text::{Digits, Limit, Text};
 use std::alloc::{AllocError, Global};
 use std::cmp::Ordering;
 use std::default::MadeWith;
@@ -65,6 +66,13 @@ impl Sub {
         ensures { IsTrue result ↔ (self.now ≡ []) }
     {
         self.text.is_empty()
+    }
+
+    /// Whether its text is one of this limit.
+    pub fn is_within(&self, limit: Limit) -> bool
+        ensures { result ≡ is_within limit self.now }
+    {
+        self.text.is_within(limit)
     }
 
     /// Its number, where it is a canonic text.

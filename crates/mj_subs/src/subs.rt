@@ -6,10 +6,11 @@ ghost use Rattle.std.specs.Iterator.Adapters.{IterYieldsInOrder};
 ghost use Rattle.std.specs.Option.{option_copied, option_to_list};
 ghost use Rattle.mj_text.specs.declared.fault.Failure.TheVariants as failure;
 ghost use Rattle.mj_text.specs.declared.fault.Fault.TheVariants as fault;
+ghost use Rattle.mj_text.specs.Limit.{are_within};
 ghost use Rattle.mj_subs.specs.Name.{is_proper_front, are_in_line};
 
 use crate::sub::Sub;
-use mj_text::{Failure, Fault};
+use mj_text::{Failure, Fault, Limit};
 use smallvec::SmallVec;
 use std::alloc::{AllocError, Global};
 use std::cmp::Ordering;
@@ -98,6 +99,13 @@ impl Subs {
         ensures limit { length result.now ≤ SUBSCRIPTS_LIMIT }
     {
         self.kept.as_slice()
+    }
+
+    /// Whether the text of each is one of this limit.
+    pub fn are_within(&self, limit: Limit) -> bool
+        ensures { result ≡ are_within limit self.now }
+    {
+        self.as_slice().iter().all(|sub| sub.is_within(limit))
     }
 
     /// The subscripts, one after the other.

@@ -19,9 +19,9 @@ use Rattle.mj_txlog.specs.Accesses.{Transaction, writes_of}
 use Rattle.mj_store.specs.Runs.{name_of}
 use Rattle.mj_sys.specs.History.{History, state_of, AreServed, events_of, log_of}
 
--- the most events of a history (this profile)
+-- the most events of any history (this profile); what a run of a program may have is for its bounds to say
 abbrev pub history_limit : ℕ
-history_limit = 1000000
+history_limit = 4294967295
 
 -- each change in the transaction is of a global
 abbrev pub changes_globals : Option Transaction → Bool

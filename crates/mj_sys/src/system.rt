@@ -32,8 +32,8 @@ use mj_store::Access;
 use std::alloc::{AllocError, Global};
 use std::marker::{Model, PhantomData};
 
-/// How many events a history may have.
-pub const HISTORY_LIMIT: usize = 1_000_000;
+/// How many events any history may have. A run's own limit, which its program's bounds say, is for those to keep to who have it make events.
+pub const HISTORY_LIMIT: usize = 4_294_967_295;
 
 /// What all jobs share, with the history that left it so from the opening.
 #[derive(Drop)]

@@ -1,6 +1,7 @@
 // What jobs of the tests begin with: the image of a single routine, `R`, and starts at its first line.
 
 ghost use Rattle.std.specs.Prelude.{◌≡◌, [], true, IfOk, OnOk};
+ghost use Rattle.mj_text.specs.declared.limit.Limit.TheVariants.{V2};
 ghost use Rattle.mj_load.specs.Image.{IsWithinLimits};
 ghost use Rattle.mj_sys.specs.Opening.{are_bare};
 
@@ -8,11 +9,13 @@ use mj_ask::{Entry, Start};
 use mj_ast::Routine;
 use mj_dev::{Memory, Pool};
 use mj_load::{Image, load};
-use mj_text::{Failure, Text};
+use mj_text::{Failure, Limit, Text};
 use std::alloc::Global;
 
-/// The image of the routine `R` alone.
-pub fn image(alloc: Global, bytes: &str) -> Result<Image, Failure> {
+/// The image of the routine `R` alone, with the greater limit of texts.
+pub fn image(alloc: Global, bytes: &str) -> Result<Image, Failure>
+    ensures { IfOk result (λ image. image.bounds.limit ≡ V2) }
+{
     let routine = routine(alloc, b"R", bytes)?;
     let mut routines = Vec::new(alloc);
     if let Err(failed) = routines.push(routine) {
@@ -20,7 +23,7 @@ pub fn image(alloc: Global, bytes: &str) -> Result<Image, Failure> {
         drop(routines);
         return Err(Failure::Memory);
     }
-    match load(alloc, routines) {
+    match load(alloc, routines, Limit::V2) {
         Ok(image) => Ok(image),
         Err(refused) => {
             drop(refused);

@@ -2,6 +2,7 @@
 
 ghost use Rattle.std.specs.Prelude.{◌≡◌, ◌≤◌, [], length, true, IfOk};
 ghost use Rattle.mj_dev.specs.Pools.{shelves_of};
+ghost use Rattle.mj_text.specs.declared.limit.Limit.TheVariants.{V2};
 ghost use Rattle.mj_dev.specs.Shelves.{principal, left_of};
 ghost use Rattle.mj_jobs.specs.Rows.{rows_limit};
 ghost use Rattle.mj_sys.specs.Opening.{opening_of, are_bare};
@@ -15,7 +16,7 @@ use mj_globs::Globals;
 use mj_load::Image;
 use mj_sys::Opening;
 use mj_text::{Failure, Text};
-use mj_trace::event_line;
+use mj_trace::{Form, event_line};
 use std::alloc::{AllocError, Global};
 use std::marker::Brand;
 use std::str;
@@ -52,7 +53,8 @@ fn begun(
     starts: Vec<Start>,
     steps: &[u8],
 ) -> Result<Vec<u8>, Failure>
-    requires { are_bare starts.items ≡ true }
+    requires long { image.bounds.limit ≡ V2 }
+    requires bare { are_bare starts.items ≡ true }
 {
     let fits = match pool_of(alloc, &sessions) {
         Ok(pool) => {
@@ -79,6 +81,7 @@ fn run<O: Opening>(
     starts: Vec<Start>,
     steps: &[u8],
 ) -> Result<Vec<u8>, Failure>
+    requires long { image.bounds.limit ≡ V2 }
     requires opening { opening_of [] (shelves_of sessions.items) starts.items ≡ O.opening }
     requires some { 1 ≤ length starts.items }
     requires few { length starts.items ≤ rows_limit }
@@ -183,7 +186,7 @@ fn put_event<O: Opening>(
     match core.event(at) {
         None => Ok(()),
         Some((job, ask, reply)) => {
-            let line = event_line(alloc, job, ask, reply)?;
+            let line = event_line(alloc, Form::First, job, None, ask, reply)?;
             let put = lines.extend_from_slice(&line);
             drop(line);
             put

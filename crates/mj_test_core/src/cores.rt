@@ -1,6 +1,7 @@
 // The blocks of what two jobs of a core did, and the globals that they left.
 
 ghost use Rattle.std.specs.Prelude.{◌≡◌, ◌≤◌, length, true, IfOk};
+ghost use Rattle.mj_text.specs.declared.limit.Limit.TheVariants.{V2};
 ghost use Rattle.mj_dev.specs.Shelves.{principal, left_of};
 ghost use Rattle.mj_jobs.specs.Rows.{rows_limit};
 ghost use Rattle.mj_sys.specs.Opening.{opening_of, are_bare};
@@ -66,7 +67,7 @@ fn two_jobs(alloc: Global, ready: bool) -> Result<First, Failure> {
 // Both read 5 before either writes, outside a transaction: so one of the two additions is lost. Each access is a block of its own.
 #[test]
 fn an_update_is_lost_outside_a_transaction(rt: HostRuntime) -> Result<(), Fail> {
-    let left = "mj-globals 1\n^A=\"6\"\n";
+    let left = "mj-globals 2\n^A=\"6\"\n";
     let (found, is_left) = added(rt.alloc(), &[1, 1, 2, 2, 1, 2, 1, 1, 2, 2], left)?;
     assert_eq!(rt;
         found,
@@ -84,7 +85,7 @@ fn an_update_is_lost_outside_a_transaction(rt: HostRuntime) -> Result<(), Fail> 
 // The second reads what the first wrote: so both are there.
 #[test]
 fn no_update_is_lost_where_the_second_begins_late(rt: HostRuntime) -> Result<(), Fail> {
-    let left = "mj-globals 1\n^A=\"7\"\n";
+    let left = "mj-globals 2\n^A=\"7\"\n";
     let (found, is_left) = added(rt.alloc(), &[1, 1, 1, 1, 1, 2, 2, 2, 2, 2], left)?;
     assert_eq!(rt;
         found,
@@ -103,7 +104,7 @@ fn no_update_is_lost_where_the_second_begins_late(rt: HostRuntime) -> Result<(),
 fn added(alloc: Global, steps: &[u32], left: &str) -> Result<(First, bool), Failure> {
     let (blocks, listing) = stepped(
         alloc,
-        Some("mj-globals 1\n^A=\"5\"\n"),
+        Some("mj-globals 2\n^A=\"5\"\n"),
         " SET ^A=^A+1\n",
         steps,
         false,
@@ -139,7 +140,8 @@ fn with_globals(
     steps: &[u32],
     ready: bool,
 ) -> Result<Left, Failure>
-    requires { are_global globals.content ≡ true }
+    requires long { image.bounds.limit ≡ V2 }
+    requires global { are_global globals.content ≡ true }
 {
     let mut pool = Pool::new(alloc);
     match opened(alloc, &mut pool) {
@@ -178,6 +180,7 @@ fn begun(
     steps: &[u32],
     ready: bool,
 ) -> Result<Left, Failure>
+    requires long { image.bounds.limit ≡ V2 }
     requires global { are_global globals.content ≡ true }
     requires bare { are_bare starts.items ≡ true }
 {
@@ -201,6 +204,7 @@ fn run<D: Device, O: Opening>(
     steps: &[u32],
     ready: bool,
 ) -> Result<Left, Failure>
+    requires long { image.bounds.limit ≡ V2 }
     requires opening { opening_of globals.content pool starts.items ≡ O.opening }
     requires global { are_global globals.content ≡ true }
     requires some { 1 ≤ length starts.items }

@@ -1,6 +1,7 @@
 // A routine, stepped over devices that fail and count their drops: its history, and where they were dropped.
 
 ghost use Rattle.std.specs.Prelude.{◌≡◌, ◌≤◌, length, true, IfOk};
+ghost use Rattle.mj_text.specs.declared.limit.Limit.TheVariants.{V2};
 ghost use Rattle.mj_dev.specs.Shelves.{principal, left_of};
 ghost use Rattle.mj_jobs.specs.Rows.{rows_limit};
 ghost use Rattle.mj_sys.specs.Opening.{opening_of, are_bare};
@@ -17,8 +18,8 @@ use mj_globs::Globals;
 use mj_load::Image;
 use mj_sessions::Sessions;
 use mj_sys::Opening;
-use mj_text::Failure;
-use mj_trace::event_line;
+use mj_text::{Failure, Limit};
+use mj_trace::{Form, event_line};
 use std::alloc::{AllocError, Global};
 use std::marker::Brand;
 
@@ -89,7 +90,9 @@ fn begun<D: Device>(
     image: Image,
     pool: Pool<D>,
     drops: &Drops,
-) -> Result<Vec<u8>, Failure> {
+) -> Result<Vec<u8>, Failure>
+    requires long { image.bounds.limit ≡ V2 }
+{
     match opened(alloc, listing) {
         Ok((globals, starts)) => {
             begun_on(
@@ -132,7 +135,7 @@ pub fn globals(alloc: Global, listing: Option<&str>) -> Result<Globals, Failure>
     let Some(listing) = listing else {
         return Ok(Globals::new(alloc));
     };
-    match read(alloc, listing.as_bytes()) {
+    match read(alloc, listing.as_bytes(), Limit::V2) {
         Ok(globals) => Ok(globals),
         Err(refused) => {
             drop(refused);
@@ -150,6 +153,7 @@ fn begun_on<D: Device>(
     starts: Vec<Start>,
     drops: &Drops,
 ) -> Result<Vec<u8>, Failure>
+    requires long { image.bounds.limit ≡ V2 }
     requires global { are_global globals.content ≡ true }
     requires bare { are_bare starts.items ≡ true }
 {
@@ -173,6 +177,7 @@ fn run<D: Device, O: Opening>(
     starts: Vec<Start>,
     drops: &Drops,
 ) -> Result<Vec<u8>, Failure>
+    requires long { image.bounds.limit ≡ V2 }
     requires opening { opening_of globals.content pool starts.items ≡ O.opening }
     requires global { are_global globals.content ≡ true }
     requires some { 1 ≤ length starts.items }
@@ -261,7 +266,7 @@ fn put_event<D: Device, O: Opening>(
     lines: &mut Vec<u8>,
 ) -> Result<(), AllocError> {
     if let Some((job, ask, reply)) = core.event(at) {
-        let line = event_line(alloc, job, ask, reply)?;
+        let line = event_line(alloc, Form::First, job, None, ask, reply)?;
         lines.extend_from_slice(&line)?;
         lines.push(b'\n')?;
     }

@@ -165,7 +165,7 @@ F is dropped
 1 dev \"0\" end done
 0 is dropped
 1 halt done
-mj-globals 1
+mj-globals 2
 ^A=\"1\"
 ---
 0 is dropped
@@ -185,7 +185,7 @@ F is dropped
 1 dev \"0\" end done
 0 is dropped
 1 halt F16 done
-mj-globals 1
+mj-globals 2
 ^A=\"1\"
 ---
 0 is dropped
@@ -206,7 +206,7 @@ F is dropped
 1 dev \"0\" end done
 0 is dropped
 1 halt F16 done
-mj-globals 1
+mj-globals 2
 ^A=\"1\"
 ---
 0 is dropped
@@ -229,7 +229,7 @@ F is dropped
 1 dev \"0\" end done
 0 is dropped
 1 halt done
-mj-globals 1
+mj-globals 2
 ^A=\"1\"
 ---
 0 is dropped
@@ -250,7 +250,7 @@ fn each_call_of_the_principal_device_of_a_job_that_has_all_fails(
 1 dev \"0\" end done
 0 is dropped
 1 halt F16 done
-mj-globals 1
+mj-globals 2
 ^A=\"1\"
 ---
 F is dropped
@@ -274,7 +274,7 @@ F is dropped
 1 dev \"0\" end failed
 0 is dropped
 1 halt done
-mj-globals 1
+mj-globals 2
 ^A=\"1\"
 ---
 0 is dropped
@@ -287,7 +287,7 @@ fn leaves(rt: &HostRuntime, named: u64, principal: u64, wanted: &str) -> Result<
     let bytes = " OPEN \"F\" USE \"F\" WRITE \"x\" LOCK +^L TSTART  SET ^A=2 HALT\n";
     let lines = stepped_on(
         rt.alloc(),
-        "mj-globals 1\n^A=\"1\"\n",
+        "mj-globals 2\n^A=\"1\"\n",
         bytes,
         named,
         principal,

@@ -1,5 +1,8 @@
 // A job alone, which is told `done` whatever it asks.
 
+ghost use Rattle.std.specs.Prelude.{◌≡◌, true};
+ghost use Rattle.mj_ask.specs.Within.{is_reply_within};
+ghost use Rattle.mj_ask.specs.declared.ask.Reply.TheVariants as replies;
 ghost use Rattle.mj_semantics.specs.Job.{Start as Starts};
 ghost use Rattle.mj_load.specs.Image.{Loaded};
 ghost use Rattle.mj_jobvm.specs.Jobs.{IsIn, IsRunOf};
@@ -10,7 +13,7 @@ use mj_ask::Reply;
 use mj_jobvm::{Job, Turn};
 use mj_load::Image;
 use mj_text::Failure;
-use mj_trace::put_event;
+use mj_trace::{Form, put_event};
 use std::alloc::{AllocError, Global};
 use std::test::Fail;
 
@@ -83,7 +86,8 @@ fn is_over(image: &Image, job: &mut Job) -> Result<bool, AllocError>
 
 // Tells a job `done`, if that fits what it asks.
 fn tell(job: &mut Job)
-    ensures { (image : Loaded) (start : Starts) → IsRunOf image start job.old → IsRunOf image start job.new }
+    ensures { (image : Loaded) (start : Starts) → is_reply_within image.bounds.limit replies.Done ≡ true
+        → IsRunOf image start job.old → IsRunOf image start job.new }
 {
     if let Some(ask) = job.ask() {
         if ask.fits(&Reply::Done) {
@@ -99,7 +103,7 @@ fn last_lines(alloc: Global, job: &Job) -> Result<Vec<u8>, AllocError> {
     let mut lines = Vec::new(alloc);
     put_number(alloc, &mut lines, count)?;
     for (ask, reply) in log.get(count.saturating_sub(4)..).unwrap_or(&[]) {
-        put_event(alloc, &mut lines, 1, ask, reply)?;
+        put_event(alloc, &mut lines, Form::First, 1, None, ask, reply)?;
     }
     Ok(lines)
 }

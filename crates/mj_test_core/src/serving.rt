@@ -16,7 +16,7 @@ use mj_store::{Access, Direction};
 use mj_subs::{Name, Sub, Subs};
 use mj_sys::{Claim, Opening, Served, System};
 use mj_text::{Failure, Text};
-use mj_trace::event_line;
+use mj_trace::{Form, event_line};
 use std::alloc::{AllocError, Global};
 use std::marker::Brand;
 use std::test::Fail;
@@ -323,7 +323,7 @@ fn serve<O: Opening>(
 }
 
 fn judge(alloc: Global, job: u32, ask: &Ask, reply: &Reply, line: &str) -> Result<(), Fail> {
-    let spelled = event_line(alloc, job, ask, reply)?;
+    let spelled = event_line(alloc, Form::First, job, None, ask, reply)?;
     let told = hold(spelled.as_slice() == line.as_bytes(), line, &spelled);
     drop(spelled);
     told

@@ -164,7 +164,7 @@ fn is_line(input: &Input, line: &[u8]) -> bool {
 fn lines_of_an_input(rt: HostRuntime) -> Result<(), test::Fail> {
     let input = input(rt.alloc())?;
     let mut device = Memory::new(rt.alloc(), input);
-    let longest = [120; TEXT_LIMIT];
+    let longest = vec![in rt.alloc(); 120u8; TEXT_LIMIT]?;
     for line in [b"one\r".as_slice(), b"", longest.as_slice(), b"last"] {
         assert!(rt; device.failures() < 10 && is_line(&device.read(), line));
     }
@@ -176,14 +176,14 @@ fn lines_of_an_input(rt: HostRuntime) -> Result<(), test::Fail> {
 // Lines of which one is as long as a text may be, and the last isn't ended.
 fn input(alloc: Global) -> Result<Vec<u8>, AllocError> {
     let mut input = b"one\r\n\n".to_vec(alloc)?;
-    input.extend_from_slice([120; TEXT_LIMIT].as_slice())?;
+    input.extend_from_slice(&vec![in alloc; 120u8; TEXT_LIMIT]?)?;
     input.extend_from_slice(b"\nlast")?;
     Ok(input)
 }
 
 #[test]
 fn a_line_is_too_long(rt: HostRuntime) -> Result<(), test::Fail> {
-    let input = [120; TEXT_LIMIT + 1].to_vec(rt.alloc())?;
+    let input = vec![in rt.alloc(); 120u8; TEXT_LIMIT + 1]?;
     let mut device = Memory::new(rt.alloc(), input);
     let failed = device.failures() < 10 && matches!(device.read(), Input::Failed);
     let failures = device.failures();

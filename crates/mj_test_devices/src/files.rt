@@ -105,7 +105,7 @@ fn first_wrong_of_lines<D: Device>(device: D) -> Option<usize> {
 // A line, and one that is longer than a text.
 fn long_input(alloc: Global) -> Result<Vec<u8>, AllocError> {
     let mut input = b"hi\n".to_vec(alloc)?;
-    input.extend_from_slice([120; TEXT_LIMIT + 1].as_slice())?;
+    input.extend_from_slice(&vec![in alloc; 120u8; TEXT_LIMIT + 1]?)?;
     Ok(input)
 }
 

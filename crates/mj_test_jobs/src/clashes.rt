@@ -6,7 +6,7 @@ use mj_store::{Access, Answer};
 use mj_sys::Event;
 use mj_test_runs::{Runner, folder, left, remove, run_text, write};
 use mj_text::Failure;
-use mj_trace::{Trace, event_line, read_trace};
+use mj_trace::{Form, Trace, event_line, read_trace};
 use mj_txlog::Entry;
 use std::alloc::{AllocError, Global};
 use std::str;
@@ -93,26 +93,27 @@ fn the_second_to_commit_is_restarted(rt: HostRuntime) -> Result<(), Fail> {
         &rt,
         "--start|^R|--start|^R",
         " TSTART ():SERIAL\n SET X=^A\n SET ^A=X+1\n TCOMMIT\n",
-        "mj-globals 1\n^A=\"5\"\n",
+        "mj-globals 2\n^A=\"5\"\n",
         "1\n1\n1\n2\n2\n2\n1\n1\n2\n2\n2\n2\n2\n2\n",
-        "mj-trace 1
+        "mj-trace 2
+limit 1048576
 pool \"0\" 255
 start ^R
 start ^R
-1 dev \"0\" begin done
-1 begin serial done
-1 value ^A \"5\"
-2 dev \"0\" begin done
-2 begin serial done
-2 value ^A \"5\"
-1 set ^A \"6\" done
-1 commit done
-2 set ^A \"6\" done
-2 commit clash 1 \"5\" \"6\"
-2 begin serial done
-2 value ^A \"6\"
-2 set ^A \"7\" done
-2 commit done
+1 - dev \"0\" begin done
+1 - begin serial done
+1 - value ^A \"5\"
+2 - dev \"0\" begin done
+2 - begin serial done
+2 - value ^A \"5\"
+1 - set ^A \"6\" done
+1 - commit done
+2 - set ^A \"6\" done
+2 - commit clash 1 \"5\" \"6\"
+2 - begin serial done
+2 - value ^A \"6\"
+2 - set ^A \"7\" done
+2 - commit done
 ",
     )
 }
@@ -124,26 +125,27 @@ fn write_skew_is_refused(rt: HostRuntime) -> Result<(), Fail> {
         &rt,
         "--start|A^R|--start|B^R",
         "A TSTART ():SERIAL SET X=^B,^A=X+1 TCOMMIT\n QUIT\nB TSTART ():SERIAL SET X=^A,^B=X+1 TCOMMIT\n",
-        "mj-globals 1\n^A=\"0\"\n^B=\"0\"\n",
+        "mj-globals 2\n^A=\"0\"\n^B=\"0\"\n",
         "1\n1\n1\n2\n2\n2\n1\n1\n2\n2\n2\n2\n2\n2\n",
-        "mj-trace 1
+        "mj-trace 2
+limit 1048576
 pool \"0\" 255
 start A^R
 start B^R
-1 dev \"0\" begin done
-1 begin serial done
-1 value ^B \"0\"
-2 dev \"0\" begin done
-2 begin serial done
-2 value ^A \"0\"
-1 set ^A \"1\" done
-1 commit done
-2 set ^B \"1\" done
-2 commit clash 1 \"0\" \"1\"
-2 begin serial done
-2 value ^A \"1\"
-2 set ^B \"2\" done
-2 commit done
+1 - dev \"0\" begin done
+1 - begin serial done
+1 - value ^B \"0\"
+2 - dev \"0\" begin done
+2 - begin serial done
+2 - value ^A \"0\"
+1 - set ^A \"1\" done
+1 - commit done
+2 - set ^B \"1\" done
+2 - commit clash 1 \"0\" \"1\"
+2 - begin serial done
+2 - value ^A \"1\"
+2 - set ^B \"2\" done
+2 - commit done
 ",
     )
 }
@@ -155,21 +157,22 @@ fn a_phantom_clashes(rt: HostRuntime) -> Result<(), Fail> {
         &rt,
         "--start|A^R|--start|B^R",
         "A TSTART ():SERIAL SET X=$ORDER(^Q(\"\")) TCOMMIT\n QUIT\nB SET ^Q(1)=1\n",
-        "mj-globals 1\n",
+        "mj-globals 2\n",
         "1\n1\n1\n2\n2\n1\n1\n1\n1\n",
-        "mj-trace 1
+        "mj-trace 2
+limit 1048576
 pool \"0\" 255
 start A^R
 start B^R
-1 dev \"0\" begin done
-1 begin serial done
-1 order ^Q(\"\") 1 -
-2 dev \"0\" begin done
-2 set ^Q(1) \"1\" done
-1 commit clash 1 - 1
-1 begin serial done
-1 order ^Q(\"\") 1 1
-1 commit done
+1 - dev \"0\" begin done
+1 - begin serial done
+1 - order ^Q(\"\") 1 -
+2 - dev \"0\" begin done
+2 - set ^Q(1) \"1\" done
+1 - commit clash 1 - 1
+1 - begin serial done
+1 - order ^Q(\"\") 1 1
+1 - commit done
 ",
     )
 }
@@ -181,11 +184,11 @@ fn what_came_back_is_no_clash(rt: HostRuntime) -> Result<(), Fail> {
         &rt,
         "--start|A^R|--start|B^R",
         "A TSTART ():SERIAL SET X=^A,^B=X TCOMMIT\n QUIT\nB SET ^A=6,^A=5\n",
-        "mj-globals 1\n^A=\"5\"\n",
+        "mj-globals 2\n^A=\"5\"\n",
         "1\n1\n1\n2\n2\n2\n1\n1\n",
     )?;
     let end =
-        "\n1 value ^A \"5\"\n2 dev \"0\" begin done\n2 set ^A \"6\" done\n2 set ^A \"5\" done\n1 set ^B \"5\" done\n1 commit done\n";
+        "\n1 - value ^A \"5\"\n2 - dev \"0\" begin done\n2 - set ^A \"6\" done\n2 - set ^A \"5\" done\n1 - set ^B \"5\" done\n1 - commit done\n";
     let told = judge(trace.as_str().ends_with(end), trace.as_str());
     drop(trace);
     told
@@ -206,7 +209,7 @@ B TSTART ():SERIAL SET X=^A,^A=X+1 TCOMMIT
  TSTART  SET ^B=^A LOCK -^L TCOMMIT
  SET X=$DATA(^N)
 ",
-        "mj-globals 1\n^A=\"5\"\n",
+        "mj-globals 2\n^A=\"5\"\n",
         "1\n1\n1\n1\n2\n2\n2\n1\n1\n2\n2\n2\n2\n2\n2\n1\n1\n1\n1\n1\n2\n2\n2\n2\n2\n2\n2\n2\n",
     )?;
     let told = has_blocks(rt.alloc(), trace.as_str());
@@ -215,7 +218,7 @@ B TSTART ():SERIAL SET X=^A,^A=X+1 TCOMMIT
 }
 
 fn has_blocks(alloc: Global, trace: &str) -> Result<(), Fail> {
-    let end = "\n2 data ^N 1\n2 dev \"0\" end done\n2 halt done\n";
+    let end = "\n2 - data ^N 1\n2 - dev \"0\" end done\n2 - halt done\n";
     judge(trace.ends_with(end), trace)?;
     let lines = lines(alloc, trace.as_bytes())?;
     let told = judge(
@@ -254,7 +257,7 @@ fn lines(alloc: Global, bytes: &[u8]) -> Result<Vec<u8>, Failure> {
     }
 }
 
-// Of each block a line that says whether it is SERIAL and where it begins, and its accesses as a trace has them.
+// Of each block a line that says whether it is SERIAL and where it begins, and its accesses as a trace of the older form has them.
 fn blocks(alloc: Global, trace: &Trace) -> Result<Vec<u8>, Failure> {
     let mut history = Vec::new(alloc);
     let lines = blocks_of(alloc, trace, &mut history);
@@ -263,8 +266,8 @@ fn blocks(alloc: Global, trace: &Trace) -> Result<Vec<u8>, Failure> {
 }
 
 fn blocks_of(alloc: Global, trace: &Trace, history: &mut Vec<Event>) -> Result<Vec<u8>, Failure> {
-    for (job, ask, reply) in trace.events() {
-        add(history, *job, ask, reply)?;
+    for noted in trace.events() {
+        add(history, noted.job, &noted.ask, &noted.reply)?;
     }
     let blocks = serial_blocks(alloc, history)?;
     let lines = lines_of(alloc, &blocks);
@@ -324,7 +327,7 @@ fn put_accesses(
     Ok(())
 }
 
-// An access as a line of a trace. An unlock has no names there.
+// An access as a line of such a trace. An unlock has no names there.
 fn access_line(alloc: Global, job: u32, entry: &Entry) -> Result<Vec<u8>, AllocError> {
     match entry {
         Entry::Access(access, answer) => {
@@ -335,7 +338,9 @@ fn access_line(alloc: Global, job: u32, entry: &Entry) -> Result<Vec<u8>, AllocE
         }
         Entry::Unlock(_) => event_line(
             alloc,
+            Form::First,
             job,
+            None,
             &Ask::Shared(SharedAsk::UnlockAll),
             &Reply::Done,
         ),
@@ -348,7 +353,7 @@ fn asked(access: &Access) -> Result<Ask, AllocError> {
 
 fn told_line(alloc: Global, job: u32, ask: &Ask, answer: &Answer) -> Result<Vec<u8>, AllocError> {
     let reply = reply_told(answer)?;
-    let line = event_line(alloc, job, ask, &reply);
+    let line = event_line(alloc, Form::First, job, None, ask, &reply);
     drop(reply);
     line
 }

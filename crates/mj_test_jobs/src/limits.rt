@@ -36,7 +36,7 @@ fn leaves_nothing(rt: &impl Runner, folder: &str) -> Result<(), Fail> {
     write(rt, folder, "R.m", b" TSTART  FOR I=1:1 SET ^A=I\n")?;
     let words = "run|--start|^R|--save|DIR/saved|DIR/R.m";
     comes_to(rt, folder, words, b"", "F18 LIMIT R:1\n", "", 1)?;
-    judge_file(rt, folder, "saved", Some("mj-globals 1\n"))?;
+    judge_file(rt, folder, "saved", Some("mj-globals 2\n"))?;
     remove(rt, folder)
 }
 
@@ -81,7 +81,7 @@ fn refuses(rt: &impl Runner, folder: &str) -> Result<(), Fail> {
         "step|--start|^R|--start|^R|--steps|DIR/steps",
         " WRITE \"x\" SET ^A=0 FOR  HANG 1,1,1,1,1,1,1,1,1,1 SET ^A=^A+1\n",
         "--- job 1\nx\n--- job 2\n",
-        "mj-globals 1\n^A=\"83333\"\n",
+        "mj-globals 2\n^A=\"83333\"\n",
     )
 }
 
@@ -129,7 +129,7 @@ fn are_made(rt: &impl Runner, words: &str, out: &str) -> Result<(), Fail> {
         words,
         "A WRITE \"x\" LOCK +^L FOR I=1:1 SET ^A=I\nB HANG 1 LOCK +^L SET ^B=1\nC QUIT\nD FOR I=1:1 SET ^D=I\n",
         out,
-        "mj-globals 1\n^A=\"9994\"\n^D=\"9996\"\n",
+        "mj-globals 2\n^A=\"9994\"\n^D=\"9996\"\n",
     );
     drop(folder);
     told

@@ -53,7 +53,7 @@ fn leaves_in(
 fn jobs_count_by_a_lock(rt: HostRuntime) -> Result<(), Fail> {
     let bytes = " FOR I=1:1:100 LOCK +^L SET ^C=$GET(^C)+1 LOCK -^L\n";
     let out = "--- job 1\n--- job 2\n";
-    let saved = "mj-globals 1\n^C=\"200\"\n";
+    let saved = "mj-globals 2\n^C=\"200\"\n";
     let one = "run|--workers|1|--start|^R|--start|^R";
     leaves(&rt, one, bytes, out, 0, saved)?;
     let two = "run|--workers|2|--start|^R|--start|^R";
@@ -75,7 +75,7 @@ fn a_job_starts_another_one(rt: HostRuntime) -> Result<(), Fail> {
         " JOB A LOCK +^L SET ^X=1 LOCK -^L HALT\nA LOCK +^L SET ^Y=1 LOCK -^L\n",
         "--- job 1\n--- job 2\n",
         0,
-        "mj-globals 1\n^X=\"1\"\n^Y=\"1\"\n",
+        "mj-globals 2\n^X=\"1\"\n^Y=\"1\"\n",
     )?;
     // by one worker alone it comes once the first has ended
     leaves(
@@ -84,7 +84,7 @@ fn a_job_starts_another_one(rt: HostRuntime) -> Result<(), Fail> {
         " JOB A(7) WRITE \"first\" SET ^X=1 QUIT\nA(N) WRITE N,^X\n",
         "--- job 1\nfirst\n--- job 2\n71\n",
         0,
-        "mj-globals 1\n^X=\"1\"\n",
+        "mj-globals 2\n^X=\"1\"\n",
     )
 }
 
@@ -100,7 +100,7 @@ fn a_lock_is_late_in_time(rt: HostRuntime) -> Result<(), Fail> {
         bytes,
         "--- job 1\n--- job 2\n0\n",
         0,
-        "mj-globals 1\n^GO=\"1\"\n^OVER=\"1\"\n",
+        "mj-globals 2\n^GO=\"1\"\n^OVER=\"1\"\n",
     )?;
     let seconds = rt.monotonic()?.saturating_sub(begun).as_secs();
     if seconds < 5 {
@@ -144,7 +144,7 @@ fn one_job_faults(rt: HostRuntime) -> Result<(), Fail> {
         "A WRITE X\nB SET ^B=2 WRITE \"b\"\n",
         "--- job 1\nF1 UNDEF R:1\n--- job 2\nb\n",
         1,
-        "mj-globals 1\n^B=\"2\"\n",
+        "mj-globals 2\n^B=\"2\"\n",
     )
 }
 
@@ -167,7 +167,7 @@ fn has_full_log(rt: &impl Runner, folder: &str, words: &str, out: &str) -> Resul
     let told = comes_to(rt, folder, words.as_str(), b"", out, "", 1);
     drop(words);
     told?;
-    judge_file(rt, folder, "saved", Some("mj-globals 1\n^A=\"999999\"\n"))?;
+    judge_file(rt, folder, "saved", Some("mj-globals 2\n^A=\"999999\"\n"))?;
     remove(rt, folder)
 }
 

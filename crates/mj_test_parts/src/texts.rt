@@ -1,6 +1,6 @@
 // What no clause says: printed names, that calls that allocate can succeed, and how much room a text takes.
 
-use mj_text::{Digits, Failure, Fault, TEXT_LIMIT, Text};
+use mj_text::{Digits, Failure, Fault, Limit, TEXT_LIMIT, Text};
 use std::mem::size_of;
 use std::test::Fail;
 
@@ -20,7 +20,8 @@ fn texts_are_made(rt: HostRuntime) -> Result<(), Fail> {
     let mut digits = Digits::new();
     let few = Text::from(rt.alloc(), b"few\0\xff\"")?;
     assert_eq!(rt; few.bytes(&mut digits), b"few\0\xff\"".as_slice());
-    let many = Text::from(rt.alloc(), [7; TEXT_LIMIT].as_slice())?;
+    let bytes = vec![in rt.alloc(); 7u8; TEXT_LIMIT]?;
+    let many = Text::from(rt.alloc(), &bytes)?;
     assert_eq!(rt; many.len(), TEXT_LIMIT);
     assert!(rt; many.try_clone()? == many);
     Ok(())
@@ -30,7 +31,8 @@ fn texts_are_made(rt: HostRuntime) -> Result<(), Fail> {
 fn texts_are_joined(rt: HostRuntime) -> Result<(), Fail> {
     let mut digits = Digits::new();
     let number = Text::from_number(rt.alloc(), -120);
-    let joined = number.join(&Text::from(rt.alloc(), b" is less than twenty-four bytes")?)?;
+    let back = Text::from(rt.alloc(), b" is less than twenty-four bytes")?;
+    let joined = number.join(&back, Limit::V2)?;
     assert_eq!(rt;
         joined.bytes(&mut digits),
         b"-120 is less than twenty-four bytes".as_slice()

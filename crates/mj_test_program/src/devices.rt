@@ -8,7 +8,7 @@ fn devices_are_written_and_read(rt: HostRuntime) -> Result<(), Fail> {
     let rows = " WRITE \"ab\",?5,\"c\",!,$X,\" \",$Y~ => ab   c~0 1 => 0
  WRITE \"abc\",?2,\"d\",!!?3,\"e\",$X,$Y~ => abcd~~   e42 => 0
  WRITE \"a\",#,$Y,\"b\",*13,$X~ => a\x0c0b\r0 => 0
- WRITE ?40000~ => F5 LENGTH R:1~ => 1
+ WRITE ?1048577~ => F5 LENGTH R:1~ => 1
  WRITE *256~ => F21 CHAR R:1~ => 1
  WRITE *65,*256~ => A~F21 CHAR R:1~ => 1
  WRITE *-1~ => F21 CHAR R:1~ => 1

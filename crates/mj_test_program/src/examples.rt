@@ -105,9 +105,9 @@ LOOK ; the sum, of one moment
  QUIT
 ",
         "run|--start|^TRANSFER",
-        "mj-globals 1\n",
+        "mj-globals 2\n",
         "--- job 1\n1500\n1500\n1500\n1500\n1500\n--- job 2\n--- job 3\n--- job 4\n",
-        Some("mj-globals 1\n^BALANCE(\"Ann\")=\"950\"\n^BALANCE(\"Bob\")=\"550\"\n"),
+        Some("mj-globals 2\n^BALANCE(\"Ann\")=\"950\"\n^BALANCE(\"Bob\")=\"550\"\n"),
     )
 }
 
@@ -144,7 +144,7 @@ LIST ; by name, each with what the index leads to
  QUIT
 ",
         "run|--start|^REGISTRY",
-        "mj-globals 1\n",
+        "mj-globals 2\n",
         "--- job 1\nAnn is Ann\nBob is Bob\nCid is Cid\nDan is Dan\nFlo is Flo\n--- job 2\n--- job 3\n",
         None,
     )
@@ -165,7 +165,7 @@ LEAVE(WHO) ; counts who is on call, and leaves if there are others
  WRITE WHO,$SELECT(COUNT>1:\" leaves\",1:\" stays\"),!
  QUIT
 ";
-    let doctors = "mj-globals 1\n^ONCALL(\"Ann\")=\"\"\n^ONCALL(\"Bob\")=\"\"\n";
+    let doctors = "mj-globals 2\n^ONCALL(\"Ann\")=\"\"\n^ONCALL(\"Bob\")=\"\"\n";
     let starts = "step|--start|ANN^ONCALL|--start|BOB^ONCALL";
     prints(
         &rt,
@@ -174,7 +174,7 @@ LEAVE(WHO) ; counts who is on call, and leaves if there are others
         starts,
         doctors,
         "--- job 1\nAnn leaves\n--- job 2\nBob stays\n",
-        Some("mj-globals 1\n^ONCALL(\"Bob\")=\"\"\n"),
+        Some("mj-globals 2\n^ONCALL(\"Bob\")=\"\"\n"),
     )?;
     let plain = bytes.replace(rt.alloc(), ":SERIAL", "")?;
     let done = prints(
@@ -184,7 +184,7 @@ LEAVE(WHO) ; counts who is on call, and leaves if there are others
         starts,
         doctors,
         "--- job 1\nAnn leaves\n--- job 2\nBob leaves\n",
-        Some("mj-globals 1\n"),
+        Some("mj-globals 2\n"),
     );
     drop(plain);
     done
@@ -210,9 +210,9 @@ TWO(N) ; two digits
  QUIT $EXTRACT(100+N,2,3)
 ",
         "run|--start|^DATES",
-        "mj-globals 1\n",
+        "mj-globals 2\n",
         "1841-01-01\n1970-01-01\n2000-02-29\n",
-        Some("mj-globals 1\n"),
+        Some("mj-globals 2\n"),
     )
 }
 
@@ -234,10 +234,10 @@ COUNT(THING,PART) ; walks down the parts of a thing
  QUIT SUM
 ",
         "run|--start|^PARTS",
-        "mj-globals 1\n",
+        "mj-globals 2\n",
         "64 spokes\n",
         Some(
-            "mj-globals 1
+            "mj-globals 2
 ^PART(\"bicycle\",\"frame\")=\"1\"
 ^PART(\"bicycle\",\"wheel\")=\"2\"
 ^PART(\"wheel\",\"spoke\")=\"32\"

@@ -7,7 +7,8 @@ use std::test::Fail;
 fn functions_give_values(rt: HostRuntime) -> Result<(), Fail> {
     let rows =
         " WRITE $PIECE(\"a,b,c\",\",\",2,3),\" \",$FIND(\"abcabc\",\"bc\",3),\" \",$LENGTH(\"a,,b\",\",\")~ => b,c 7 3 => 0
- SET X=$JUSTIFY(\"\",32767) WRITE $LENGTH(X) SET X=X_\"a\"~ => 32767~F5 LENGTH R:1~ => 1
+ SET X=$JUSTIFY(\"\",32767) WRITE $LENGTH(X) SET X=X_\"a\"~ => 32767 => 0
+ SET X=$JUSTIFY(\"\",1048576) WRITE $LENGTH(X) SET X=X_\"a\"~ => 1048576~F5 LENGTH R:1~ => 1
  SET X=\"a,b\",$PIECE(X,\",\",0)=\"z\" WRITE X~ => a,b => 0
  WRITE $TRANSLATE(\"banana\",\"an\",\"o\"),$SELECT(0:9,1:2)+1*2~ => booo6 => 0
  W $a(\"A\"),$c(66,-1,67),$E(\"abc\",2),$j(7,3),$re(\"abc\"),$tr(\"abc\",\"b\"),$l(\"\")~ => 65BCb  7cbaac0 => 0

@@ -183,12 +183,12 @@ fn files_fail(rt: HostRuntime) -> Result<(), Fail> {
 fn a_long_line_is_a_failure(rt: HostRuntime) -> Result<(), Fail> {
     let asks = " READ X WRITE X,! READ Y WRITE $LENGTH(Y)\n";
     let own = "run|--stdin|--start|^R";
-    prints_long(&rt, own, asks, 32_767, "first\n32767", 0)?;
-    prints_long(&rt, own, asks, 32_768, "first\n", 1)?;
+    prints_long(&rt, own, asks, 1_048_576, "first\n1048576", 0)?;
+    prints_long(&rt, own, asks, 1_048_577, "first\n", 1)?;
     let other = " OPEN \"F\" USE \"F\" READ X,Y USE 0 WRITE X,!,$LENGTH(Y)\n";
     let from = "run|--device|F=in:DIR/lines|--start|^R";
-    prints_long(&rt, from, other, 32_767, "first\n32767", 0)?;
-    prints_long(&rt, from, other, 32_768, "F16 DEVICE R:1\n", 1)
+    prints_long(&rt, from, other, 1_048_576, "first\n1048576", 0)?;
+    prints_long(&rt, from, other, 1_048_577, "F16 DEVICE R:1\n", 1)
 }
 
 // Compares as `prints`, where the input and the file `lines` have a line of so many bytes behind their first.
@@ -253,7 +253,7 @@ fn goes_twice(rt: &impl Runner, folder: &str) -> Result<(), Fail> {
 }
 
 fn goes(rt: &impl Runner, folder: &str, bytes: &str) -> Result<(), Fail> {
-    let kept = "mj-globals 1\n^A=\"1\"\n";
+    let kept = "mj-globals 2\n^A=\"1\"\n";
     write(rt, folder, "kept", kept.as_bytes())?;
     let words =
         "step|--globals|DIR/kept|--save|DIR/kept|--device|F=out:DIR/first|--device|F=out:DIR/second|--start|A^R|--start|B^R";

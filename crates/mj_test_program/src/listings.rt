@@ -7,31 +7,31 @@ const OVER: &str = "run|--start|^R|--globals|DIR/globals|--save|DIR/saved|DIR/R.
 
 #[test]
 fn globals_come_in_and_go_out(rt: HostRuntime) -> Result<(), Fail> {
-    let merged = "mj-globals 1\n^A(1)=\"1\"\n^A(1,2)=\"2\"\n^B=\"1\"\n^B(2)=\"2\"\n^B(9)=\"9\"\n";
-    let before = "mj-globals 1\n^A(1)=\"1\"\n^A(1,2)=\"2\"\n^B(9)=\"9\"\n";
+    let merged = "mj-globals 2\n^A(1)=\"1\"\n^A(1,2)=\"2\"\n^B=\"1\"\n^B(2)=\"2\"\n^B(9)=\"9\"\n";
+    let before = "mj-globals 2\n^A(1)=\"1\"\n^A(1,2)=\"2\"\n^B(9)=\"9\"\n";
     saves(&rt, " MERGE ^B=^A(1)", before, "", 0, merged)?;
-    let text = "mj-globals 1\n^A=\"x\"\"y\\\\\\0a\"\n";
+    let text = "mj-globals 2\n^A=\"x\"\"y\\\\\\0a\"\n";
     saves(&rt, " WRITE ^A", text, "x\"y\\\n", 0, text)?;
-    let one = "mj-globals 1\n^A=\"1\"\n";
-    saves(&rt, " KILL ^A", one, "", 0, "mj-globals 1\n")?;
-    let two = "mj-globals 1\n^A=\"2\"\n";
+    let one = "mj-globals 2\n^A=\"1\"\n";
+    saves(&rt, " KILL ^A", one, "", 0, "mj-globals 2\n")?;
+    let two = "mj-globals 2\n^A=\"2\"\n";
     saves(&rt, " SET ^A=2 WRITE X", one, "F1 UNDEF R:1\n", 1, two)
 }
 
 #[test]
 fn listings_are_refused(rt: HostRuntime) -> Result<(), Fail> {
     refuses(&rt, "", "G1\n")?;
-    refuses(&rt, "mj-globals 1\n^A=\"x", "G2 line 2\n")?;
+    refuses(&rt, "mj-globals 2\n^A=\"x", "G2 line 2\n")?;
     refuses(
         &rt,
-        "mj-globals 1\n^A(2)=\"x\"\n^A(1)=\"y\"\n",
+        "mj-globals 2\n^A(2)=\"x\"\n^A(1)=\"y\"\n",
         "G3 line 3\n",
     )?;
-    refuses(&rt, "mj-globals 1\n^A=\"x\"\n^A=\"y\"\n", "G3 line 3\n")?;
+    refuses(&rt, "mj-globals 2\n^A=\"x\"\n^A=\"y\"\n", "G3 line 3\n")?;
     // a word of 32 bytes, which is told before its place; and where its line isn't spelled so, that is told first
-    let long = "mj-globals 1\n^B=\"x\"\n^A234567890123456789012345678901X=\"y\"\n";
+    let long = "mj-globals 2\n^B=\"x\"\n^A234567890123456789012345678901X=\"y\"\n";
     refuses(&rt, long, "G4 line 3\n")?;
-    let open = "mj-globals 1\n^B=\"x\"\n^A234567890123456789012345678901X=\"y\n";
+    let open = "mj-globals 2\n^B=\"x\"\n^A234567890123456789012345678901X=\"y\n";
     refuses(&rt, open, "G2 line 3\n")
 }
 

@@ -38,7 +38,7 @@ fn fails_in(rt: &impl Runner, folder: &str) -> Result<(), Fail> {
     ] {
         breaks(rt, folder, words)?;
     }
-    judge_file(rt, folder, "saved", Some("mj-globals 1\n^A=\"1\"\n"))?;
+    judge_file(rt, folder, "saved", Some("mj-globals 2\n^A=\"1\"\n"))?;
     remove(rt, folder)
 }
 

@@ -3,6 +3,7 @@
 use crate::traces::is_written;
 use mj_gfile::{ReadError, read, write};
 use mj_rou::LoadError;
+use mj_text::Limit;
 use mj_trace::{TraceError, read_trace};
 use std::alloc::{AllocError, Global};
 
@@ -85,15 +86,23 @@ fn is_judged_routine(alloc: Global, bytes: &[u8]) -> bool {
 }
 
 fn is_judged_listing(alloc: Global, bytes: &[u8]) -> Result<bool, AllocError> {
-    match read(alloc, bytes) {
+    match read(alloc, bytes, Limit::V2) {
         Ok(globals) => {
             let written = write(alloc, &globals);
             drop(globals);
-            Ok(written?.as_slice() == bytes)
+            Ok(is_rewritten(written?.as_slice(), bytes))
         }
         Err(ReadError::Memory) => Ok(false),
         Err(_) => Ok(true),
     }
+}
+
+// Whether a listing was written as it was read. One of version 1 is written as one of version 2, which has another first line.
+fn is_rewritten(written: &[u8], bytes: &[u8]) -> bool {
+    if !bytes.starts_with(b"mj-globals 1\n") {
+        return written == bytes;
+    }
+    written.len() == bytes.len() && written.ends_with(&bytes[13..])
 }
 
 fn is_judged_trace(alloc: Global, bytes: &[u8]) -> Result<bool, AllocError> {

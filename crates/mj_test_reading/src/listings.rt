@@ -2,11 +2,12 @@
 
 use crate::fronts::{Form, wrong_code, wrong_front};
 use mj_gfile::read;
+use mj_text::Limit;
 use std::alloc::{AllocError, Global};
 use std::test::Fail;
 
 // A listing with each kind of name, of subscript and of text.
-const LISTING: &str = "mj-globals 1
+const LISTING: &str = "mj-globals 2
 ^%=\"\"
 ^A=\"20\"
 ^A(-5)=\"a\"\"b\\\\\\ff\"
@@ -25,7 +26,7 @@ const LISTING: &str = "mj-globals 1
 fn each_front_of_a_listing_is_read_or_refused(rt: HostRuntime) -> Result<(), Fail> {
     let bytes = LISTING.as_bytes();
     assert!(rt; bytes.len() >= 200);
-    assert!(rt; read(rt.alloc(), bytes).is_ok());
+    assert!(rt; read(rt.alloc(), bytes, Limit::V2).is_ok());
     assert_eq!(rt; wrong_front(rt.alloc(), Form::Listing, bytes)?, None);
     Ok(())
 }
@@ -37,34 +38,31 @@ fn a_listing_with_one_byte_replaced_is_read_or_refused(rt: HostRuntime) -> Resul
     Ok(())
 }
 
-// A word has at most 31 bytes, a name 31 subscripts, a text 32,767 bytes, as a value and as a subscript.
+// A word has at most 31 bytes, and a name 31 subscripts. A text has at most 32,767 bytes in a listing of version 1 and 1,048,576 in one of version 2, and
+// at most the limit that is handed in, as a value and as a subscript.
 #[test]
 fn what_is_over_a_limit_in_a_listing_is_refused(rt: HostRuntime) -> Result<(), Fail> {
-    limits(rt.alloc(), "^A", "B", "=\"x\"", 30, "G4 line 2")?;
-    limits(rt.alloc(), "^A(1", ",1", ")=\"x\"", 30, "G4 line 2")?;
-    limits(rt.alloc(), "^A=\"", "x", "\"", 32_767, "G4 line 2")?;
-    limits(rt.alloc(), "^A(\"", "x", "\")=\"\"", 32_767, "G4 line 2")
+    let two = "mj-globals 2\n";
+    limits(rt.alloc(), Limit::V2, two, "^A|B|=\"x\"", 30)?;
+    limits(rt.alloc(), Limit::V2, two, "^A(1|,1|)=\"x\"", 30)?;
+    for text in ["^A=\"|x|\"", "^A(\"|x|\")=\"\""] {
+        limits(rt.alloc(), Limit::V2, two, text, 1_048_576)?;
+        limits(rt.alloc(), Limit::V1, two, text, 32_767)?;
+        limits(rt.alloc(), Limit::V2, "mj-globals 1\n", text, 32_767)?;
+        limits(rt.alloc(), Limit::V1, "mj-globals 1\n", text, 32_767)?;
+    }
+    Ok(())
 }
 
-// Fails where a line with so many of the middle isn't read, or one with one more isn't refused so.
-fn limits(
-    alloc: Global,
-    front: &str,
-    middle: &str,
-    back: &str,
-    most: usize,
-    refusal: &str,
-) -> Result<(), Fail> {
-    told(alloc, line(alloc, front, middle, back, most)?, "read")?;
-    told(
-        alloc,
-        line(alloc, front, middle, back, most.saturating_add(1))?,
-        refusal,
-    )
+// Fails where a line with so many of the middle one of its parts, which `|` parts, isn't read behind this header, or one with one more isn't refused.
+fn limits(alloc: Global, limit: Limit, header: &str, parts: &str, most: usize) -> Result<(), Fail> {
+    told(alloc, limit, line(alloc, header, parts, most)?, "read")?;
+    let over = line(alloc, header, parts, most.saturating_add(1))?;
+    told(alloc, limit, over, "G4 line 2")
 }
 
-fn told(alloc: Global, text: String, wanted: &str) -> Result<(), Fail> {
-    let said = outcome(alloc, text.as_bytes());
+fn told(alloc: Global, limit: Limit, text: String, wanted: &str) -> Result<(), Fail> {
+    let said = outcome(alloc, limit, text.as_bytes());
     drop(text);
     let said = said?;
     if said.as_str() == wanted {
@@ -73,8 +71,8 @@ fn told(alloc: Global, text: String, wanted: &str) -> Result<(), Fail> {
     Err(Fail::new(format_args!("{said} in the place of {wanted}")))
 }
 
-fn outcome(alloc: Global, bytes: &[u8]) -> Result<String, AllocError> {
-    match read(alloc, bytes) {
+fn outcome(alloc: Global, limit: Limit, bytes: &[u8]) -> Result<String, AllocError> {
+    match read(alloc, bytes, limit) {
         Ok(globals) => {
             drop(globals);
             String::from_str(alloc, "read")
@@ -83,19 +81,14 @@ fn outcome(alloc: Global, bytes: &[u8]) -> Result<String, AllocError> {
     }
 }
 
-fn line(
-    alloc: Global,
-    front: &str,
-    middle: &str,
-    back: &str,
-    times: usize,
-) -> Result<String, AllocError> {
-    let mut text = String::from_str(alloc, "mj-globals 1\n")?;
-    text.push_str(front)?;
-    for _ in 0..times {
-        text.push_str(middle)?;
+fn line(alloc: Global, header: &str, parts: &str, times: usize) -> Result<String, AllocError> {
+    let mut text = String::from_str(alloc, header)?;
+    for (place, part) in parts.split('|').enumerate() {
+        let times = if place == 1 { times } else { 1 };
+        for _ in 0..times {
+            text.push_str(part)?;
+        }
     }
-    text.push_str(back)?;
     text.push_str("\n")?;
     Ok(text)
 }

@@ -5,7 +5,7 @@ use crate::tables::{Reading, judge};
 use crate::traces::trace_told;
 use std::test::Fail;
 
-// A trace of two devices and two jobs, with every ask and every reply.
+// A trace of the older form, of three devices and three starts, with every ask and every reply.
 const ALL: &str = "mj-trace 1
 pool \"0\" 255
 pool \"F\" 0
@@ -60,28 +60,43 @@ start 007^R
 ";
 
 // The trace of `SET ^Sum=2+3*4 WRITE ^Sum,! HALT`.
-const FIRST: &str = "mj-trace 1
+const FIRST: &str = "mj-trace 2
+limit 1048576
 pool \"0\" 255
 start ^R
-1 dev \"0\" begin done
-1 set ^Sum \"20\" done
-1 value ^Sum \"20\"
-1 dev \"0\" write \"20\" done
-1 dev \"0\" write \"\\0a\" done
-1 dev \"0\" end done
-1 halt done
+1 - dev \"0\" begin done
+1 - set ^Sum \"20\" done
+1 - value ^Sum \"20\"
+1 - dev \"0\" write \"20\" done
+1 - dev \"0\" write \"\\0a\" done
+1 - dev \"0\" end done
+1 - halt done
+";
+
+// A trace with places.
+const PLACED: &str = "mj-trace 2
+limit 32767
+pool \"0\" 1
+start ^R
+1 - dev \"0\" begin done
+1 R:1 set ^A \"20\" done
+1 %z9:4294967295 value ^A \"20\"
+1 Q123456789012345678901234567890:0 begin done
+1 - halt done
 ";
 
 #[test]
 fn traces_are_read_and_written(rt: HostRuntime) -> Result<(), Fail> {
-    for text in [FIRST, ALL, "mj-trace 1\npool \"0\" 1\nstart ^R\n"] {
+    let older = "mj-trace 1\npool \"0\" 1\nstart ^R\n";
+    let smaller = "mj-trace 2\nlimit 32767\npool \"0\" 1\nstart ^R\n";
+    for text in [FIRST, PLACED, ALL, older, smaller] {
         let said = trace_told(rt.alloc(), text.as_bytes())?;
         assert_eq!(rt; said.as_str(), "same");
     }
     Ok(())
 }
 
-// Behind a device and a start.
+// Behind a device and a start, in the older form.
 #[test]
 fn what_is_no_event_is_refused_by_its_line(rt: HostRuntime) -> Result<(), Fail> {
     let rows = "1 value ^A \"20\" => X2 line 4
@@ -119,15 +134,64 @@ fn what_is_no_event_is_refused_by_its_line(rt: HostRuntime) -> Result<(), Fail> 
 start ^R~start ^R~ => X2 line 5
 1 halt done~start ^R~ => X2 line 5
 pool \"1\" 1~ => X2 line 4
+1 - halt done~ => X2 line 4
+1 R:1 halt done~ => X2 line 4
+1 halt done~limit 32767~ => X2 line 5
 ";
     judge(&rt, Reading::Events, rows)
+}
+
+// Behind a device and a start, in today's form.
+#[test]
+fn what_is_no_event_with_a_place_is_refused_by_its_line(rt: HostRuntime) -> Result<(), Fail> {
+    let rows = "1 - halt done~1 R:1 halt done~ => same
+1 halt done~ => X2 line 5
+1 - halt done => X2 line 5
+1  halt done~ => X2 line 5
+1 -- halt done~ => X2 line 5
+1 -1 halt done~ => X2 line 5
+1 - - halt done~ => X2 line 5
+1 R halt done~ => X2 line 5
+1 R: halt done~ => X2 line 5
+1 R:01 halt done~ => X2 line 5
+1 R:-1 halt done~ => X2 line 5
+1 R:4294967296 halt done~ => X2 line 5
+1 R.1 halt done~ => X2 line 5
+1 R :1 halt done~ => X2 line 5
+1 R:1halt done~ => X2 line 5
+1 R:1  halt done~ => X2 line 5
+1 :1 halt done~ => X2 line 5
+1 1:1 halt done~ => X2 line 5
+1 ^R:1 halt done~ => X2 line 5
+1 Q1234567890123456789012345678901:1 halt done~ => X2 line 5
+R:1 1 halt done~ => X2 line 5
+1 - value A \"20\"~ => X2 line 5
+1 - halt done~start ^R~ => X2 line 6
+";
+    judge(&rt, Reading::Placed, rows)
 }
 
 #[test]
 fn what_is_no_trace_is_refused_by_its_first_line(rt: HostRuntime) -> Result<(), Fail> {
     let rows = " => X1
 mj-trace 1 => X1
-mj-trace 2~ => X1
+mj-trace 2 => X1
+mj-trace 3~ => X1
+mj-trace~ => X1
+limit 1048576~mj-trace 2~ => X1
+mj-trace 2~ => X2 line 2
+mj-trace 2~limit 32767 => X2 line 2
+mj-trace 2~limit 32768~ => X2 line 2
+mj-trace 2~limit 0~ => X2 line 2
+mj-trace 2~limit 032767~ => X2 line 2
+mj-trace 2~limit 1048576 ~ => X2 line 2
+mj-trace 2~Limit 1048576~ => X2 line 2
+mj-trace 2~pool \"0\" 1~start ^R~ => X2 line 2
+mj-trace 2~limit 1048576~ => X2 line 3
+mj-trace 2~limit 32767~limit 32767~ => X2 line 3
+mj-trace 2~limit 32767~pool \"0\" 1~ => X2 line 4
+mj-trace 2~limit 1048576~pool \"F\" 1~pool \"0\" 1~ => X2 line 4
+mj-trace 1~limit 32767~ => X2 line 2
 mj-trace 1~ => X2 line 2
 mj-trace 1~pool \"0\" 1~ => X2 line 3
 mj-trace 1~pool \"0\" 1~1 halt done~ => X2 line 3
@@ -144,6 +208,18 @@ mj-trace 1~pool \"0\" 01~ => X2 line 2
 #[test]
 fn each_front_of_a_trace_is_read_or_refused(rt: HostRuntime) -> Result<(), Fail> {
     assert_eq!(rt; wrong_front(rt.alloc(), Form::Trace, ALL.as_bytes())?, None);
+    assert_eq!(rt;
+        wrong_front(rt.alloc(), Form::Trace, PLACED.as_bytes())?,
+        None
+    );
+    Ok(())
+}
+
+#[test]
+fn a_trace_with_places_with_one_byte_replaced_is_read_or_refused(
+    rt: HostRuntime,
+) -> Result<(), Fail> {
+    assert_eq!(rt; wrong_code(rt.alloc(), Form::Trace, PLACED, 0, 1)?, None);
     Ok(())
 }
 

@@ -18,8 +18,10 @@ pub enum Reading {
     Head,
     /// as a trace: `same`, or the refusal
     Trace,
-    /// the same, behind a device and a start
+    /// the same, behind a device and a start of the older form
     Events,
+    /// the same, behind those of today's form
+    Placed,
 }
 
 /// Fails with the rows of a table whose texts aren't read as they want, each with what it gives.
@@ -82,6 +84,10 @@ fn put_text(reading: Reading, text: &str, bytes: &mut Vec<u8>) -> Result<(), All
             bytes.extend_from_slice(b"mj-trace 1\npool \"0\" 2\nstart ^R\n")?;
             put_lines(text, bytes)
         }
+        Reading::Placed => {
+            bytes.extend_from_slice(b"mj-trace 2\nlimit 32767\npool \"0\" 2\nstart ^R\n")?;
+            put_lines(text, bytes)
+        }
         Reading::File | Reading::Head | Reading::Trace => put_lines(text, bytes),
     }
 }
@@ -90,7 +96,7 @@ fn given_of(alloc: Global, reading: Reading, bytes: &[u8]) -> Result<String, All
     match reading {
         Reading::File | Reading::Repeated => outcome(alloc, bytes),
         Reading::Head => head(alloc, bytes),
-        Reading::Trace | Reading::Events => trace_told(alloc, bytes),
+        Reading::Trace | Reading::Events | Reading::Placed => trace_told(alloc, bytes),
     }
 }
 

@@ -31,7 +31,7 @@ fn update_is_lost(rt: &impl Runner, folder: &str) -> Result<(), Fail> {
 fn is_lost(saved: Option<&str>) -> bool {
     matches!(
         saved,
-        Some("mj-globals 1\n^C=\"1\"\n" | "mj-globals 1\n^C=\"2\"\n" | "mj-globals 1\n^C=\"3\"\n")
+        Some("mj-globals 2\n^C=\"1\"\n" | "mj-globals 2\n^C=\"2\"\n" | "mj-globals 2\n^C=\"3\"\n")
     )
 }
 
@@ -121,7 +121,7 @@ fn doctors_leave(rt: &impl Runner, folder: &str) -> Result<(), Fail> {
         "--- job 1\n--- job 2\n",
         0,
     )?;
-    let none_on = "mj-globals 1\n^ON(1)=\"0\"\n^ON(2)=\"0\"\n";
+    let none_on = "mj-globals 2\n^ON(1)=\"0\"\n^ON(2)=\"0\"\n";
     judge_file(rt, folder, "saved", Some(none_on))?;
     remove(rt, folder)
 }

@@ -1,6 +1,7 @@
 // A device with two sessions over files: the second job takes it once the first has ended, which writes to it, and commits nothing.
 
 ghost use Rattle.std.specs.Prelude.{◌≡◌, ◌≤◌, [], length, true};
+ghost use Rattle.mj_text.specs.declared.limit.Limit.TheVariants.{V2};
 ghost use Rattle.mj_dev.specs.Shelves.{principal, left_of};
 ghost use Rattle.mj_jobs.specs.Rows.{rows_limit};
 ghost use Rattle.mj_sys.specs.Opening.{opening_of, are_bare};
@@ -14,7 +15,7 @@ use mj_load::Image;
 use mj_sys::{Opening, System};
 use mj_test_core::begins::{image, starts};
 use mj_text::Failure;
-use mj_trace::event_line;
+use mj_trace::{Form, event_line};
 use mj_work::{Ended, gather, run_workers};
 use std::alloc::{AllocError, Global};
 use std::fs::File;
@@ -132,7 +133,8 @@ fn over_files<R>(
 ) -> Result<Vec<u8>, Failure>
 where
     R: Files<File = File, Dir: Send> + AllocGlobal + Clock + Threads + Wait + Sync,
-    requires { are_bare starts.items ≡ true }
+    requires long { image.now.bounds.limit ≡ V2 }
+    requires bare { are_bare starts.items ≡ true }
 {
     match files_in(rt, folder) {
         Ok(pool) => begun(rt, image, pool, starts),
@@ -185,7 +187,8 @@ where
     F: Files + Drop + Send,
     F::File: Send,
     F::Dir: Send,
-    requires { are_bare starts.items ≡ true }
+    requires long { image.now.bounds.limit ≡ V2 }
+    requires bare { are_bare starts.items ≡ true }
 {
     if starts.len() != 2 || !pool.fits(2) {
         drop(pool);
@@ -201,6 +204,7 @@ fn run<D: Device + Send, O: Opening + Send, R: AllocGlobal + Clock + Threads + W
     pool: Pool<D>,
     starts: Vec<Start>,
 ) -> Result<Vec<u8>, Failure>
+    requires long { image.now.bounds.limit ≡ V2 }
     requires opening { opening_of [] pool starts.items ≡ O.opening }
     requires some { 1 ≤ length starts.items }
     requires few { length starts.items ≤ rows_limit }
@@ -221,7 +225,10 @@ fn work<D: Device + Send, O: Opening + Send, R: AllocGlobal + Clock + Threads + 
     rt: &R,
     image: &Image,
     system: System<D, O>,
-) -> Result<Vec<u8>, Failure> {
+) -> Result<Vec<u8>, Failure>
+    requires long { image.now.bounds.limit ≡ V2 }
+    requires empty { length system.history ≡ 0 }
+{
     let (gate, clock) = (Behind::new(rt), Tries { rt });
     let ran = run_workers(rt, rt.alloc(), 2, system, image, &gate, &clock);
     drop(gate);
@@ -248,7 +255,7 @@ fn lines_of<D: Device, O: Opening>(
     if let Ok(run) = gather(alloc, &ended.system, &ended.rans) {
         for at in 0..run.len() {
             if let Some((job, ask, reply)) = run.event(at) {
-                let line = event_line(alloc, job, ask, reply)?;
+                let line = event_line(alloc, Form::First, job, None, ask, reply)?;
                 lines.extend_from_slice(&line)?;
                 lines.push(b'\n')?;
             }

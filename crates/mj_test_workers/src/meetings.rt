@@ -3,6 +3,7 @@
 
 ghost use Rattle.std.specs.Prelude.{◌≡◌, ◌≤◌, [], length, true};
 ghost use Rattle.mj_dev.specs.Heard.{IsFresh};
+ghost use Rattle.mj_text.specs.declared.limit.Limit.TheVariants.{V2};
 ghost use Rattle.mj_dev.specs.Shelves.{principal, left_of};
 ghost use Rattle.mj_jobs.specs.Rows.{rows_limit};
 ghost use Rattle.mj_sys.specs.Opening.{opening_of, are_bare};
@@ -123,6 +124,7 @@ fn over_two<D: Device + Send, R: AllocGlobal + Clock + Threads + Wait + Sync>(
     requires one { IsFresh (D.failures one) (D.taken one) (D.given one) }
     requires two { IsFresh (D.failures two) (D.taken two) (D.given two) }
     requires bare { are_bare starts.items ≡ true }
+    requires long { image.now.bounds.limit ≡ V2 }
 {
     match pool(rt.alloc(), meeting, one, two) {
         Ok(pool) => begun(rt, meeting, image, pool, starts),
@@ -198,7 +200,8 @@ fn begun<D: Device + Send, R: AllocGlobal + Clock + Threads + Wait + Sync>(
     pool: Pool<D>,
     starts: Vec<Start>,
 ) -> Result<Found, Failure>
-    requires { are_bare starts.items ≡ true }
+    requires long { image.now.bounds.limit ≡ V2 }
+    requires bare { are_bare starts.items ≡ true }
 {
     if starts.len() != 2 || !pool.fits(2) {
         drop(pool);
@@ -215,6 +218,7 @@ fn run<D: Device + Send, O: Opening + Send, R: AllocGlobal + Clock + Threads + W
     pool: Pool<D>,
     starts: Vec<Start>,
 ) -> Result<Found, Failure>
+    requires long { image.now.bounds.limit ≡ V2 }
     requires opening { opening_of [] pool starts.items ≡ O.opening }
     requires some { 1 ≤ length starts.items }
     requires few { length starts.items ≤ rows_limit }
@@ -236,7 +240,10 @@ fn work<D: Device + Send, O: Opening + Send, R: AllocGlobal + Clock + Threads + 
     meeting: &Meeting<'_, R>,
     image: &Image,
     system: System<D, O>,
-) -> Result<Found, Failure> {
+) -> Result<Found, Failure>
+    requires long { image.now.bounds.limit ≡ V2 }
+    requires empty { length system.history ≡ 0 }
+{
     let clock = Tries { rt };
     let ran = run_workers(rt, rt.alloc(), 2, system, image, meeting, &clock);
     drop(clock);

@@ -1,4 +1,5 @@
 pub mod ShortLemmas
 pub mod NumberLemmas
 pub mod FindLemmas
+pub mod LimitLemmas
 pub mod Examples

@@ -3,3 +3,4 @@ pub mod Short
 pub mod Find
 pub mod Fault
 pub mod Failing
+pub mod Limit

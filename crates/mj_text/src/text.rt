@@ -11,8 +11,10 @@ ghost use Rattle.mj_text.specs.declared.fault.Failure.TheVariants as failure;
 ghost use Rattle.mj_text.specs.declared.fault.Fault.TheVariants as fault;
 ghost use Rattle.mj_text.specs.Kept.{IsWhole};
 ghost use Rattle.mj_text.specs.Find.{find_from};
+ghost use Rattle.mj_text.specs.Limit.{most_bytes, is_within};
 
 use crate::fault::{Failure, Fault};
+use crate::limit::Limit;
 use crate::short::{SHORT_LIMIT, Short};
 use itoa::Buffer;
 use memchr::memmem;
@@ -22,8 +24,8 @@ use std::fmt;
 use std::marker::Model;
 use std::sync::Arc;
 
-/// The greatest number of bytes of a text.
-pub const TEXT_LIMIT: usize = 32_767;
+/// The greatest number of bytes of any text.
+pub const TEXT_LIMIT: usize = 1_048_576;
 
 /// Room for the spelling of a text that is kept as a number. One serves any number of texts, one after the other.
 #[derive(Default, Drop)]
@@ -137,6 +139,16 @@ impl Text {
         }
     }
 
+    /// Whether it is a text of this limit. No text is above the greater one.
+    pub fn is_within(&self, limit: Limit) -> bool
+        ensures { result ≡ is_within limit self.now }
+    {
+        match limit {
+            Limit::V1 => self.len() <= limit.bytes(),
+            Limit::V2 => true,
+        }
+    }
+
     /// Its bytes, in order. Those of a number are spelled into `digits`.
     pub fn bytes<'a>(&'a self, digits: &'a mut Digits) -> &'a [u8]
         ensures value { result.now ≡ self.now }
@@ -171,16 +183,16 @@ impl Text {
     }
 
     /// Its bytes and then those of `other`. More than the limit are `Length`.
-    pub fn join(&self, other: &Text) -> Result<Text, Failure>
+    pub fn join(&self, other: &Text, limit: Limit) -> Result<Text, Failure>
         ensures ok { IfOk result (λ t. t ≡ self.now ++ other.now) }
-        ensures long { (result ≡ Err (failure.Fault fault.Length)) ↔ (TEXT_LIMIT < length self.now + length other.now) }
-        ensures within { length self.now + length other.now ≤ TEXT_LIMIT → IsOkUnless result failure.Memory }
+        ensures long { (result ≡ Err (failure.Fault fault.Length)) ↔ (most_bytes limit < length self.now + length other.now) }
+        ensures within { length self.now + length other.now ≤ most_bytes limit → IsOkUnless result failure.Memory }
     {
         let mut digits = Digits::new();
         let mut other_digits = Digits::new();
         let front = self.bytes(&mut digits);
         let back = other.bytes(&mut other_digits);
-        if front.len() + back.len() > TEXT_LIMIT {
+        if front.len() + back.len() > limit.bytes() {
             return Err(Failure::Fault(Fault::Length));
         }
         if back.is_empty() {
@@ -195,10 +207,10 @@ impl Text {
     /// Puts the bytes of `other` to its end. More than the limit are `Length`; then, as with want of memory, it stays as it was. Bytes that no other
     /// text shares stay where they lie as long as there is room behind them, and the room doubles, so a text that grows piece by piece is copied
     /// a few times at most.
-    pub fn append(&mut self, other: &Text) -> Result<(), Failure>
+    pub fn append(&mut self, other: &Text, limit: Limit) -> Result<(), Failure>
         ensures ok { OnOk result (self.new ≡ self.old ++ other.now) }
-        ensures long { (result ≡ Err (failure.Fault fault.Length)) ↔ (TEXT_LIMIT < length self.old + length other.now) }
-        ensures within { length self.old + length other.now ≤ TEXT_LIMIT → IsOkUnless result failure.Memory }
+        ensures long { (result ≡ Err (failure.Fault fault.Length)) ↔ (most_bytes limit < length self.old + length other.now) }
+        ensures within { length self.old + length other.now ≤ most_bytes limit → IsOkUnless result failure.Memory }
         ensures err { OnErr result (self.new ≡ self.old) }
     {
         match &mut self.kept {
@@ -206,6 +218,7 @@ impl Text {
             Kept::Short(short) => {
                 let mut digits = Digits::new();
                 let back = other.bytes(&mut digits);
+                // (few bytes are within each limit)
                 if short.len() + back.len() <= SHORT_LIMIT {
                     short.append(back);
                     return Ok(());
@@ -213,19 +226,19 @@ impl Text {
             }
             Kept::Long(shared) => {
                 if let Some(bytes) = Arc::get_mut(shared) {
-                    return extend(bytes, other);
+                    return extend(bytes, other, limit);
                 }
             }
         }
-        self.append_anew(other)
+        self.append_anew(other, limit)
     }
 
     // Puts the bytes of `other` behind few bytes, or behind bytes that others share, which are copied. There is room behind the copy then, since what was
     // put to a text once often is again.
-    fn append_anew(&mut self, other: &Text) -> Result<(), Failure>
+    fn append_anew(&mut self, other: &Text, limit: Limit) -> Result<(), Failure>
         ensures ok { OnOk result (self.new ≡ self.old ++ other.now) }
-        ensures long { (result ≡ Err (failure.Fault fault.Length)) ↔ (TEXT_LIMIT < length self.old + length other.now) }
-        ensures within { length self.old + length other.now ≤ TEXT_LIMIT → IsOkUnless result failure.Memory }
+        ensures long { (result ≡ Err (failure.Fault fault.Length)) ↔ (most_bytes limit < length self.old + length other.now) }
+        ensures within { length self.old + length other.now ≤ most_bytes limit → IsOkUnless result failure.Memory }
         ensures err { OnErr result (self.new ≡ self.old) }
     {
         let mut digits = Digits::new();
@@ -233,7 +246,7 @@ impl Text {
         let front = self.bytes(&mut digits);
         let back = other.bytes(&mut other_digits);
         let len = front.len() + back.len();
-        if len > TEXT_LIMIT {
+        if len > limit.bytes() {
             return Err(Failure::Fault(Fault::Length));
         }
         if back.is_empty() {
@@ -360,16 +373,16 @@ fn put_together(
 }
 
 // Puts the bytes of a text behind others.
-fn extend(bytes: &mut Vec<u8>, other: &Text) -> Result<(), Failure>
+fn extend(bytes: &mut Vec<u8>, other: &Text, limit: Limit) -> Result<(), Failure>
     ensures ok { OnOk result (bytes.new.items ≡ bytes.old.items ++ other.now) }
-    ensures long { (result ≡ Err (failure.Fault fault.Length)) ↔ (TEXT_LIMIT < length bytes.old.items + length other.now) }
-    ensures within { length bytes.old.items + length other.now ≤ TEXT_LIMIT → IsOkUnless result failure.Memory }
+    ensures long { (result ≡ Err (failure.Fault fault.Length)) ↔ (most_bytes limit < length bytes.old.items + length other.now) }
+    ensures within { length bytes.old.items + length other.now ≤ most_bytes limit → IsOkUnless result failure.Memory }
     ensures limit { length bytes.old.items ≤ TEXT_LIMIT → length bytes.new.items ≤ TEXT_LIMIT }
     ensures err { OnErr result (bytes.new.items ≡ bytes.old.items) }
 {
     let mut digits = Digits::new();
     let back = other.bytes(&mut digits);
-    if bytes.len() + back.len() > TEXT_LIMIT {
+    if bytes.len() + back.len() > limit.bytes() {
         return Err(Failure::Fault(Fault::Length));
     }
     bytes.extend_from_slice(back)?;

@@ -2,6 +2,7 @@
 
 ghost use Rattle.std.specs.Prelude.{◌≡◌, ◌≤◌, true, length, IfOk};
 ghost use Rattle.std.specs.List.{All};
+ghost use Rattle.mj_text.specs.declared.limit.Limit.TheVariants.{V2};
 ghost use Rattle.mj_dev.specs.Shelves.{principal, left_of};
 ghost use Rattle.mj_jobs.specs.Rows.{rows_limit};
 ghost use Rattle.mj_sys.specs.Opening.{opening_of, are_bare};
@@ -23,8 +24,8 @@ use std::thread::Threads;
 /// Runs jobs from their beginning by so many workers, this thread one of them, until all have stopped, and gives what they leave. The other arguments are
 /// those of `System::new`. Where memory is refused before a job runs, all is dropped.
 ///
-/// Each row that is claimed comes back as one `Ran`, which ran in this image; and each row is claimed, unless a job stopped for want of memory or since the
-/// history was full, or a claim was refused for want of memory.
+/// Each row that is claimed comes back as one `Ran`, which ran in this image, whose limit is the greater one; and each row is claimed, unless a job stopped
+/// for want of memory or since the history was full, or a claim was refused for want of memory.
 pub fn run_together<'a, D: Device + Send, O: Opening + Send, R: Threads + Wait + Clock + Sync>(
     rt: &R,
     alloc: Global,
@@ -35,6 +36,7 @@ pub fn run_together<'a, D: Device + Send, O: Opening + Send, R: Threads + Wait +
     starts: Vec<Start>,
 ) -> Result<Ended<'a, D, O>, AllocError>
     requires workers { (1 ≤ n) × (n ≤ workers_limit) }
+    requires long { image.now.bounds.limit ≡ V2 }
     requires opening { opening_of globals.content pool starts.items ≡ O.opening }
     requires global { are_global globals.content ≡ true }
     requires some { 1 ≤ length starts.items }
@@ -42,6 +44,7 @@ pub fn run_together<'a, D: Device + Send, O: Opening + Send, R: Threads + Wait +
     requires fits { length starts.items ≤ left_of principal pool }
     requires bare { are_bare starts.items ≡ true }
     ensures rans { IfOk result (λ e. length e.rans.items ≡ e.system.claimed) }
+    ensures within { IfOk result (λ e. length e.system.history ≤ image.now.bounds.events) }
     ensures images { IfOk result (λ e. All (λ r. r.image ≡ image.now) e.rans.items) }
     ensures claimed { IfOk result (λ e. AreClaimed O.opening e.system e.rans.items e.short) }
 {
@@ -63,8 +66,11 @@ fn run_all<'a, D: Device + Send, O: Opening + Send, R: Threads + Wait + Clock + 
     system: System<D, O>,
 ) -> Result<Ended<'a, D, O>, AllocError>
     requires workers { (1 ≤ n) × (n ≤ workers_limit) }
+    requires long { image.now.bounds.limit ≡ V2 }
     requires first { system.claimed ≡ 0 }
+    requires empty { length system.history ≡ 0 }
     ensures rans { IfOk result (λ e. length e.rans.items ≡ e.system.claimed) }
+    ensures within { IfOk result (λ e. length e.system.history ≤ image.now.bounds.events) }
     ensures images { IfOk result (λ e. All (λ r. r.image ≡ image.now) e.rans.items) }
     ensures claimed { IfOk result (λ e. AreClaimed O.opening e.system e.rans.items e.short) }
 {

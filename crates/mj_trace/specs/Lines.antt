@@ -11,47 +11,71 @@ use Rattle.mj_ask.specs.declared.ask.Ask.{Ask}
 use Rattle.mj_ask.specs.declared.ask.Reply.{Reply}
 use Rattle.mj_ask.specs.Formed.{is_ask, is_reply}
 use Rattle.mj_ask.specs.Fits.{is_reply_to}
+use Rattle.mj_ask.specs.Within.{is_ask_within, is_reply_within}
+use Rattle.mj_ask.specs.declared.noted.Noted.{Noted}
+use Rattle.mj_ask.specs.declared.noted.Spot.{Spot}
+use Rattle.mj_subs.specs.Name.{is_word}
+use Rattle.mj_text.specs.Limit.{is_within}
+use Rattle.mj_text.specs.declared.limit.Limit.TheVariants.{V1, V2}
 use Rattle.mj_gfile.specs.Listing.{lines_of}
 use Rattle.mj_trace.specs.declared.piece.Piece.{Piece}
 use Rattle.mj_trace.specs.declared.piece.Piece.TheVariants as pieces
 use Rattle.mj_trace.specs.declared.refusal.TraceError.{TraceError}
 use Rattle.mj_trace.specs.declared.refusal.TraceError.TheVariants as errors
 use Rattle.mj_trace.specs.declared.run.Run.TheVariants as runs
+use Rattle.mj_trace.specs.declared.form.Form.{Form}
+use Rattle.mj_trace.specs.declared.form.Form.TheVariants.{First, Second}
 use Rattle.mj_trace.specs.Spelling.{event_text}
-use Rattle.mj_trace.specs.Trace.{Traced, header, pool_line, start_line}
-use Rattle.mj_trace.specs.Reading.{onward, front, behind_bytes, skipped, count_in, text_in, ask_in, reply_in}
+use Rattle.mj_trace.specs.Trace.{Traced, header, limit_line, limit_of, pool_line, start_line}
+use Rattle.mj_trace.specs.Reading.{onward, front, behind_bytes, skipped, count_in, text_in, spot_in, ask_in, reply_in}
 
 -- ---- one line
 
--- the line, without its byte 10
-abbrev pub piece_text : Piece → List ℕ
-piece_text (pieces.Device name count) = pool_line (name, count)
-piece_text (pieces.Start entry) = start_line entry
-piece_text (pieces.Event job ask reply) = event_text job ask reply
+-- the line in a form, without its byte 10
+abbrev pub piece_text : Form → Piece → List ℕ
+piece_text form (pieces.Device name count) = pool_line (name, count)
+piece_text form (pieces.Start entry) = start_line entry
+piece_text form (pieces.Event e) = event_text form e
 
 -- what was asked and told can be written: the reply stands in the table behind the ask, whatever the ask's timeout
 abbrev pub are_told : Ask → Reply → Bool
 are_told ask reply = is_ask ask && is_reply reply && is_reply_to ask reply
 
--- an event that can be written
-abbrev pub is_event : ℕ × Ask × Reply → Bool
-is_event e = are_told e.1 e.2
+-- where an ask came from can be written: nowhere in the older form, and in today's nowhere too, or a line of a routine whose name is a word
+abbrev pub is_spot : Form → Option Spot → Bool
+is_spot form None = true
+is_spot First (Some s) = false
+is_spot (Second limit) (Some s) = is_word s.routine
 
--- a line that can be written
-abbrev pub is_piece : Piece → Bool
-is_piece (pieces.Device name count) = true
-is_piece (pieces.Start entry) = is_entry entry
-is_piece (pieces.Event job ask reply) = are_told ask reply
+-- an event that can be written in a form, which has its limit for texts
+abbrev pub is_event : Form → Noted → Bool
+is_event form e = is_spot form e.spot && are_told e.ask e.reply && is_ask_within (limit_of form) e.ask && is_reply_within (limit_of form) e.reply
 
-abbrev pub event_piece : ℕ → Ask → List ℕ → Option Piece
-event_piece job ask rest = option_map (λ reply. pieces.Event job ask reply) (reply_in ask (skipped rest))
+-- a line that can be written in a form
+abbrev pub is_piece : Form → Piece → Bool
+is_piece form (pieces.Device name count) = is_within (limit_of form) name
+is_piece form (pieces.Start entry) = is_entry entry
+is_piece form (pieces.Event e) = is_event form e
 
-abbrev pub asked : ℕ → List ℕ → Option Piece
-asked job rest = onward (event_piece job) (ask_in (skipped rest))
+abbrev pub replied : Ask → List ℕ → Option (Ask × Reply)
+replied ask rest = option_map (λ reply. (ask, reply)) (reply_in ask (skipped rest))
+
+-- an ask and its reply
+abbrev pub told_in : List ℕ → Option (Ask × Reply)
+told_in bs = onward replied (ask_in bs)
+
+-- what a job asked from a place, and what it was told
+abbrev pub asked : ℕ → Option Spot → List ℕ → Option Piece
+asked job spot rest = option_map (λ told. pieces.Event (record { job = job; spot = spot; ask = told.0; reply = told.1 })) (told_in (skipped rest))
+
+-- what stands behind a job's number
+abbrev pub placed : Form → ℕ → List ℕ → Option Piece
+placed First job rest = asked job None rest
+placed (Second limit) job rest = onward (asked job) (spot_in (skipped rest))
 
 -- an event
-abbrev pub event_in : List ℕ → Option Piece
-event_in line = onward asked (count_in line)
+abbrev pub event_in : Form → List ℕ → Option Piece
+event_in form line = onward (placed form) (count_in line)
 
 abbrev pub counted : List ℕ → List ℕ → Option Piece
 counted name rest = option_map (λ p. pieces.Device name p.0) (count_in (skipped rest))
@@ -64,23 +88,23 @@ pooled bs = onward counted (text_in bs)
 abbrev pub starting : List ℕ → Option Piece
 starting bs = option_map pieces.Start (entry_of bs)
 
-abbrev pub piece_with : List ℕ → List ℕ → List ℕ → Option Piece
-piece_with line word rest =
+abbrev pub piece_with : Form → List ℕ → List ℕ → List ℕ → Option Piece
+piece_with form line word rest =
     if bytes_eq word (codes "pool") then pooled (skipped rest)
-    else (if bytes_eq word (codes "start") then starting (skipped rest) else event_in line)
+    else (if bytes_eq word (codes "start") then starting (skipped rest) else event_in form line)
 
 -- what a line may say
-abbrev pub piece_in : List ℕ → Option Piece
-piece_in line = piece_with line (front runs.Letters line) (behind_bytes runs.Letters line)
+abbrev pub piece_in : Form → List ℕ → Option Piece
+piece_in form line = piece_with form line (front runs.Letters line) (behind_bytes runs.Letters line)
 
 -- what was found, where it is spelled so
-abbrev pub respelled : List ℕ → Option Piece → Option Piece
-respelled line None = None
-respelled line (Some p) = if is_piece p && bytes_eq (piece_text p) line then Some p else None
+abbrev pub respelled : Form → List ℕ → Option Piece → Option Piece
+respelled form line None = None
+respelled form line (Some p) = if is_piece form p && bytes_eq (piece_text form p) line then Some p else None
 
 -- what a line says
-abbrev pub piece_of : List ℕ → Option Piece
-piece_of line = respelled line (piece_in line)
+abbrev pub piece_of : Form → List ℕ → Option Piece
+piece_of form line = respelled form line (piece_in form line)
 
 -- ---- one line behind others
 
@@ -121,13 +145,13 @@ may_start pool count = nat_lt count starts_limit && nat_lt count (principal pool
 abbrev pub may_follow : Traced → Piece → Bool
 may_follow t (pieces.Device name count) = is_empty t.starts && is_empty t.events && stands_behind (last_device t.pool) name
 may_follow t (pieces.Start entry) = is_empty t.events && may_start t.pool (length t.starts)
-may_follow t (pieces.Event job ask reply) = not (is_empty t.starts)
+may_follow t (pieces.Event e) = not (is_empty t.starts)
 
 -- the trace with one line more
 abbrev pub with_piece : Traced → Piece → Traced
-with_piece t (pieces.Device name count) = record { pool = t.pool ++ (name, count) ∷ []; starts = t.starts; events = t.events }
-with_piece t (pieces.Start entry) = record { pool = t.pool; starts = t.starts ++ entry ∷ []; events = t.events }
-with_piece t (pieces.Event job ask reply) = record { pool = t.pool; starts = t.starts; events = t.events ++ (job, ask, reply) ∷ [] }
+with_piece t (pieces.Device name count) = record t { pool = t.pool ++ (name, count) ∷ [] }
+with_piece t (pieces.Start entry) = record t { starts = t.starts ++ entry ∷ [] }
+with_piece t (pieces.Event e) = record t { events = t.events ++ e ∷ [] }
 
 abbrev pub followed_by : Traced → ℕ → Option Piece → Result Traced TraceError
 followed_by t k None = Err (errors.Line k)
@@ -135,7 +159,7 @@ followed_by t k (Some p) = if may_follow t p then Ok (with_piece t p) else Err (
 
 -- the trace with line k, which byte 10 ends. One more than there may be is too many, whatever it says
 abbrev pub lined : Traced → ℕ → List ℕ → Result Traced TraceError
-lined t k line = if is_full t then Err (errors.Long k) else followed_by t k (piece_of line)
+lined t k line = if is_full t then Err (errors.Long k) else followed_by t k (piece_of t.form line)
 
 -- ---- all lines
 
@@ -155,13 +179,22 @@ abbrev pub lines_from : Traced → ℕ → List (List ℕ × Bool) → Result Tr
 lines_from t k [] = if is_empty t.starts then Err (errors.Line k) else Ok t
 lines_from t k (l ∷ ls) = then_more (λ u. lines_from u (suc k) ls) (line_added t k l)
 
-abbrev pub no_lines : Traced
-no_lines = record { pool = []; starts = []; events = [] }
+abbrev pub no_lines : Form → Traced
+no_lines form = record { form = form; pool = []; starts = []; events = [] }
 
--- the lines of a file: the first must be the header
+-- the lines behind the header of today's form: the first is that of a limit
+abbrev pub limited : List (List ℕ × Bool) → Result Traced TraceError
+limited [] = Err (errors.Line 2)
+limited (l ∷ ls) =
+    if l.1 && bytes_eq l.0 (limit_line V2) then lines_from (no_lines (Second V2)) 3 ls
+    else (if l.1 && bytes_eq l.0 (limit_line V1) then lines_from (no_lines (Second V1)) 3 ls else Err (errors.Line 2))
+
+-- the lines of a file: the first is the header of a form
 abbrev pub headed : List (List ℕ × Bool) → Result Traced TraceError
 headed [] = Err errors.Header
-headed (l ∷ ls) = if l.1 && bytes_eq l.0 header then lines_from no_lines 2 ls else Err errors.Header
+headed (l ∷ ls) =
+    if l.1 && bytes_eq l.0 (header (Second V2)) then limited ls
+    else (if l.1 && bytes_eq l.0 (header First) then lines_from (no_lines First) 2 ls else Err errors.Header)
 
 -- the trace that some bytes are, or their refusal
 abbrev pub reading_of : List ℕ → Result Traced TraceError
@@ -182,5 +215,6 @@ pub record IsTrace (t : Traced) : Type 0 where
   pub started : is_empty t.starts ≡ false
   pub starts_few : length t.starts ≤ starts_limit
   pub sessions : length t.starts ≤ principal t.pool
-  pub events : list_all is_event t.events ≡ true
+  pub named : list_all (λ d. is_within (limit_of t.form) d.0) t.pool ≡ true
+  pub events : list_all (is_event t.form) t.events ≡ true
   pub events_few : length t.events ≤ events_limit

@@ -18,6 +18,7 @@ use Rattle.mj_store.specs.declared.access.Answer.{Answer}
 use Rattle.mj_store.specs.declared.access.Answer.TheVariants as answers_are
 use Rattle.mj_ask.specs.Written.{entry_of}
 use Rattle.mj_ask.specs.declared.entry.Entry.{Entry}
+use Rattle.mj_ask.specs.declared.noted.Spot.{Spot}
 use Rattle.mj_ask.specs.declared.ask.Kind.TheVariants as kinds
 use Rattle.mj_ask.specs.declared.clash.Kept.{Kept}
 use Rattle.mj_ask.specs.declared.clash.Kept.TheVariants as kepts
@@ -32,6 +33,7 @@ use Rattle.mj_ask.specs.declared.ask.Reply.TheVariants as replies
 use Rattle.mj_gfile.specs.declared.field.Field.{Field}
 use Rattle.mj_gfile.specs.declared.field.Field.TheVariants.{Within, Over}
 use Rattle.mj_gfile.specs.Reading.{front_by, rest_by, is_number_byte, is_word_byte, text_at, subscript_at}
+use Rattle.mj_text.specs.declared.limit.Limit.TheVariants.{V2}
 use Rattle.mj_gfile.specs.Listing.{text_field}
 use Rattle.mj_trace.specs.Devices.{timed_ask, given_by}
 use Rattle.mj_trace.specs.declared.devices.Given.{Given}
@@ -103,11 +105,11 @@ within (Some (Over, rest)) = None
 
 -- the text at the front
 abbrev pub text_in : List ℕ → Option (List ℕ × List ℕ)
-text_in bs = within (text_field (text_at bs))
+text_in bs = within (text_field V2 (text_at bs))
 
 -- the subscript at the front: a text in listing quotes, the empty one too, or a number
 abbrev pub subscript_in : List ℕ → Option (List ℕ × List ℕ)
-subscript_in bs = if begins_with 34 bs then text_in bs else within (text_field (subscript_at bs))
+subscript_in bs = if begins_with 34 bs then text_in bs else within (text_field V2 (subscript_at bs))
 
 -- what is found is put behind a list of no more than so many
 abbrev pub appended : {A : Type 0} → Bool → List A → Option (A × List ℕ) → Option (List A × List ℕ)
@@ -177,6 +179,20 @@ node_more nodes bs = appended true nodes (node_in bs)
 -- the nodes in braces at the front
 abbrev pub subtree_in : List ℕ → Option (Subtree × List ℕ)
 subtree_in bs = closed node_more 125 [] (skipped bs)
+
+-- ---- places
+
+-- the line of a routine, and what follows it
+abbrev pub line_of : List ℕ → ℕ × List ℕ → Option Spot × List ℕ
+line_of routine p = (Some (record { routine = routine; line = p.0 }), p.1)
+
+-- the line of a routine, whose name was found, behind `:`
+abbrev pub line_behind : List ℕ → List ℕ → Option (Option Spot × List ℕ)
+line_behind routine rest = if is_word routine then option_map (line_of routine) (count_in (skipped rest)) else None
+
+-- where an ask came from, at the front: nothing, or the name of a routine and a line of it
+abbrev pub spot_in : List ℕ → Option (Option Spot × List ℕ)
+spot_in bs = if begins_with 45 bs then Some (None, skipped bs) else line_behind (front runs.Word bs) (behind_bytes runs.Word bs)
 
 -- ---- starts
 

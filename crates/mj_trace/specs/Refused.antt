@@ -1,18 +1,25 @@
 -- Why bytes are refused as a trace, said by the spelling alone: up to the line that is refused the bytes are a trace as far as it goes.
-use Rattle.std.specs.Prelude.{◌≡◌, ◌⊎◌, ℕ, ◌+◌, Bool, true, false, ◌&&◌, List, [], ◌++◌, length}
+use Rattle.std.specs.Prelude.{◌≡◌, ◌⊎◌, ℕ, ◌+◌, Bool, true, false, ◌&&◌, List, [], ◌∷◌, ◌++◌, length}
+use Rattle.std.specs.List.{list_all}
 use Rattle.mj_gfile.specs.Listing.{is_text}
 use Rattle.mj_gfile.specs.Refused.{HasLine}
 use Rattle.mj_trace.specs.declared.piece.Piece.{Piece}
 use Rattle.mj_trace.specs.declared.piece.Piece.TheVariants as pieces
 use Rattle.mj_trace.specs.declared.refusal.TraceError.{TraceError}
 use Rattle.mj_trace.specs.declared.refusal.TraceError.TheVariants as errors
-use Rattle.mj_trace.specs.Trace.{Traced, header, trace_text}
+use Rattle.mj_text.specs.declared.limit.Limit.{Limit}
+use Rattle.mj_text.specs.declared.limit.Limit.TheVariants.{V2}
+use Rattle.mj_trace.specs.declared.form.Form.{Form}
+use Rattle.mj_trace.specs.declared.form.Form.TheVariants.{First, Second}
+use Rattle.mj_text.specs.Limit.{is_within}
+use Rattle.mj_trace.specs.Trace.{Traced, header, limit_line, limit_of, trace_text}
 use Rattle.mj_trace.specs.Lines.{piece_text, is_piece, is_full, may_follow, rises, IsTrace}
-use Rattle.mj_trace.specs.Sized.{is_count, ask_fits, reply_fits, IsSized}
+use Rattle.mj_trace.specs.Sized.{is_count, event_fits, IsSized}
 
 -- the devices of a trace, of which nothing else is there
 pub record AreDevices (t : Traced) : Type 0 where
   pub rise : rises t.pool ≡ true
+  pub named : list_all (λ d. is_within (limit_of t.form) d.0) t.pool ≡ true
   pub no_starts : t.starts ≡ []
   pub no_events : t.events ≡ []
 
@@ -20,22 +27,27 @@ pub record AreDevices (t : Traced) : Type 0 where
 abbrev pub IsBegun : Traced → Type 0
 IsBegun t = AreDevices t ⊎ IsTrace t
 
--- how many lines there are, with the header
+-- how many lines tell the form
+abbrev pub head_count : Form → ℕ
+head_count First = 1
+head_count (Second limit) = 2
+
+-- how many lines there are, with these
 abbrev pub line_count : Traced → ℕ
-line_count t = length t.pool + length t.starts + length t.events + 1
+line_count t = head_count t.form + length t.pool + length t.starts + length t.events
 
 -- a line, within the sizes of its values
 abbrev pub is_sized : Piece → Bool
-is_sized (pieces.Device name count) = is_text name && is_count count
+is_sized (pieces.Device name count) = is_text V2 name && is_count count
 is_sized (pieces.Start entry) = true
-is_sized (pieces.Event job ask reply) = is_count job && ask_fits ask && reply_fits reply
+is_sized (pieces.Event e) = event_fits e
 
 -- Behind these lines, which aren't full, there are bytes or the first start is missing. The bytes don't begin with a line that may follow: none is spelled so,
 -- or byte 10 doesn't end it, or it can't stand there.
 pub record IsNoLine (before : Traced) (rest : List ℕ) : Type 0 where
   pub missing : (rest ≡ []) → before.starts ≡ []
   pub room : is_full before ≡ false
-  pub none : (p : Piece) → is_piece p ≡ true → is_sized p ≡ true → may_follow before p ≡ true → ¬ HasLine (piece_text p) rest
+  pub none : (p : Piece) → is_piece before.form p ≡ true → is_sized p ≡ true → may_follow before p ≡ true → ¬ HasLine (piece_text before.form p) rest
 
 -- there are bytes behind as many events as there may be
 pub record IsOneTooMany (before : Traced) (rest : List ℕ) : Type 0 where
@@ -53,10 +65,17 @@ pub record IsFirst (bytes : List ℕ) (number : ℕ) (IsWhy : Traced → List �
   pub place : number ≡ line_count before + 1
   pub why : IsWhy before rest
 
+-- behind the header of today's form stands no line of a limit: that is line 2
+pub record HasNoLimit (bytes : List ℕ) (number : ℕ) : Type 0 where
+  pub rest : List ℕ
+  pub headed : bytes ≡ header (Second V2) ++ 10 ∷ rest
+  pub none : (limit : Limit) → ¬ HasLine (limit_line limit) rest
+  pub second : number ≡ 2
+
 -- why bytes are refused; want of memory says nothing
 abbrev pub IsTraceRefused : List ℕ → TraceError → Type 0
-IsTraceRefused bytes errors.Header = ¬ HasLine header bytes
-IsTraceRefused bytes (errors.Line number) = IsFirst bytes number IsNoLine
+IsTraceRefused bytes errors.Header = ¬ HasLine (header First) bytes × ¬ HasLine (header (Second V2)) bytes
+IsTraceRefused bytes (errors.Line number) = HasNoLimit bytes number ⊎ IsFirst bytes number IsNoLine
 IsTraceRefused bytes (errors.Long number) = IsFirst bytes number IsOneTooMany
 IsTraceRefused bytes errors.Memory = Unit {0}
 

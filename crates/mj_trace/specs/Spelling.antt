@@ -29,6 +29,10 @@ use Rattle.mj_ask.specs.declared.ask.DeviceAsk.TheVariants as device_asks
 use Rattle.mj_ask.specs.declared.ask.Reply.{Reply}
 use Rattle.mj_ask.specs.declared.ask.Reply.TheVariants as replies
 use Rattle.mj_gfile.specs.Spelling.{listed_text, listed_subscript, listed_subscripts, listed_name}
+use Rattle.mj_ask.specs.declared.noted.Spot.{Spot}
+use Rattle.mj_ask.specs.declared.noted.Noted.{Noted}
+use Rattle.mj_trace.specs.declared.form.Form.{Form}
+use Rattle.mj_trace.specs.declared.form.Form.TheVariants.{First, Second}
 use Rattle.mj_trace.specs.Devices.{device_word}
 
 -- a blank, and what follows it
@@ -191,6 +195,24 @@ reply_text (replies.Clash clash) = codes "clash " ++ clash_text clash
 
 -- ---- events
 
--- the line of an event, without the byte 10 that ends it: the job, what it asked, and what it was told
-abbrev pub event_text : ℕ → Ask → Reply → List ℕ
-event_text job a r = decimal job ++ spaced (ask_text a ++ spaced (reply_text r))
+-- an event of which it isn't known where its ask came from
+abbrev pub placeless : ℕ → Ask → Reply → Noted
+placeless job a r = record { job = job; spot = None; ask = a; reply = r }
+
+-- what a job asked, and what it was told
+abbrev pub told_text : Ask → Reply → List ℕ
+told_text a r = ask_text a ++ spaced (reply_text r)
+
+-- where an ask came from: the line of a routine, or nothing
+abbrev pub spot_text : Option Spot → List ℕ
+spot_text None = absent
+spot_text (Some s) = s.routine ++ 58 ∷ decimal s.line
+
+-- where an ask came from, and a blank, where the form says that
+abbrev pub spot_part : Form → Option Spot → List ℕ
+spot_part First spot = []
+spot_part (Second limit) spot = spot_text spot ++ 32 ∷ []
+
+-- the line of an event, without the byte 10 that ends it: the job, where its ask came from, where the form says that, what it asked, and what it was told
+abbrev pub event_text : Form → Noted → List ℕ
+event_text form e = decimal e.job ++ spaced (spot_part form e.spot ++ told_text e.ask e.reply)

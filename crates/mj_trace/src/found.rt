@@ -2,13 +2,14 @@
 
 ghost use Rattle.std.specs.Prelude.{◌≡◌, ◌<◌, ◌^◌, IfOk, IfSome};
 ghost use Rattle.std.specs.Option.{option_map};
-ghost use Rattle.mj_trace.specs.Reading.{number_in, count_in, code_in, text_in, subscript_in};
+ghost use Rattle.mj_trace.specs.Reading.{number_in, count_in, code_in, spot_in, text_in, subscript_in};
 
-use crate::run::{Run, begins_with, split};
+use crate::run::{Run, begins_with, skip, split};
+use mj_ask::Spot;
 use mj_gfile::{Field, read_subscript, read_text};
 use mj_num::Num;
-use mj_subs::Sub;
-use mj_text::Text;
+use mj_subs::{Sub, is_word};
+use mj_text::{Limit, Text};
 use std::alloc::{AllocError, Global};
 
 /// What stands at the front of some bytes, and what follows it, or none where none stands there.
@@ -38,6 +39,30 @@ pub(crate) fn read_count(bytes: &[u8]) -> Found<'_, u32>
     }
 }
 
+/// Finds where an ask came from at the front: nothing, or a line of a routine.
+pub(crate) fn find_spot<'a>(
+    alloc: Global,
+    bytes: &'a [u8],
+) -> Result<Found<'a, Option<Spot>>, AllocError>
+    ensures { IfOk result (λ r. option_map (λ p. (p.0, p.1.now)) r ≡ spot_in bytes.now) }
+{
+    if begins_with(b'-', bytes) {
+        return Ok(Some((None, skip(bytes))));
+    }
+    let (word, rest) = split(bytes, Run::Word);
+    if !is_word(word) {
+        return Ok(None);
+    }
+    let Some((line, rest)) = read_count(skip(rest)) else {
+        return Ok(None);
+    };
+    // a word is no longer than a text may be
+    let Ok(routine) = Text::from(alloc, word) else {
+        return Err(AllocError);
+    };
+    Ok(Some((Some(Spot { routine, line }), rest)))
+}
+
 /// Reads the code of a byte at the front.
 pub(crate) fn read_code(bytes: &[u8]) -> Found<'_, u8>
     ensures { option_map (λ p. (p.0, p.1.now)) result ≡ code_in bytes.now }
@@ -55,7 +80,7 @@ pub(crate) fn read_code(bytes: &[u8]) -> Found<'_, u8>
 pub(crate) fn find_text<'a>(alloc: Global, bytes: &'a [u8]) -> Result<Found<'a, Text>, AllocError>
     ensures { IfOk result (λ r. option_map (λ p. (p.0, p.1.now)) r ≡ text_in bytes.now) }
 {
-    let Some((field, rest)) = read_text(alloc, bytes)? else {
+    let Some((field, rest)) = read_text(alloc, bytes, Limit::V2)? else {
         return Ok(None);
     };
     match field {
@@ -77,7 +102,7 @@ pub(crate) fn find_subscript<'a>(
             None => Ok(None),
         };
     }
-    let Some((field, rest)) = read_subscript(alloc, bytes)? else {
+    let Some((field, rest)) = read_subscript(alloc, bytes, Limit::V2)? else {
         return Ok(None);
     };
     match field {

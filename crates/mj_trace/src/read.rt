@@ -3,16 +3,17 @@
 ghost use Rattle.std.specs.Prelude.{◌≡◌, ◌+◌, ◌<◌, ◌^◌, ◌⊎◌, length, IfOk, IfErr, OnOk, Ok, Err};
 ghost use Rattle.mj_gfile.specs.Listing.{lines_of};
 ghost use Rattle.mj_trace.specs.declared.refusal.TraceError.TheVariants as error;
-ghost use Rattle.mj_trace.specs.Lines.{no_lines, unfinished, lined, lines_from, reading_of, IsTrace};
+ghost use Rattle.mj_trace.specs.Lines.{no_lines, unfinished, lined, lines_from, limited, reading_of, IsTrace};
 ghost use Rattle.mj_trace.specs.Trace.{Traced, trace_text};
 ghost use Rattle.mj_trace.specs.Sized.{IsSized};
 ghost use Rattle.mj_trace.specs.Refused.{IsTraceRefused};
 
-use crate::HEADER;
+use crate::form::{FIRST, Form, SECOND, limit_line};
 use crate::piece::read_piece;
 use crate::refusal::TraceError;
 use crate::trace::Trace;
 use mj_gfile::split_line;
+use mj_text::Limit;
 use std::alloc::Global;
 
 /// Reads the trace that some bytes are. A trace is refused for want of memory alone, and anything else by the first line that is none: one more than there
@@ -37,20 +38,42 @@ fn read(alloc: Global, bytes: &[u8]) -> Result<Trace, TraceError>
     let Some((first, rest)) = split_line(bytes) else {
         return Err(TraceError::Header);
     };
-    if first != HEADER {
-        return Err(TraceError::Header);
+    if first == SECOND {
+        read_limited(alloc, rest)
+    } else if first == FIRST {
+        read_lines(alloc, Form::First, 2, rest)
+    } else {
+        Err(TraceError::Header)
     }
-    read_lines(alloc, rest)
 }
 
-// Reads the trace that the lines behind the header are. What owns it does nothing else that can fail, since each way out of such a function drops it.
-fn read_lines(alloc: Global, bytes: &[u8]) -> Result<Trace, TraceError>
+// Reads the limit of texts, and then the lines behind it.
+fn read_limited(alloc: Global, bytes: &[u8]) -> Result<Trace, TraceError>
     requires { length bytes.now + 2 < 2 ^ 64 }
-    ensures ok { IfOk result (λ trace. lines_from no_lines 2 (lines_of bytes.now) ≡ Ok trace) }
-    ensures err { IfErr result (λ e. (e ≡ error.Memory) ⊎ (lines_from no_lines 2 (lines_of bytes.now) ≡ Err e)) }
+    ensures ok { IfOk result (λ trace. limited (lines_of bytes.now) ≡ Ok trace) }
+    ensures err { IfErr result (λ e. (e ≡ error.Memory) ⊎ (limited (lines_of bytes.now) ≡ Err e)) }
 {
-    let mut trace = Trace::empty(alloc);
-    match add_lines(alloc, &mut trace, bytes) {
+    let Some((first, rest)) = split_line(bytes) else {
+        return Err(TraceError::Line(2));
+    };
+    if first == limit_line(Limit::V2) {
+        read_lines(alloc, Form::Second(Limit::V2), 3, rest)
+    } else if first == limit_line(Limit::V1) {
+        read_lines(alloc, Form::Second(Limit::V1), 3, rest)
+    } else {
+        Err(TraceError::Line(2))
+    }
+}
+
+// Reads the trace that the lines from this number on are, behind those that tell its form. What owns it does nothing else that can fail, since each way out of
+// such a function drops it.
+fn read_lines(alloc: Global, form: Form, number: usize, bytes: &[u8]) -> Result<Trace, TraceError>
+    requires { length bytes.now + number < 2 ^ 64 }
+    ensures ok { IfOk result (λ trace. lines_from (no_lines form) number (lines_of bytes.now) ≡ Ok trace) }
+    ensures err { IfErr result (λ e. (e ≡ error.Memory) ⊎ (lines_from (no_lines form) number (lines_of bytes.now) ≡ Err e)) }
+{
+    let mut trace = Trace::empty(alloc, form);
+    match add_lines(alloc, &mut trace, number, bytes) {
         Ok(()) => Ok(trace),
         Err(error) => {
             drop(trace);
@@ -60,13 +83,12 @@ fn read_lines(alloc: Global, bytes: &[u8]) -> Result<Trace, TraceError>
 }
 
 // Puts these lines into a trace without a line.
-fn add_lines(alloc: Global, trace: &mut Trace, bytes: &[u8]) -> Result<(), TraceError>
-    requires none { trace.old ≡ no_lines }
-    requires few { length bytes.now + 2 < 2 ^ 64 }
-    ensures ok { OnOk result (lines_from no_lines 2 (lines_of bytes.now) ≡ Ok trace.new) }
-    ensures err { IfErr result (λ e. (e ≡ error.Memory) ⊎ (lines_from no_lines 2 (lines_of bytes.now) ≡ Err e)) }
+fn add_lines(alloc: Global, trace: &mut Trace, first: usize, bytes: &[u8]) -> Result<(), TraceError>
+    requires few { length bytes.now + first < 2 ^ 64 }
+    ensures ok { OnOk result (lines_from trace.old first (lines_of bytes.now) ≡ Ok trace.new) }
+    ensures err { IfErr result (λ e. (e ≡ error.Memory) ⊎ (lines_from trace.old first (lines_of bytes.now) ≡ Err e)) }
 {
-    let mut number = 2;
+    let mut number = first;
     let mut rest = bytes;
     while let Some((line, behind)) = split_line(rest) {
         add_line(alloc, trace, number, line)?;
@@ -101,7 +123,7 @@ fn add_line(alloc: Global, trace: &mut Trace, number: usize, line: &[u8]) -> Res
     if trace.is_full() {
         return Err(TraceError::Long(number));
     }
-    let Some(piece) = read_piece(alloc, line)? else {
+    let Some(piece) = read_piece(alloc, trace.form(), line)? else {
         return Err(TraceError::Line(number));
     };
     if trace.may_follow(&piece) {

@@ -4,14 +4,15 @@ ghost use Rattle.std.specs.Prelude.{◌≡◌, ◌++◌, true, codes, IfOk, OnOk
 ghost use Rattle.std.specs.List.{list_all};
 ghost use Rattle.std.specs.Str.{bytes_eq};
 ghost use Rattle.std.specs.Option.{option_copied};
-ghost use Rattle.mj_trace.specs.Trace.{trace_text, event_lines};
+ghost use Rattle.mj_trace.specs.Trace.{trace_text, event_lines, version_of, limit_of};
 ghost use Rattle.mj_trace.specs.Sized.{device_count_fits, event_fits};
 ghost use Rattle.mj_trace.specs.Lines.{no_lines, is_full, stands_behind, principal, may_start, may_follow, with_piece};
 
+use crate::form::Form;
 use crate::head::{put_event, put_opening};
 use crate::piece::Piece;
-use mj_ask::{Ask, Entry, Reply};
-use mj_text::{Digits, Text};
+use mj_ask::{Entry, Noted};
+use mj_text::{Digits, Limit, Text};
 use std::alloc::{AllocError, Global};
 use std::marker::Model;
 
@@ -24,9 +25,10 @@ const EVENTS_LIMIT: usize = 1_000_000;
 /// A run as it is written down: the devices that there are, where the first jobs start, and what each job asked and was told.
 #[derive(Drop)]
 pub struct Trace {
+    form: Form,
     pool: Vec<(Text, u32)>,
     starts: Vec<Entry>,
-    events: Vec<(u32, Ask, Reply)>,
+    events: Vec<Noted>,
 }
 
 impl Model for Trace {
@@ -34,19 +36,41 @@ impl Model for Trace {
 
     ghost Value = { Traced };
 
-    ghost view = { λ t. record { pool = t.pool.items; starts = t.starts.items; events = t.events.items } };
+    ghost view = { λ t. record { form = t.form; pool = t.pool.items; starts = t.starts.items; events = t.events.items } };
 }
 
 impl Trace {
-    /// Makes the trace of these: each device by its name with the number of its sessions, the starts, and the events with their jobs.
-    pub fn new(pool: Vec<(Text, u32)>, starts: Vec<Entry>, events: Vec<(u32, Ask, Reply)>) -> Trace
-        ensures { result ≡ record { pool = pool.items; starts = starts.items; events = events.items } }
+    /// Makes the trace of these: its form, each device by its name with the number of its sessions, the starts, and the events with their jobs and places.
+    pub fn new(form: Form, pool: Vec<(Text, u32)>, starts: Vec<Entry>, events: Vec<Noted>) -> Trace
+        ensures { result ≡ record { form = form; pool = pool.items; starts = starts.items; events = events.items } }
     {
         Trace {
+            form,
             pool,
             starts,
             events,
         }
+    }
+
+    /// How it is written.
+    pub fn form(&self) -> Form
+        ensures { result ≡ self.now.form }
+    {
+        self.form
+    }
+
+    /// 1 or 2, by how it is written.
+    pub fn version(&self) -> u32
+        ensures { result ≡ version_of self.now.form }
+    {
+        self.form.version()
+    }
+
+    /// How long the texts of the run may be.
+    pub fn limit(&self) -> Limit
+        ensures { result ≡ limit_of self.now.form }
+    {
+        self.form.limit()
     }
 
     /// Gives the devices, each with the number of its sessions.
@@ -64,17 +88,18 @@ impl Trace {
     }
 
     /// Gives what each job asked and was told, in order.
-    pub fn events(&self) -> &[(u32, Ask, Reply)]
+    pub fn events(&self) -> &[Noted]
         ensures { result.now ≡ self.now.events }
     {
         &self.events
     }
 
-    /// Makes a trace without a line.
-    pub(crate) fn empty(alloc: Global) -> Trace
-        ensures { result ≡ no_lines }
+    /// Makes a trace without a line behind those that tell its form.
+    pub(crate) fn empty(alloc: Global, form: Form) -> Trace
+        ensures { result ≡ no_lines form }
     {
         Trace {
+            form,
             pool: Vec::new(alloc),
             starts: Vec::new(alloc),
             events: Vec::new(alloc),
@@ -99,7 +124,7 @@ impl Trace {
                     && stands_behind(self.pool.last(), name)
             }
             Piece::Start(_) => self.events.is_empty() && may_start(&self.pool, self.starts.len()),
-            Piece::Event(_, _, _) => !self.starts.is_empty(),
+            Piece::Event(_) => !self.starts.is_empty(),
         }
     }
 
@@ -110,7 +135,7 @@ impl Trace {
         match piece {
             Piece::Device(name, count) => self.pool.push((name, count))?,
             Piece::Start(entry) => self.starts.push(entry)?,
-            Piece::Event(job, ask, reply) => self.events.push((job, ask, reply))?,
+            Piece::Event(event) => self.events.push(event)?,
         }
         Ok(())
     }
@@ -153,15 +178,15 @@ fn is_principal(name: &Text) -> bool
     name.bytes(&mut digits) == b"0".as_slice()
 }
 
-/// Writes a trace. What is written is within the sizes of its values, so it is read back if it can be written.
+/// Writes a trace in its form. What is written is within the sizes of its values, so it is read back if it can be written.
 pub fn write_trace(alloc: Global, trace: &Trace) -> Result<Vec<u8>, AllocError>
     ensures text { IfOk result (λ bytes. bytes.items ≡ trace_text trace.now) }
     ensures devices { IfOk result (λ bytes. list_all device_count_fits trace.now.pool ≡ true) }
     ensures events { IfOk result (λ bytes. list_all event_fits trace.now.events ≡ true) }
 {
     let mut bytes = Vec::new(alloc);
-    put_opening(alloc, &mut bytes, &trace.pool, &trace.starts)?;
-    put_events(alloc, &mut bytes, &trace.events)?;
+    put_opening(alloc, &mut bytes, trace.form, &trace.pool, &trace.starts)?;
+    put_events(alloc, &mut bytes, trace.form, &trace.events)?;
     Ok(bytes)
 }
 
@@ -169,13 +194,22 @@ pub fn write_trace(alloc: Global, trace: &Trace) -> Result<Vec<u8>, AllocError>
 fn put_events(
     alloc: Global,
     bytes: &mut Vec<u8>,
-    events: &[(u32, Ask, Reply)],
+    form: Form,
+    events: &[Noted],
 ) -> Result<(), AllocError>
-    ensures text { OnOk result (bytes.new.items ≡ bytes.old.items ++ event_lines events.now) }
+    ensures text { OnOk result (bytes.new.items ≡ bytes.old.items ++ event_lines form events.now) }
     ensures fits { OnOk result (list_all event_fits events.now ≡ true) }
 {
-    for (job, ask, reply) in events {
-        put_event(alloc, bytes, *job, ask, reply)?;
+    for event in events {
+        put_event(
+            alloc,
+            bytes,
+            form,
+            event.job,
+            event.spot.as_ref(),
+            &event.ask,
+            &event.reply,
+        )?;
     }
     Ok(())
 }

@@ -29,7 +29,8 @@ module _ (n : ℕ) (back : Handler) (s : State) (replies : List Reply) where
       ap (λ b. (if b then outermost else inner) n back s replies) (some_level (omega (arith, h)))
       ∙ ap (λ b. (if b then change raised f else fault Limit) n back s replies) (le-ltb s.level levels_limit h)
 
-  pub no_begin : (restored : Option Words) (serial : Bool) (f g : Timed) → s.level ≡ 0 → is_in_function s ≡ false → 1000000 ≤ s.replied → begin_transaction restored serial f g n back s replies ≡ fault Steps n back s replies
+  pub no_begin : (restored : Option Words) (serial : Bool) (f g : Timed) → s.level ≡ 0 → is_in_function s ≡ false → s.bounds.events ≤ s.replied
+      → begin_transaction restored serial f g n back s replies ≡ fault Steps n back s replies
   no_begin restored serial f g e out h =
       let begun : Reply → Timed = λ r. change (marked restored serial) g in
       let inner : Timed = if nat_lt s.level levels_limit then change raised f else fault Limit in
@@ -47,14 +48,14 @@ module _ (n : ℕ) (back : Handler) (s : State) (replies : List Reply) where
       ap (λ b. (if b then out_of_functions asked else inner) n back s replies) (eq-eqb s.level 0 e)
       ∙ ap (λ b. (if b then fault InTransaction else asked) n back s replies) inside
 
-  pub no_commit : (f g : Timed) → s.level ≡ 1 → 1000000 ≤ s.replied → commit f g n back s replies ≡ fault Steps n back s replies
+  pub no_commit : (f g : Timed) → s.level ≡ 1 → s.bounds.events ≤ s.replied → commit f g n back s replies ≡ fault Steps n back s replies
   no_commit f g e h =
       let ended : Reply → Timed = λ r. if is_clash r then f else change settled g in
       is_open (look (λ t. if nat_lt 1 t.level then change lowered g else ask (asks.Shared shared_asks.Commit) ended)) (omega (arith, e))
       ∙ ap (λ b. (if b then change lowered g else ask (asks.Shared shared_asks.Commit) ended) n back s replies) (le-ltb 1 s.level (omega (arith, e)))
       ∙ no_more _ ended n back s replies h
 
-  pub no_roll_back : (f : Timed) → 0 < s.level → 1000000 ≤ s.replied → roll_back f n back s replies ≡ fault Steps n back s replies
+  pub no_roll_back : (f : Timed) → 0 < s.level → s.bounds.events ≤ s.replied → roll_back f n back s replies ≡ fault Steps n back s replies
   no_roll_back f e h = is_open (ask (asks.Shared shared_asks.Rollback) (λ r. change settled f)) e ∙ no_more _ (λ r. change settled f) n back s replies h
 
   pub no_restart : (f : Timed) → 0 < s.level → can_restart s ≡ false → roll_back_for_restart f n back s replies ≡ fault NoRestart n back s replies
@@ -62,7 +63,7 @@ module _ (n : ℕ) (back : Handler) (s : State) (replies : List Reply) where
       is_open (look (λ t. if can_restart t then ask (asks.Shared shared_asks.Rollback) (λ r. f) else fault NoRestart)) e
       ∙ ap (λ b. (if b then ask (asks.Shared shared_asks.Rollback) (λ r. f) else fault NoRestart) n back s replies) k
 
-  pub no_give_back : (f : Timed) → 0 < s.level → can_restart s ≡ true → 1000000 ≤ s.replied → roll_back_for_restart f n back s replies ≡ fault Steps n back s replies
+  pub no_give_back : (f : Timed) → 0 < s.level → can_restart s ≡ true → s.bounds.events ≤ s.replied → roll_back_for_restart f n back s replies ≡ fault Steps n back s replies
   no_give_back f e k h =
       is_open (look (λ t. if can_restart t then ask (asks.Shared shared_asks.Rollback) (λ r. f) else fault NoRestart)) e
       ∙ ap (λ b. (if b then ask (asks.Shared shared_asks.Rollback) (λ r. f) else fault NoRestart) n back s replies) k

@@ -12,7 +12,7 @@ use mj_ask::{Ask, Reply, SharedAsk};
 use mj_frames::{Frames, Place};
 use mj_locals::Locals;
 use mj_machine::asking::wait;
-use mj_machine::{Control, Machine, STEPS_LIMIT, TransactionMark, TurnOutcome};
+use mj_machine::{Control, Machine, TransactionMark, TurnOutcome};
 use mj_text::Fault;
 use std::alloc::{AllocError, Global};
 
@@ -27,7 +27,7 @@ pub fn begin_restart(
     ensures goes { IfOk result (λ step. GoesBack machine.old (replied given.entry) step machine.new) }
     ensures err { OnErr result (Stays machine.old machine.new) }
 {
-    if machine.replied >= STEPS_LIMIT {
+    if machine.replied >= machine.bounds.events as u64 {
         machine.control = Control::Faulted(Fault::Steps);
         return Ok(TurnOutcome::Next);
     }

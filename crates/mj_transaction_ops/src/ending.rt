@@ -9,7 +9,7 @@ ghost use Rattle.mj_machine.specs.Kept.{state_of, Obeys, Stays, replied};
 use mj_ask::{Ask, Reply, SharedAsk};
 use mj_machine::asking::wait;
 use mj_machine::quiet::fail;
-use mj_machine::{Control, Machine, STEPS_LIMIT, TurnOutcome};
+use mj_machine::{Control, Machine, TurnOutcome};
 use mj_text::Fault;
 use std::alloc::{AllocError, Global};
 
@@ -33,7 +33,7 @@ pub fn commit(
         machine.control = Control::At(pc + 2);
         return Ok(TurnOutcome::Next);
     }
-    if machine.replied >= STEPS_LIMIT {
+    if machine.replied >= machine.bounds.events as u64 {
         return Ok(fail(Fault::Steps, machine));
     }
     match given {
@@ -69,7 +69,7 @@ pub fn roll_back(
     if machine.level == 0 {
         return Ok(fail(Fault::NoTransaction, machine));
     }
-    if machine.replied >= STEPS_LIMIT {
+    if machine.replied >= machine.bounds.events as u64 {
         return Ok(fail(Fault::Steps, machine));
     }
     let Some(_) = given else {
@@ -102,7 +102,7 @@ pub fn roll_back_for_restart(
     if !can_restart(machine) {
         return Ok(fail(Fault::NoRestart, machine));
     }
-    if machine.replied >= STEPS_LIMIT {
+    if machine.replied >= machine.bounds.events as u64 {
         return Ok(fail(Fault::Steps, machine));
     }
     match given {

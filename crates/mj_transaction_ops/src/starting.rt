@@ -15,7 +15,7 @@ use mj_frames::{Frames, Place};
 use mj_locals::{Locals, Snapshot};
 use mj_machine::asking::wait;
 use mj_machine::quiet::fail;
-use mj_machine::{Control, Machine, STEPS_LIMIT, TransactionMark, TurnOutcome};
+use mj_machine::{Control, Machine, TransactionMark, TurnOutcome};
 use mj_pcode::Restores;
 use mj_text::Fault;
 use std::alloc::{AllocError, Global};
@@ -49,7 +49,7 @@ pub fn start_transaction(
     if machine.frames.any_function() {
         return Ok(fail(Fault::InTransaction, machine));
     }
-    if machine.replied >= STEPS_LIMIT {
+    if machine.replied >= machine.bounds.events as u64 {
         return Ok(fail(Fault::Steps, machine));
     }
     match given {

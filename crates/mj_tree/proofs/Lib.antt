@@ -7,3 +7,4 @@ pub mod Copies
 pub mod Trees
 pub mod Undo
 pub mod Walked
+pub mod Within

@@ -10,6 +10,7 @@ ghost use Rattle.std.specs.Map.{lookup, remove_entry};
 ghost use Rattle.mj_store.specs.declared.store.Direction.TheVariants as way;
 ghost use Rattle.mj_store.specs.Nodes.{is_empty, subtree, data_of, next_past};
 ghost use Rattle.mj_store.specs.Questions.{next_from};
+ghost use Rattle.mj_store.specs.Within.{are_nodes_within};
 ghost use Rattle.mj_tree.specs.Nest.{AreFilled, IsAside, IsNoneAside, IsTurn, behind, lead, later, nodes_of, own, without};
 ghost use Rattle.mj_tree.specs.Undo.{restored};
 ghost use Rattle.mj_tree.specs.Walks.{named, StopsSo};
@@ -18,7 +19,7 @@ ghost use Rattle.mj_tree.specs.declared.sink.SinkStop.TheVariants as stops;
 use crate::sink::{Sink, SinkStop};
 use mj_store::{Direction, Nodes};
 use mj_subs::{Sub, Subs};
-use mj_text::Text;
+use mj_text::{Limit, Text};
 use std::alloc::{AllocError, Global};
 use std::collections::BTreeMap;
 use std::marker::Model;
@@ -315,6 +316,24 @@ impl Node {
         self.text.is_none() && self.children.is_empty()
     }
 
+    /// Whether what stands at it and below it keeps to this limit: each subscript that leads there, and each text.
+    pub fn is_within(&self, limit: Limit) -> bool
+        ensures { result ≡ are_nodes_within limit self.now }
+    {
+        if !is_own_within(&self.text, limit) {
+            return false;
+        }
+        for (sub, child) in &self.children {
+            if !sub.is_within(limit) {
+                return false;
+            }
+            if !child.is_within(limit) {
+                return false;
+            }
+        }
+        true
+    }
+
     /// Takes out what stands at the place and below it.
     pub fn kill(&mut self, path: &[Sub])
         ensures { self.new ≡ without subscript_cmp path.now self.old }
@@ -433,6 +452,16 @@ fn collect_own(text: &Option<Text>, front: &Subs, nodes: &mut Nodes) -> Result<(
     match text {
         None => Ok(()),
         Some(text) => nodes.push(front.try_clone()?, text.try_clone()?),
+    }
+}
+
+// Whether the text of a node itself, where there is one, is one of this limit.
+fn is_own_within(text: &Option<Text>, limit: Limit) -> bool
+    ensures { result ≡ are_nodes_within limit (own text.now) }
+{
+    match text {
+        None => true,
+        Some(text) => text.is_within(limit),
     }
 }
 

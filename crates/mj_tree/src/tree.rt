@@ -5,6 +5,7 @@ ghost use Rattle.std.specs.FinMap.{find, put, is_sorted};
 ghost use Rattle.std.specs.Cmp.Lexicographic.{slice_cmp};
 ghost use Rattle.mj_subs.specs.Collation.{subscript_cmp};
 ghost use Rattle.mj_store.specs.Nodes.{subtree, data_of, next_after};
+ghost use Rattle.mj_store.specs.Within.{are_nodes_within};
 ghost use Rattle.mj_tree.specs.Nest.{order_in, without, put_behind, is_too_long};
 ghost use Rattle.mj_tree.specs.Undo.{restored, undone};
 ghost use Rattle.mj_tree.specs.Walks.{named, StopsSo};
@@ -15,7 +16,7 @@ use crate::node::{Node, append, extend};
 use crate::sink::{Sink, SinkStop};
 use mj_store::{Direction, Nodes};
 use mj_subs::{SUBSCRIPTS_LIMIT, Sub, Subs};
-use mj_text::{Failure, Fault, Text};
+use mj_text::{Failure, Fault, Limit, Text};
 use std::alloc::{AllocError, Global};
 use std::marker::Model;
 
@@ -66,6 +67,13 @@ impl Tree {
         ensures { IsTrue result ↔ (self.now ≡ []) }
     {
         self.root.is_empty()
+    }
+
+    /// Whether each of its subscripts and of its texts is one of this limit.
+    pub fn is_within(&self, limit: Limit) -> bool
+        ensures { result ≡ are_nodes_within limit self.now }
+    {
+        self.root.is_within(limit)
     }
 
     /// The text at a list of subscripts.

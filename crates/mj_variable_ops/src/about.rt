@@ -210,7 +210,7 @@ fn take_about(
     requires asks { asks_of function ≡ true }
     requires enough { count ≤ length machine.old.stack.items }
     requires behind { others ≤ count }
-    requires more { machine.old.replied < told.steps_limit }
+    requires more { machine.old.replied < machine.old.bounds.events }
     ensures ok { IfOk result (λ step. (x : NameOf) → x.global ≡ true → Does (λ next.
         evaluation.about function x (optional 0 (operands others (stack_of machine.old))) (with_value machine.old pc count next))
         machine.old (Some reply.now) step machine.new) }
@@ -220,7 +220,7 @@ fn take_about(
     if let Some(fault) = misled(function, other) {
         return Ok(fail(fault, machine));
     }
-    let value = told_by(alloc, function, other, reply);
+    let value = told_by(alloc, function, other, reply, machine.bounds.limit);
     put_told(pc, count, value, machine)
 }
 
@@ -281,7 +281,7 @@ fn inquire(
     ensures err { OnErr result (Stays machine.old machine.new) }
 {
     if !asks(function) {
-        let text = spelled(alloc, name);
+        let text = spelled(alloc, name, machine.bounds.limit);
         put_value(pc, count, text, machine)?;
         return Ok(TurnOutcome::Next);
     }
@@ -306,7 +306,14 @@ fn inquire_local(
         evaluation.about function name.now (option_copied other.entry) (with_value machine.old pc count next)) machine.old step machine.new) }
     ensures err { OnErr result (Stays machine.old machine.new) }
 {
-    let value = told_here(alloc, function, name, other, &machine.locals);
+    let value = told_here(
+        alloc,
+        function,
+        name,
+        other,
+        &machine.locals,
+        machine.bounds.limit,
+    );
     put_value(pc, count, value, machine)?;
     Ok(TurnOutcome::Next)
 }

@@ -339,7 +339,7 @@ fn settle(pc: usize, taken: usize, done: Result<(), Fault>, machine: &mut Machin
 fn take_done(pc: usize, taken: usize, reply: &Reply, machine: &mut Machine) -> TurnOutcome
     requires next { pc + 1 < 2 ^ 64 }
     requires enough { taken ≤ length machine.old.stack.items }
-    requires more { machine.old.replied < told.steps_limit }
+    requires more { machine.old.replied < machine.old.bounds.events }
     ensures { TakesReply (λ next. told.given (answers.change_done (answer_told reply.now)) (λ u. without machine.old pc taken next))
         machine.old result machine.new }
 {

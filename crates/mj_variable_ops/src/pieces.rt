@@ -25,7 +25,7 @@ use mj_pcode::{Depth, Reference};
 use mj_store::Answer;
 use mj_strfn::{PieceRange, assigned_pieces, set_piece};
 use mj_subs::SUBSCRIPTS_LIMIT;
-use mj_text::{Failure, Fault, Text};
+use mj_text::{Failure, Fault, Limit, Text};
 use std::alloc::{AllocError, Global};
 
 /// Puts a variable's value on, in which some pieces are the topmost operand. The arguments that say which lie at a depth, and the
@@ -139,7 +139,8 @@ fn renew_local(
     let subscripts = stack::below_both(&machine.stack, above, count, reference.count);
     let old = machine.locals.value_under(&reference.word, subscripts)?;
     let value = stack::top(&machine.stack);
-    let renewed = with_pieces(alloc, old, separator, range, value);
+    let limit = machine.bounds.limit;
+    let renewed = with_pieces(alloc, old, separator, range, value, limit);
     put_value(pc, 0, renewed, machine)?;
     Ok(TurnOutcome::Next)
 }
@@ -179,7 +180,8 @@ fn renew_global(
             let none = Text::new(alloc);
             let separator = needed(stack::below_both(&machine.stack, above, 0, count), 0, &none);
             let value = stack::top(&machine.stack);
-            let renewed = renewed(alloc, reply, separator, range, value);
+            let limit = machine.bounds.limit;
+            let renewed = renewed(alloc, reply, separator, range, value, limit);
             put_told(pc, 0, renewed, machine)
         }
     }
@@ -192,14 +194,15 @@ fn with_pieces(
     separator: &Text,
     range: PieceRange,
     value: &Text,
+    limit: Limit,
 ) -> Result<Text, Failure>
-    ensures { AnswersOrMemory (set_piece_value (commands.or_empty (option_copied old.entry)) separator.now range value.now) result }
+    ensures { AnswersOrMemory (set_piece_value limit (commands.or_empty (option_copied old.entry)) separator.now range value.now) result }
 {
     match old {
-        Some(old) => set_piece(alloc, old, separator, range, value),
+        Some(old) => set_piece(alloc, old, separator, range, value, limit),
         None => {
             let none = Text::new(alloc);
-            set_piece(alloc, &none, separator, range, value)
+            set_piece(alloc, &none, separator, range, value, limit)
         }
     }
 }
@@ -211,14 +214,16 @@ fn renewed(
     separator: &Text,
     range: PieceRange,
     value: &Text,
+    limit: Limit,
 ) -> Result<Text, Failure>
-    ensures { AnswersOrMemory (then_value (answers.value_or_empty (answer_told reply.now)) (λ old. set_piece_value old separator.now range value.now)) result }
+    ensures { AnswersOrMemory (then_value (answers.value_or_empty (answer_told reply.now))
+        (λ old. set_piece_value limit old separator.now range value.now)) result }
 {
     match reply {
         Reply::Answer(Answer::Value(Some(old))) => {
-            with_pieces(alloc, Some(old), separator, range, value)
+            with_pieces(alloc, Some(old), separator, range, value, limit)
         }
         Reply::Answer(Answer::Limit) => Err(Failure::Fault(Fault::Limit)),
-        _ => with_pieces(alloc, None, separator, range, value),
+        _ => with_pieces(alloc, None, separator, range, value, limit),
     }
 }

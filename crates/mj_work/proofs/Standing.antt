@@ -2,12 +2,13 @@
 use Rattle.std.specs.Prelude.{◌||◌, IfOk, IfErr}
 use Rattle.std.specs.List.{list_any}
 use Rattle.std.proofs.Common.{◌≡◌, inl, inr, ℕ, List, [], ◌∷◌, ◌++◌, Bool, true, false, Option, Some, Result, Ok, Err, refl, sym, ap, ◌∙◌, subst}
+use Rattle.mj_text.specs.declared.limit.Limit.TheVariants.{V2}
 use Rattle.mj_ask.specs.declared.ask.Ask.{Ask}
 use Rattle.mj_ask.specs.declared.ask.Reply.{Reply}
 use Rattle.mj_ask.specs.declared.entry.Entry.{Entry}
-use Rattle.mj_ast.specs.Syntax.{Routine}
+use Rattle.mj_semantics.specs.Program.{Program}
 use Rattle.mj_semantics.specs.Job.{Start}
-use Rattle.mj_load.specs.Image.{Loaded, routines_of}
+use Rattle.mj_load.specs.Image.{Loaded, program_of}
 use Rattle.mj_jobvm.specs.Run.{Log, begins}
 use Rattle.mj_jobvm.specs.Jobs.{Running, IsRunOf, IsRunOfAfter}
 use Rattle.mj_sys.specs.Shared.{Shared}
@@ -46,8 +47,8 @@ ends_more (f ∷ log) e free = by (is_halt f.0) refl free (ends_more log e) wher
   by false is free rest = ((λ halts. absurd (let never : true ≡ false = sym halts ∙ is in cc)), rest free)
 
 -- a job that asks stands where it may stop
-module _ {A : Type 0} (ans : Answering A) (opening : Shared) (claim : Claimed) (job : Running) (x x' : A) (routines : List Routine) (start : Start) (log : Log) (a : Ask) where
-  stops_at : (stop : Stop) → MayStop ans opening a claim job x stop x' → Makes routines start log a → StopsAt routines start log stop
+module _ {A : Type 0} (ans : Answering A) (opening : Shared) (claim : Claimed) (job : Running) (x x' : A) (program : Program) (start : Start) (log : Log) (a : Ask) where
+  stops_at : (stop : Stop) → MayStop ans opening a claim job x stop x' → Makes program start log a → StopsAt program start log stop
   stops_at stops.Ended may makes = absurd may
   stops_at stops.Full may makes = (a, makes, may)
   stops_at stops.Memory may makes = tt
@@ -64,6 +65,7 @@ module _ {A : Type 0} (ans : Answering A) (image : Loaded) (claim : Claimed) (jo
       run = run (start_in claim.job claim.start) at.own.run;
       told = subst (λ (l : Log). ans.IsOf x l) (sym log) at.own.told;
       shared = at.own.shared ∙ ap shared_in (sym log);
+      long = at.own.long;
     };
     ends = subst (λ (l : Log). EndsAtHalt l) (sym log) at.ends;
     told = ap has_halted log ∙ at.told;
@@ -82,19 +84,19 @@ module _ {A : Type 0} (ans : Answering A) (image : Loaded) (claim : Claimed) (jo
         }
 
     -- or not: it stops
-    left_at : (stop : Stop) → Makes (routines_of image) (start_in claim.job claim.start) job.run.log a → IsAt ans image claim false job x
+    left_at : (stop : Stop) → Makes (program_of image) (start_in claim.job claim.start) job.run.log a → IsAt ans image claim false job x
         → IsAnswered {R = Bool} ans opening a claim job x (Err stop) claim' job' x' → IsRan image claim' job'.run.log stop
     left_at stop makes at so =
         let own = own_same ans image claim job x at.own job' x' so.2 so.3 in
         let log : job'.run.log ≡ job.run.log = ap (λ (j : Running). j.run.log) so.2 in
-        let S : Log → Type 0 = λ l. StopsAt (routines_of image) (start_in claim.job claim.start) l stop in
+        let S : Log → Type 0 = λ l. StopsAt (program_of image) (start_in claim.job claim.start) l stop in
         let R : Claimed → Type 0 = λ k. IsRan image k job'.run.log stop in
         subst R (sym so.1) (record {
           trace = own.run.1.trace;
           talks = ans.talks x' job'.run.log own.told;
           counted = own.shared;
           ends = subst (λ (l : Log). EndsAtHalt l) (sym log) at.ends;
-          stands = subst S (sym log) (stops_at ans opening claim job x x' (routines_of image) (start_in claim.job claim.start) job.run.log a stop so.0 makes);
+          stands = subst S (sym log) (stops_at ans opening claim job x x' (program_of image) (start_in claim.job claim.start) job.run.log a stop so.0 makes);
         })
 
     -- where it is refused, for its reason
@@ -113,7 +115,7 @@ module _ {A : Type 0} (ans : Answering A) (image : Loaded) (claim : Claimed) (jo
     answered_at (Ok halts) at answered halt = told_at halts at answered halt
     answered_at (Err stop) at answered halt = halt
 
-    pub answered_ran : (told : Result Bool Stop) → Makes (routines_of image) (start_in claim.job claim.start) job.run.log a → IsAt ans image claim false job x
+    pub answered_ran : (told : Result Bool Stop) → Makes (program_of image) (start_in claim.job claim.start) job.run.log a → IsAt ans image claim false job x
         → IsAnswered ans opening a claim job x told claim' job' x' → IfErr told (λ stop. IsRan image claim' job'.run.log stop)
     answered_ran (Ok halts) makes at answered = tt
     answered_ran (Err stop) makes at answered = left_at stop makes at answered
@@ -136,7 +138,7 @@ module _ {A : Type 0} (ans : Answering A) (image : Loaded) (claim : Claimed) (jo
   }
 
   -- it stops
-  pub ran_at : (halted : Bool) (stop : Stop) → IsAt ans image claim halted job x → StopsAt (routines_of image) (start_in claim.job claim.start) job.run.log stop
+  pub ran_at : (halted : Bool) (stop : Stop) → IsAt ans image claim halted job x → StopsAt (program_of image) (start_in claim.job claim.start) job.run.log stop
       → IsRan image claim job.run.log stop
   ran_at halted stop at stands = record {
     trace = at.own.run.1.trace;
@@ -148,7 +150,7 @@ module _ {A : Type 0} (ans : Answering A) (image : Loaded) (claim : Claimed) (jo
 
 -- ---- a job that begins
 
-module _ {A : Type 0} (ans : Answering A) (image : Loaded) (claim : Claimed) (none : claim.events ≡ 0) where
+module _ {A : Type 0} (ans : Answering A) (image : Loaded) (claim : Claimed) (none : claim.events ≡ 0) (long : image.bounds.limit ≡ V2) where
   pub begins_at : (number : ℕ) (entry : Entry) (values : List (Option (List ℕ))) (job : Running) (x : A) → number ≡ claim.job → entry ≡ claim.start.entry
       → values ≡ claim.start.values → IsRunOfAfter image (record { job = number; entry = entry; values = values }) 0 job → job.run.log ≡ [] → ans.IsOf x []
       → IsAt ans image claim false job x
@@ -161,6 +163,7 @@ module _ {A : Type 0} (ans : Answering A) (image : Loaded) (claim : Claimed) (no
           run = (0, subst (λ (s : Start). IsRunOfAfter image s 0 job) start run);
           told = subst (λ (l : Log). ans.IsOf x l) (sym log) of;
           shared = none ∙ sym (ap shared_in log);
+          long = long;
         };
         ends = subst (λ (l : Log). EndsAtHalt l) (sym log) tt;
         told = ap has_halted log;

@@ -1,6 +1,6 @@
 -- What a job that a worker runs is told.
 use Rattle.std.specs.Result.{IsErrAnd}
-use Rattle.std.proofs.Common.{◌≡◌, ◌+◌, [], ◌∷◌, ◌++◌, inl, inr, Bool, true, false, Option, Some, None, Result, Ok, Err, refl, sym, ap, ◌∙◌, subst}
+use Rattle.std.proofs.Common.{◌≡◌, ℕ, ◌+◌, [], ◌∷◌, ◌++◌, inl, inr, Bool, true, false, Option, Some, None, Result, Ok, Err, refl, sym, ap, ◌∙◌, subst}
 use Rattle.std.proofs.lemmas.Option.{same_Some}
 use Rattle.mj_ask.proofs.Fitting.{answered}
 use Rattle.mj_ask.specs.Fits.{fits, is_shared}
@@ -83,14 +83,14 @@ placeless_shared (asks.Rest time) none = absurd (let never : false ≡ true = no
 
 -- ---- or refused
 
-module _ (opening : Shared) (claim : Claimed) where
-  untold_by : (why : Refused) → WasRefused opening claim why → StopsUntold opening claim (stop_by why)
+module _ (events : ℕ) (opening : Shared) (claim : Claimed) where
+  untold_by : (why : Refused) → WasRefused events opening claim why → StopsUntold opening claim (stop_by why)
   untold_by (refusals.Turn expected) was = (was.0, was.1.1)
   untold_by refusals.Full was = tt
   untold_by refusals.Memory was = tt
 
   module _ (a : Ask) (place : Place) where
-    unserved_by : (why : Refused) → WasRefused opening claim why → StopsUnserved opening claim a place (stop_by why)
+    unserved_by : (why : Refused) → WasRefused events opening claim why → StopsUnserved opening claim a place (stop_by why)
     unserved_by (refusals.Turn expected) was = inl (was.0, was.1.1)
     unserved_by refusals.Full was = tt
     unserved_by refusals.Memory was = tt
@@ -99,9 +99,9 @@ module _ (opening : Shared) (claim : Claimed) where
     pub taken_at : (late : Bool) (before claim' : Claimed) → WasServedAt opening before a place late None claim' → StopsUnserved opening claim a place stops.Refused
     taken_at late before claim' was = inr (was.2.0, (was.0, was.2.1))
 
-  module _ (before : Claimed) (same : before ≡ claim) (why : Refused) (stop : Stop) (is : stop ≡ stop_by why) (was : WasRefused opening before why) where
-    here : WasRefused opening claim why
-    here = let P : Claimed → Type 0 = λ k. WasRefused opening k why in subst P same was
+  module _ (before : Claimed) (same : before ≡ claim) (why : Refused) (stop : Stop) (is : stop ≡ stop_by why) (was : WasRefused events opening before why) where
+    here : WasRefused events opening claim why
+    here = let P : Claimed → Type 0 = λ k. WasRefused events opening k why in subst P same was
 
     pub stops_untold : StopsUntold opening claim stop
     stops_untold = let P : Stop → Type 0 = λ s. StopsUntold opening claim s in subst P (sym is) (untold_by why here)

@@ -1,5 +1,5 @@
 -- What workers do, and what they leave.
-use Rattle.std.specs.Prelude.{◌≡◌, ◌⊎◌, ℕ, ◌+◌, List, [], ◌∷◌, ◌++◌, length, Bool, true, false, Option, Some, None, Result, Ok, Err, ⊤}
+use Rattle.std.specs.Prelude.{◌≡◌, ◌⊎◌, ℕ, ◌+◌, ◌≤◌, List, [], ◌∷◌, ◌++◌, length, Bool, true, false, Option, Some, None, Result, Ok, Err, ⊤}
 use Rattle.std.specs.List.{list_any}
 use Rattle.mj_ask.specs.Fits.{is_shared}
 use Rattle.mj_ask.specs.declared.ask.Ask.{Ask}
@@ -91,17 +91,18 @@ stop_by (refusals.Turn expected) = stops.Refused
 stop_by refusals.Memory = stops.Memory
 stop_by refusals.Full = stops.Full
 
--- Why an ask is refused under the lock, as this system stands: for the system's own reason, or for want of memory, as each is once a job stopped so.
-abbrev pub IsRefusedIn : Shared → Recorded → Claimed → Refused → Type 0
-IsRefusedIn opening system claim (refusals.Turn expected) = IsServiceRefused opening system claim (refusals.Turn expected)
-IsRefusedIn opening system claim refusals.Full = IsServiceRefused opening system claim refusals.Full
-IsRefusedIn opening system claim refusals.Memory = ⊤
+-- Why an ask is refused under the lock, as this system stands, where a run has at most so many events: for the system's own reason; since all jobs together
+-- made as many, which is looked at first, so that nothing is said of whose turn it is; or for want of memory, as each is once a job stopped so.
+abbrev pub IsRefusedIn : ℕ → Shared → Recorded → Claimed → Refused → Type 0
+IsRefusedIn events opening system claim (refusals.Turn expected) = IsServiceRefused opening system claim (refusals.Turn expected)
+IsRefusedIn events opening system claim refusals.Full = events ≤ length system.history
+IsRefusedIn events opening system claim refusals.Memory = ⊤
 
 -- so it was refused, as a system with this opening stood: more can't be said of that
-abbrev pub WasRefused : Shared → Claimed → Refused → Type 0
-WasRefused opening claim (refusals.Turn expected) = (system : Recorded) × IsServiceRefused opening system claim (refusals.Turn expected)
-WasRefused opening claim refusals.Full = (system : Recorded) × IsServiceRefused opening system claim refusals.Full
-WasRefused opening claim refusals.Memory = ⊤
+abbrev pub WasRefused : ℕ → Shared → Claimed → Refused → Type 0
+WasRefused events opening claim (refusals.Turn expected) = (system : Recorded) × IsServiceRefused opening system claim (refusals.Turn expected)
+WasRefused events opening claim refusals.Full = (system : Recorded) × (events ≤ length system.history)
+WasRefused events opening claim refusals.Memory = ⊤
 
 -- it wasn't the claim's turn, as a system with this opening stood
 abbrev pub WasOutOfTurn : Shared → Claimed → Type 0
@@ -125,7 +126,7 @@ StopsUnserved opening claim a place stops.Full = ⊤
 StopsUnserved opening claim a place stops.Memory = ⊤
 StopsUnserved opening claim a place stops.Refused = WasOutOfTurn opening claim ⊎ ((place ≡ ready.Taken) × WouldMove opening a)
 
--- a job goes on as its claim has it, in whichever image it runs
+-- a job goes on as its claim has it, in whichever image it runs so
 abbrev pub GoesOn : {A : Type 0} → Answering A → Claimed → Running → A → Claimed → Running → A → Type 0
 GoesOn by claim job x claim' job' x' = (image : Loaded) → IsJobOf by image claim job x → IsJobOf by image claim' job' x'
 

@@ -1,6 +1,7 @@
 // What a worker does for one job.
 
 ghost use Rattle.std.specs.Prelude.{◌≡◌, true, false, Bool, Some, IsSome, IfOk, IfErr, OnErr};
+ghost use Rattle.mj_text.specs.declared.limit.Limit.TheVariants.{V2};
 ghost use Rattle.mj_ask.specs.Fits.{is_shared};
 ghost use Rattle.mj_ask.specs.declared.ask.Ask as asks;
 ghost use Rattle.mj_ask.specs.declared.ask.Ask.TheVariants as ask_kinds;
@@ -56,7 +57,7 @@ impl<'m, 'a, J: Work, D: Device, O: Opening, G: Gate, C: Clock, R: Wait> Worker<
         requires { is_shared ask.now ≡ true }
         ensures ok { IfOk result (λ served. WasServedAt O.opening claim.old ask.now place.now late served claim.new) }
         ensures err { OnErr result (claim.new ≡ claim.old) }
-        ensures refused { IfErr result (λ why. WasRefused O.opening claim.old why) }
+        ensures refused { IfErr result (λ why. WasRefused J.events O.opening claim.old why) }
     {
         self.shared.lock(self.rt).serve(claim, ask, place, late)
     }
@@ -66,7 +67,7 @@ impl<'m, 'a, J: Work, D: Device, O: Opening, G: Gate, C: Clock, R: Wait> Worker<
         requires { needs_no_place ask.now ≡ true }
         ensures ok { IfOk result (λ told. WasToldAt O.opening claim.old ask.now late told claim.new) }
         ensures err { OnErr result (claim.new ≡ claim.old) }
-        ensures refused { IfErr result (λ why. WasRefused O.opening claim.old why) }
+        ensures refused { IfErr result (λ why. WasRefused J.events O.opening claim.old why) }
     {
         let Ok(copy) = copy_of(ask) else {
             return Err(Refused::Memory);
@@ -293,7 +294,8 @@ impl<'m, 'a, J: Work, D: Device, O: Opening, G: Gate, C: Clock, R: Wait> Worker<
 
     // Runs the job of a claim until it stops.
     pub fn run_job<A: Answerer<Fresh<D>>>(&self, claim: Claim, session: Fresh<D>) -> Ran<'a>
-        requires { claim.events ≡ 0 }
+        requires none { claim.events ≡ 0 }
+        requires long { self.now.image.now.bounds.limit ≡ V2 }
         ensures { result.image ≡ self.now.image.now }
     {
         let mut claim = claim;
@@ -403,7 +405,8 @@ fn start_job<D: Device, A: Answerer<Fresh<D>>>(
     claim: &Claim,
     session: Fresh<D>,
 ) -> Result<(Job, A), AllocError>
-    requires { claim.now.events ≡ 0 }
+    requires none { claim.now.events ≡ 0 }
+    requires long { image.now.bounds.limit ≡ V2 }
     ensures { IfOk result (λ started. IsAt A.answering image.now claim.now false started.0 started.1) }
 {
     let principal = Text::from_number(alloc, 0);

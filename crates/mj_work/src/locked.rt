@@ -1,14 +1,16 @@
 // What lies under the lock.
 
-ghost use Rattle.std.specs.Prelude.{◌≡◌, ◌+◌, ◌<◌, ◌≤◌, ℕ, [], true, vec_len, vec_capacity, ◌||◌, IfOk, IfErr, OnErr, IsTrue};
+ghost use Rattle.std.specs.Prelude.{◌≡◌, ◌+◌, ◌<◌, ◌≤◌, ℕ, nat_le, [], length, true, vec_len, vec_capacity, ◌||◌, IfOk, IfErr, OnErr, IsTrue};
 ghost use Rattle.std.specs.List.{All};
 ghost use Rattle.mj_ask.specs.Fits.{is_shared};
 ghost use Rattle.mj_ask.specs.declared.ask.Ask.TheVariants as asks;
+ghost use Rattle.mj_text.specs.declared.limit.Limit.TheVariants.{V2};
 ghost use Rattle.mj_jobs.specs.Rows.{rows_limit};
 ghost use Rattle.std.proofs.Props.{props};
 ghost use Rattle.mj_load.specs.Image as images;
 ghost use Rattle.mj_load.specs.contracts.image.Image as loaded;
 ghost use Rattle.mj_sys.specs.Shared.{moves_none};
+ghost use Rattle.mj_sys.specs.System.{history_limit};
 ghost use Rattle.mj_sys.specs.Told.{served_as};
 ghost use Rattle.mj_work.specs.Working.{is_cut, was_cut, AreClaimed, WasServedAt, WasServed, IsRefusedIn, WasRefused, Gives};
 
@@ -26,12 +28,17 @@ pub trait Work: Ledger {
     ghost image: { images.Loaded };
 
     ghost before: { ℕ };
+
+    // how many events a run of that image may have
+    ghost events: { ℕ };
 }
 
 impl Work for Brand {
-    ghost image = { record { routines = []; units = [] } };
+    ghost image = { record { routines = []; units = []; bounds = record { limit = V2; events = 0 } } };
 
     ghost before = { 0 };
+
+    ghost events = { 0 };
 }
 
 // What a worker gets that has no job, where a claimed row with its job's principal session is a `C`.
@@ -52,6 +59,8 @@ pub struct Locked<'a, J: Work, D: Device, O: Opening> {
     pub rans: Vec<Ran<'a>>,
     // how many rows were claimed before
     pub before: usize,
+    // how many events all jobs together may make of what they share
+    pub events: usize,
     // a claim was refused for want of memory
     pub short: bool,
     // a job stopped for want of memory, or since the history was full
@@ -60,6 +69,9 @@ pub struct Locked<'a, J: Work, D: Device, O: Opening> {
     pub out_of_memory: bool,
     pub book: Book<J>,
     ghost from: { before ≡ J.before },
+    ghost bound: { events ≡ J.events },
+    ghost most: { events ≤ history_limit },
+    ghost within: { length system.history ≤ events },
     ghost counted: { vec_len rans + book.total + J.before ≡ system.claimed },
     ghost room: { rows_limit ≤ vec_capacity rans },
     ghost few: { system.claimed ≤ rows_limit },
@@ -107,18 +119,31 @@ impl<'a, J: Work, D: Device, O: Opening> Locked<'a, J, D, O> {
         }
     }
 
-    // Serves an ask of a claim's job by which no session goes to it. Once a job stopped for want of memory nothing is served any more, so that all stop: else
-    // who waits for what it holds would wait for ever.
+    // Whether all jobs together made as many events as they may.
+    pub fn is_full(&self) -> bool
+        ensures { result ≡ nat_le J.events (length self.now.system.history) }
+    {
+        let history = self.system.history();
+        history.len() >= self.events
+    }
+
+    // Serves an ask of a claim's job by which no session goes to it, as long as there is room for its event. Once a job stopped for want of memory nothing is
+    // served any more, so that all stop: else who waits for what it holds would wait for ever.
     pub fn tell(&mut self, claim: &mut Claim, ask: SharedAsk, late: bool) -> Result<Told, Refused>
         requires { moves_none ask ≡ true }
+        ensures room { IfOk result (λ told. length self.old.system.history < J.events) }
         ensures ok { IfOk result (λ told. WasServed O.opening claim.old (asks.Shared ask) late (served_as told) claim.new) }
         ensures err { OnErr result (claim.new ≡ claim.old) }
-        ensures refused { IfErr result (λ why. IsRefusedIn O.opening self.old.system claim.old why) }
-        ensures was_refused { IfErr result (λ why. WasRefused O.opening claim.old why) }
+        ensures refused { IfErr result (λ why. IsRefusedIn J.events O.opening self.old.system claim.old why) }
+        ensures was_refused { IfErr result (λ why. WasRefused J.events O.opening claim.old why) }
     {
         if self.out_of_memory {
             drop(ask);
             return Err(Refused::Memory);
+        }
+        if self.is_full() {
+            drop(ask);
+            return Err(Refused::Full);
         }
         self.system.tell(claim, ask, late)
     }
@@ -132,13 +157,17 @@ impl<'a, J: Work, D: Device, O: Opening> Locked<'a, J, D, O> {
         late: bool,
     ) -> Result<Option<Served<Session<D>>>, Refused>
         requires { is_shared ask.now ≡ true }
+        ensures room { IfOk result (λ served. length self.old.system.history < J.events) }
         ensures ok { IfOk result (λ served. WasServedAt O.opening claim.old ask.now place.now late served claim.new) }
         ensures err { OnErr result (claim.new ≡ claim.old) }
-        ensures refused { IfErr result (λ why. IsRefusedIn O.opening self.old.system claim.old why) }
-        ensures was_refused { IfErr result (λ why. WasRefused O.opening claim.old why) }
+        ensures refused { IfErr result (λ why. IsRefusedIn J.events O.opening self.old.system claim.old why) }
+        ensures was_refused { IfErr result (λ why. WasRefused J.events O.opening claim.old why) }
     {
         if self.out_of_memory {
             return Err(Refused::Memory);
+        }
+        if self.is_full() {
+            return Err(Refused::Full);
         }
         serve_at(&mut self.system, claim, ask, place, late)
     }

@@ -3,6 +3,7 @@
 ghost use Rattle.std.specs.Prelude.{◌≡◌, ◌+◌, ◌<◌, ◌≤◌, [], length, vec_capacity, IfOk, IfErr};
 ghost use Rattle.std.specs.List.{All};
 ghost use Rattle.std.specs.Thread.{IsSync};
+ghost use Rattle.mj_text.specs.declared.limit.Limit.TheVariants.{V2};
 ghost use Rattle.mj_jobs.specs.Rows.{rows_limit};
 ghost use Rattle.mj_work.specs.Working.{AreClaimed, workers_limit};
 
@@ -10,6 +11,7 @@ use crate::gate::{Clock, Gate};
 use crate::job::Worker;
 use crate::locked::{Locked, Next, Work};
 use crossbeam_utils::CachePadded;
+use mj_core::most_events;
 use mj_dev::Device;
 use mj_gather::Ran;
 use mj_jobs::ROWS_LIMIT;
@@ -48,6 +50,7 @@ impl<'m, 'a, J: Work, D: Device, O: Opening, G: Gate, C: Clock, R: Wait> Worker<
         requires parts { 0 < mine.old.parts }
         requires none { mine.old.amount ≡ 0 }
         requires image { self.now.image.now ≡ J.image }
+        requires long { self.now.image.now.bounds.limit ≡ V2 }
         ensures parts { mine.new.parts ≡ mine.old.parts }
         ensures none { mine.new.amount ≡ 0 }
     {
@@ -71,6 +74,7 @@ impl<'m, 'a, J: Work, D: Device, O: Opening, G: Gate, C: Clock, R: Wait> Worker<
         requires parts { 0 < mine.old.parts }
         requires none { mine.old.amount ≡ 0 }
         requires image { self.now.image.now ≡ J.image }
+        requires long { self.now.image.now.bounds.limit ≡ V2 }
         ensures parts { mine.new.parts ≡ mine.old.parts }
         ensures none { mine.new.amount ≡ 0 }
     {
@@ -107,6 +111,7 @@ fn start<
     requires parts { mine.parts ≡ n }
     requires none { mine.amount ≡ 0 }
     requires image { image.now ≡ J.image }
+    requires long { image.now.bounds.limit ≡ V2 }
     ensures parts { result.parts ≡ n }
     ensures none { result.amount ≡ 0 }
 {
@@ -129,11 +134,11 @@ fn start<
     let (one, two) = join(
         rt,
         move || -> Share<J>
-            requires { IsSync R.row × (0 < half) × (theirs.parts ≡ half) × (theirs.amount ≡ 0) × (image.now ≡ J.image) }
+            requires { IsSync R.row × (0 < half) × (theirs.parts ≡ half) × (theirs.amount ≡ 0) × (image.now ≡ J.image) × (image.now.bounds.limit ≡ V2) }
             ensures { (result.parts ≡ half) × (result.amount ≡ 0) }
         { start(rt, alloc, shared, image, gate, clock, half, theirs) },
         move || -> Share<J>
-            requires { IsSync R.row × (0 < rest) × (mine.parts ≡ rest) × (mine.amount ≡ 0) × (image.now ≡ J.image) }
+            requires { IsSync R.row × (0 < rest) × (mine.parts ≡ rest) × (mine.amount ≡ 0) × (image.now ≡ J.image) × (image.now.bounds.limit ≡ V2) }
             ensures { (result.parts ≡ rest) × (result.amount ≡ 0) }
         { start(rt, alloc, shared, image, gate, clock, rest, mine) },
     );
@@ -156,7 +161,9 @@ fn finish<'a, J: Work, D: Device, O: Opening, G: Gate, C: Clock, R: Wait>(
     requires some { 0 < mine.parts }
     requires none { mine.amount ≡ 0 }
     requires image { image.now ≡ J.image }
+    requires long { image.now.bounds.limit ≡ V2 }
     ensures rans { length result.rans.items + J.before ≡ result.system.claimed }
+    ensures within { length result.system.history ≤ J.events }
     ensures images { All (λ r. r.image ≡ image.now) result.rans.items }
     ensures claimed { AreClaimed O.opening result.system result.rans.items result.short }
 {
@@ -189,6 +196,7 @@ fn close<'a, J: Work, D: Device, O: Opening>(
     requires none { mine.amount ≡ 0 }
     requires settled { AreClaimed O.opening locked.system locked.rans.items locked.short }
     ensures rans { length result.rans.items + J.before ≡ result.system.claimed }
+    ensures within { length result.system.history ≤ J.events }
     ensures images { All (λ r. r.image ≡ J.image) result.rans.items }
     ensures claimed { AreClaimed O.opening result.system result.rans.items result.short }
 {
@@ -235,19 +243,25 @@ fn together<
     requires room { rows_limit ≤ vec_capacity rans }
     requires empty { rans.items ≡ [] }
     requires image { image.now ≡ J.image }
+    requires long { image.now.bounds.limit ≡ V2 }
     requires before { system.claimed ≡ J.before }
+    requires events { image.now.bounds.events ≡ J.events }
+    requires within { length system.history ≤ J.events }
     ensures rans { length result.rans.items + system.claimed ≡ result.system.claimed }
+    ensures within { length result.system.history ≤ J.events }
     ensures images { All (λ r. r.image ≡ image.now) result.rans.items }
     ensures claimed { AreClaimed O.opening result.system result.rans.items result.short }
 {
     let (book, all) = blank.open::<J>();
     let before = system.claimed();
+    let events = most_events(image);
     // there are no more rows than may be
     let _rows = system.rows(); // for the proof
     let locked = CachePadded::new(Locked {
         system,
         rans,
         before,
+        events,
         short: false,
         stopped: false,
         out_of_memory: false,
@@ -263,8 +277,8 @@ fn together<
 /// Runs the jobs of a system by so many workers, this thread one of them, until all have stopped. Room for what they leave is taken first: where it is refused,
 /// the system comes back. A thread that can't be started is done without. With fewer workers than jobs a run may stand still.
 ///
-/// Each row that is claimed comes back as one `Ran`, which ran in this image. A row isn't claimed only where a job stopped for want of memory or since the
-/// history was full, or where a claim was refused for want of memory, which `short` says.
+/// Each row that is claimed comes back as one `Ran`, which ran in this image, whose limit is the greater one. A row isn't claimed only where a job stopped for
+/// want of memory or since the history was full, as the image's bounds say, or where a claim was refused for want of memory, which `short` says.
 pub fn run_workers<
     'a,
     D: Device + Send,
@@ -281,8 +295,11 @@ pub fn run_workers<
     gate: &G,
     clock: &C,
 ) -> Result<Ended<'a, D, O>, System<D, O>>
-    requires { (1 ≤ n) × (n ≤ workers_limit) }
+    requires workers { (1 ≤ n) × (n ≤ workers_limit) }
+    requires long { image.now.bounds.limit ≡ V2 }
+    requires within { length system.history ≤ image.now.bounds.events }
     ensures rans { IfOk result (λ e. length e.rans.items + system.claimed ≡ e.system.claimed) }
+    ensures within { IfOk result (λ e. length e.system.history ≤ image.now.bounds.events) }
     ensures images { IfOk result (λ e. All (λ r. r.image ≡ image.now) e.rans.items) }
     ensures claimed { IfOk result (λ e. AreClaimed O.opening e.system e.rans.items e.short) }
     ensures err { IfErr result (λ back. back ≡ system) }

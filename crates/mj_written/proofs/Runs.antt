@@ -7,6 +7,7 @@ use Rattle.mj_text.specs.declared.fault.Fault.TheVariants.{NoLine, Quit as Wrong
 use Rattle.mj_oper.specs.Operators.{binary_value, unary_value, truth_value}
 use Rattle.mj_num.specs.Number.{reading}
 use Rattle.mj_subs.specs.Name.{Name, is_word}
+use Rattle.mj_ask.specs.declared.bounds.Bounds.{Bounds}
 use Rattle.mj_ask.specs.declared.ask.Ask.{Ask}
 use Rattle.mj_ask.specs.declared.ask.Reply.{Reply}
 use Rattle.mj_ask.specs.declared.entry.Entry.{Entry}
@@ -29,12 +30,13 @@ use Rattle.mj_semantics.specs.Functions.{call_value, optional}
 use Rattle.mj_semantics.specs.Evaluation.{name_of, named_for, ev, ev_tails, ev_operand, ev_choices, ev_name, ev_named, ev_all, ev_actuals, plain_values, ev_local, when}
 use Rattle.mj_semantics.specs.Commands.{Aim, Whole, Part as PartAim, mark_byte, end_frame, quit_frame, in_function, quit, ev_destination, ev_destinations, assign_to, assign_all, kill, kill_list, kill_all, merge, merge_all, arrange, output, output_all, ev_timeout, hang_all, start_all, ev_names, ev_lock_names, lock_list, lock_all, open_all, use_all, close_all, receive, input, read_all, ifs, ranges, calls, block, jumps, do_all, if_all, start_transaction, obey, obey_all}
 use Rattle.mj_semantics.specs.Transactions.{restored_by, listed_by, serial_by}
+use Rattle.mj_semantics.specs.Program.{Program}
 use Rattle.mj_semantics.specs.Job.{quit_before, obey_line, call, jump, in_pass, at_point, points_of, Start, start as starting, opening, next}
 use Rattle.mj_rou.specs.Words.{Each, IsWorded, IsExprWorded, IsVariableWorded, IsPartWorded, IsConditionWorded, IsStepWorded, IsLineWorded, IsRoutineWorded}
 use Rattle.mj_written.specs.Formed.{are_locals}
 use Rattle.mj_written.proofs.Names.{word_is, entry_is, routine_is, function_routine, IsNamed, named, Suits, suits}
 use Rattle.mj_written.proofs.States.{IsFormed, pops, passes_on, spares}
-use Rattle.mj_written.proofs.Words.{IsFine, Asks, none_back, a_turn, some_turns, looked, changed, chosen, ended, faulted, is_known, is_given, to_its_device, restarts, reads, is_about, stores, IsAimed, puts, puts_all, removes, names_ask, takes_nodes, puts_nodes, news_all, ends_frame, quits_frame, in_its_function, goes_deeper, writes, tabs, writes_code, tests, IsLoop, goes_again, begins, reads_two, hangs, starts_job, unlocks_all, locks, opens_device, uses_device, closes, reads_input, begins_transaction, commits, rolls_back, gives_back, begins_again}
+use Rattle.mj_written.proofs.Words.{IsFine, Asks, none_back, a_turn, some_turns, looked, changed, chosen, ended, faulted, is_known, is_given, is_composed, to_its_device, restarts, reads, is_about, stores, IsAimed, puts, puts_all, removes, names_ask, takes_nodes, puts_nodes, news_all, ends_frame, quits_frame, in_its_function, goes_deeper, writes, tabs, writes_code, tests, IsLoop, goes_again, begins, reads_two, hangs, starts_job, unlocks_all, locks, opens_device, uses_device, closes, reads_input, begins_transaction, commits, rolls_back, gives_back, begins_again}
 
 -- ---- lists
 
@@ -165,7 +167,7 @@ module _ (P : Points) (points : ArePoints P) (here : Here) (word : is_word here.
     tails_ask : (v : List ℕ) (ts : Tails) {f : List ℕ → Timed} → Each IsWorded (tails_symbols ts) → ((v : List ℕ) → Asks (f v)) → Asks (ev_tails P here v ts f)
     tails_ask v Done h l = l v
     tails_ask v (Then op x ts) h l =
-        let i = apart IsWorded (operand_symbols x) (tails_symbols ts) h.1 in operand_asks x i.0 (λ w. a_turn (is_given (binary_value op v w) (λ u. tails_ask u ts i.1 l)))
+        let i = apart IsWorded (operand_symbols x) (tails_symbols ts) h.1 in operand_asks x i.0 (λ w. a_turn (is_composed (λ limit. binary_value limit op v w) (λ u. tails_ask u ts i.1 l)))
 
     operand_asks : (x : Operand) {f : List ℕ → Timed} → Each IsWorded (operand_symbols x) → ((v : List ℕ) → Asks (f v)) → Asks (ev_operand P here x f)
     operand_asks (Literal t) h l = a_turn (l t)
@@ -173,7 +175,7 @@ module _ (P : Points) (points : ArePoints P) (here : Here) (word : is_word here.
     operand_asks (Intrinsic v) h l = a_turn (looked (λ s k. l (special_value v s)))
     operand_asks (Unary op x) h l = operand_asks x h.1 (λ v. a_turn (is_given (unary_value op v) l))
     operand_asks (Group e) h l = evaluates e (apart IsWorded (expr_symbols e) (Mark Close ∷ []) h.1).0 l
-    operand_asks (Call f es) h l = all_ask es (list_worded es h.1) (λ vs. a_turn (is_given (call_value f vs) l))
+    operand_asks (Call f es) h l = all_ask es (list_worded es h.1) (λ vs. a_turn (is_composed (λ limit. call_value limit f vs) l))
     operand_asks (About f v es) h l =
         let i = apart IsWorded (variable_symbols v) (more_symbols es) h.1.1 in
         named_asks f v i.0 (λ x n. all_ask es (more_worded es i.1) (λ vs. a_turn (is_about f x (optional 0 vs) n l)))
@@ -557,15 +559,15 @@ starts_ask image job d w h =
     a_turn (to_its_device principal _
     (λ r p. (points_ask image w d).by (Called false job.entry job.values _) (h, λ v. ended)))
 
-opens : (job : ℕ) → IsFormed (opening job)
-opens job = record { locals = refl; saved = tt; mark = tt; held = refl }
+opens : (bounds : Bounds) (job : ℕ) → IsFormed (opening bounds job)
+opens bounds job = record { locals = refl; saved = tt; mark = tt; held = refl }
 
 entry_word : (e : Entry) → is_entry e ≡ true → is_word e.routine ≡ true
 entry_word e h = (both_true _ (is_word e.routine) h).1
 
-pub are_written : (image : List Routine) (job : Start) (n : ℕ) (replies : List Reply) (a : Ask) (locals : Locals) (at : List Place)
-    → Each IsRoutineWorded image → is_entry job.entry ≡ true → list_all is_reply replies ≡ true
-    → next image job n replies ≡ Needs a locals at → (is_ask a ≡ true) × (are_locals locals ≡ true)
-are_written image job n replies a locals at w h t e =
+pub are_written : (program : Program) (job : Start) (n : ℕ) (replies : List Reply) (a : Ask) (locals : Locals) (at : List Place)
+    → Each IsRoutineWorded program.routines → is_entry job.entry ≡ true → list_all is_reply replies ≡ true
+    → next program job n replies ≡ Needs a locals at → (is_ask a ≡ true) × (are_locals locals ≡ true)
+are_written program job n replies a locals at w h t e =
     let Q : Outcome → Type 0 = λ o. IsFine o in
-    subst Q e ((starts_ask image job (suc n) w (entry_word job.entry h)).by n no_restart (opening job.job) replies none_back (opens job.job) t)
+    subst Q e ((starts_ask program.routines job (suc n) w (entry_word job.entry h)).by n no_restart (opening program.bounds job.job) replies none_back (opens program.bounds job.job) t)

@@ -3,7 +3,8 @@ use Rattle.std.proofs.Common.{◌≡◌, ℕ, zero, suc, List, [], ◌∷◌, le
 use Rattle.std.specs.Prelude.{ℤ, pos, int_lt, ◌+ℤ◌, not, cond, nat_eq, nat_lt, nat_le, if◌then◌else◌}
 use Rattle.std.specs.List.{list_all}
 use Rattle.std.proofs.lemmas.Bool.{lt-ltb}
-use Rattle.mj_text.specs.declared.text.TheConstants.{TEXT_LIMIT}
+use Rattle.mj_text.specs.Limit.{within_limit}
+use Rattle.mj_text.specs.declared.limit.Limit.{Limit as TextLimit}
 use Rattle.mj_text.specs.declared.fault.Fault.{Fault}
 use Rattle.mj_text.specs.declared.fault.Fault.TheVariants.{Undefined, ForIndex, Steps, Quit as WrongQuit, QuitInTransaction, Depth, NoTransaction, NoRestart, InTransaction, Limit, Device, NoDevice}
 use Rattle.mj_text.specs.Failing.{then_value}
@@ -40,7 +41,7 @@ use Rattle.mj_ast.specs.declared.routine.ReadMode.{ReadMode}
 use Rattle.mj_ast.specs.Syntax.{Renewed, Fresh, Kept}
 use Rattle.mj_strfn.specs.Functions.{assigned_pieces, set_piece_value}
 use Rattle.mj_semantics.specs.State.{State, Words as Listed, Only, AllBut, accessed, wrote, broke, counted, hold, has_failed, principal, ending_order, is_at_mark, newed, devices_limit, is_open, may_close, column_at, with_device, used, dropped, marked, raised, lowered, settled, can_restart, is_serial, restarted, is_function, is_in_function}
-use Rattle.mj_semantics.specs.Outcome.{Outcome, Needs, Ended, More, Handler, Timed, turn, turns, look, change, asking, over, no_restart, until, restartable, go_back, halt, ends, end, fault_bytes, fault, steps_limit, ask, tell, is_failed, to_device, need, given}
+use Rattle.mj_semantics.specs.Outcome.{Outcome, Needs, Ended, More, Handler, Timed, turn, turns, look, change, asking, over, no_restart, until, restartable, go_back, halt, ends, end, fault_bytes, fault, ask, tell, is_failed, to_device, need, given, composed}
 use Rattle.mj_semantics.specs.Names.{direction_of, spelled, function_told}
 use Rattle.mj_semantics.specs.Functions.{needed, optional}
 use Rattle.mj_semantics.specs.Accesses.{answer_told, answered, access, value_told, nodes_told}
@@ -135,6 +136,9 @@ is_known (Err f) l = faulted
 pub is_given : {A : Type 0} {g : A → Timed} (r : Result A Fault) → ((v : A) → Asks (g v)) → Asks (given r g)
 is_given r l = is_known r (λ v e. l v)
 
+pub is_composed : {g : List ℕ → Timed} (text : TextLimit → Result (List ℕ) Fault) → ((v : List ℕ) → Asks (g v)) → Asks (composed text g)
+is_composed text l = looked (λ s k. is_given (text s.bounds.limit) l)
+
 count_on : (s : State) → IsFormed s → IsFormed (counted s)
 count_on s h = record { locals = h.locals; saved = h.saved; mark = h.mark; held = h.held }
 
@@ -142,7 +146,7 @@ breaks : (name : List ℕ) (s : State) → IsFormed s → IsFormed (broke name s
 breaks name s h = record { locals = h.locals; saved = h.saved; mark = h.mark; held = h.held }
 
 pub asked : (a : Ask) {f : Reply → Timed} → is_ask a ≡ true → ((r : Reply) → is_reply r ≡ true → Asks (f r)) → Asks (ask a f)
-asked a q l = looked (λ s k. chosen (nat_lt s.replied steps_limit) (replied_to a q (λ r p. changed {c = counted} count_on (l r p))) (faulted {f = Steps}))
+asked a q l = looked (λ s k. chosen (nat_lt s.replied s.bounds.events) (replied_to a q (λ r p. changed {c = counted} count_on (l r p))) (faulted {f = Steps}))
 
 -- each ask of a device can be written
 pub to_its_device : (name : List ℕ) (a : DeviceAsk) {f : Reply → Timed} → ((r : Reply) → is_reply r ≡ true → Asks (f r)) → Asks (to_device name a f)
@@ -247,14 +251,14 @@ pub reads : (x : Name) {f : List ℕ → Timed} → IsNamed x → ((v : List ℕ
 reads x h l = makes (accesses.Value x) (value_may x h) (λ a p. needs Undefined (value_told a) l)
 
 pub is_about : (k : NameFunction) (x : Name) (o : Option (List ℕ)) {f : List ℕ → Timed} → Suits k x → ((v : List ℕ) → Asks (f v)) → Asks (about k x o f)
-is_about names.Data x o h l = makes (accesses.Data x) (data_may x h) (λ r p. is_given (function_told names.Data o r) l)
-is_about names.Get x o h l = makes (accesses.Value x) (value_may x h) (λ r p. is_given (function_told names.Get o r) l)
-is_about names.Name x o h l = is_given (spelled x) l
-is_about names.Query x o h l = makes (accesses.Query x) (query_may x h) (λ r p. is_given (function_told names.Query o r) l)
+is_about names.Data x o h l = makes (accesses.Data x) (data_may x h) (λ r p. is_composed (λ limit. function_told limit names.Data o r) l)
+is_about names.Get x o h l = makes (accesses.Value x) (value_may x h) (λ r p. is_composed (λ limit. function_told limit names.Get o r) l)
+is_about names.Name x o h l = is_composed (λ limit. spelled limit x) l
+is_about names.Query x o h l = makes (accesses.Query x) (query_may x h) (λ r p. is_composed (λ limit. function_told limit names.Query o r) l)
 is_about names.Order x o {f} h l = by (direction_of o)
   where
-    by : (d : Result Direction Fault) → Asks (given (then_value d (λ way. Ok (accesses.Order x way))) (λ a. access a (λ r. given (function_told names.Order o r) f)))
-    by (Ok way) = makes (accesses.Order x way) (order_may x way h) (λ r p. is_given (function_told names.Order o r) l)
+    by : (d : Result Direction Fault) → Asks (given (then_value d (λ way. Ok (accesses.Order x way))) (λ a. access a (λ r. composed (λ limit. function_told limit names.Order o r) f)))
+    by (Ok way) = makes (accesses.Order x way) (order_may x way h) (λ r p. is_composed (λ limit. function_told limit names.Order o r) l)
     by (Err e) = faulted
 
 -- Commands.
@@ -263,7 +267,7 @@ pub stores : (x : Name) (v : List ℕ) {f : Timed} → IsNamed x → Asks f → 
 stores x v h l = makes (accesses.Set x v) (set_may x v h) (λ a p. l)
 
 renews_pieces : (x : Name) (d : List ℕ) (range : ℕ × ℕ) (e : List ℕ) {f : List ℕ → Timed} → IsNamed x → ((v : List ℕ) → Asks (f v)) → Asks (renewed x d range e f)
-renews_pieces x d range e h l = makes (accesses.Value x) (value_may x h) (λ a p. is_given (set_piece_value (or_empty (value_told a)) d range e) l)
+renews_pieces x d range e h l = makes (accesses.Value x) (value_may x h) (λ a p. is_composed (λ limit. set_piece_value limit (or_empty (value_told a)) d range e) l)
 
 renews : (x : Name) (ts : List (List ℕ)) (e : List ℕ) {f : Timed} {g : List ℕ → Timed} → IsNamed x → Asks f → ((v : List ℕ) → Asks (g v)) → Asks (assign_piece x ts e f g)
 renews x ts e {f} {g} h skipped l = is_given (assigned_pieces (needed 0 ts) (optional 1 ts) (optional 2 ts)) at
@@ -333,8 +337,8 @@ write_on bytes s h = record { locals = h.locals; saved = h.saved; mark = h.mark;
 pub writes : (bytes : List ℕ) {f : Timed} → Asks f → Asks (write bytes f)
 writes [] l = l
 writes (x ∷ bytes) l =
-    chosen (nat_lt TEXT_LIMIT (length (x ∷ bytes))) faulted
-    (looked (λ s k. to_its_device s.current (device_asks.Write (x ∷ bytes)) (λ r p. changed {c = wrote (x ∷ bytes)} (write_on (x ∷ bytes)) l)))
+    is_composed (λ limit. within_limit limit (x ∷ bytes))
+    (λ text. looked (λ s k. to_its_device s.current (device_asks.Write text) (λ r p. changed {c = wrote text} (write_on text) l)))
 
 pub tabs : (marks : List FormatMark) (v : List ℕ) {f : Timed} → Asks f → Asks (tab marks v f)
 tabs marks v l = is_given (reading v) (λ n. looked (λ s k. writes (tab_bytes marks n (column_at s.current s)) l))

@@ -2,7 +2,7 @@
 
 use mj_oper::{Op, binary};
 use mj_strfn as functions;
-use mj_text::{Failure, Text};
+use mj_text::{Failure, Limit, Text};
 use std::alloc::Global;
 
 /// A call that is measured.
@@ -132,10 +132,10 @@ fn byte_at(place: u32) -> u8 {
 pub fn once(alloc: Global, work: Work, s: &Sample) -> Result<Text, Failure> {
     match work {
         Work::Ascii => functions::ascii(alloc, &s.text, Some(&s.size)),
-        Work::Char => functions::char(alloc, &[s.one.try_clone()?, s.one.try_clone()?]),
+        Work::Char => functions::char(alloc, &[s.one.try_clone()?, s.one.try_clone()?], Limit::V2),
         Work::Extract => functions::extract(&s.text, Some(&s.two), Some(&s.size)),
         Work::Find => functions::find(alloc, &s.text, &s.part, None),
-        Work::Justify => functions::justify(alloc, &s.empty, &s.size),
+        Work::Justify => functions::justify(alloc, &s.empty, &s.size, Limit::V2),
         Work::Length => Ok(functions::length(alloc, &s.text, None)),
         Work::Pieces => Ok(functions::length(alloc, &s.text, Some(&s.comma))),
         Work::PieceAtEnd => functions::piece(alloc, &s.text, &s.comma, Some(&s.last), None),
@@ -143,14 +143,14 @@ pub fn once(alloc: Global, work: Work, s: &Sample) -> Result<Text, Failure> {
         Work::Reverse => functions::reverse(alloc, &s.text),
         Work::Translate => functions::translate(alloc, &s.text, &s.some, Some(&s.comma)),
         Work::TranslateAll => functions::translate(alloc, &s.text, &s.all, Some(&s.all)),
-        Work::Join => binary(alloc, Op::Join, &s.text, &s.comma),
+        Work::Join => binary(alloc, Op::Join, &s.text, &s.comma, Limit::V2),
     }
 }
 
 // The last piece is set.
 fn set_last(alloc: Global, s: &Sample) -> Result<Text, Failure> {
     match functions::assigned_pieces(&s.comma, Some(&s.last), None)? {
-        Some(range) => functions::set_piece(alloc, &s.text, &s.comma, range, &s.some),
+        Some(range) => functions::set_piece(alloc, &s.text, &s.comma, range, &s.some, Limit::V2),
         None => Ok(s.text.try_clone()?),
     }
 }

@@ -11,6 +11,9 @@ use Rattle.std.specs.Ordering.{is_lt}
 use Rattle.std.specs.FinMap.{is_sorted}
 use Rattle.std.specs.FinMap.Entries.{below_all}
 use Rattle.std.proofs.lemmas.Bool.Decides.{nat_tests}
+use Rattle.mj_text.specs.declared.limit.Limit.{Limit}
+use Rattle.mj_text.specs.declared.limit.Limit.TheVariants.{V1, V2}
+use Rattle.mj_text.specs.Limit.{smaller}
 use Rattle.mj_num.specs.Number.{is_canonic}
 use Rattle.mj_subs.specs.Name.{Name, is_word}
 use Rattle.mj_subs.specs.Collation.{name_cmp}
@@ -19,9 +22,10 @@ use Rattle.mj_nref.specs.Spelling.{is_filled, word_text}
 use Rattle.mj_store.specs.Questions.{Content}
 use Rattle.mj_gfile.specs.declared.error.ReadError.{ReadError}
 use Rattle.mj_gfile.specs.declared.error.ReadError.TheVariants as error
-use Rattle.mj_gfile.specs.Spelling.{is_any_word, is_shown, digit_byte, quoted_byte, quoted_bytes, listed_text, listed_subscript, listed_rest, listed_subscripts, listed_line, listed_lines, header, listing_of}
+use Rattle.mj_gfile.specs.Spelling.{is_any_word, is_shown, digit_byte, quoted_byte, quoted_bytes, listed_text, listed_subscript, listed_rest, listed_subscripts, listed_line, listed_lines, header}
 use Rattle.mj_gfile.specs.Reading.{Whole, is_number_byte, quoted_at, text_at, whole_only, assigned, value_of, with_value, valued, globally, name_in, line_of}
-use Rattle.mj_gfile.specs.Listing.{is_short, are_small, is_small, is_small_node, begun_by, lines_of, is_after, judged, before, followed, nodes_of, headed, reading_of, are_bytes, is_text, is_subscript, is_node, AreGlobals, IsReading}
+use Rattle.mj_gfile.specs.Listing.{is_short, are_small, is_small, is_small_node, begun_by, lines_of, is_after, judged, before, followed, nodes_of, version_of, behind_header, headed, reading_of, are_bytes, is_text, is_subscript, is_node, IsListed, IsReading}
+use Rattle.mj_gfile.specs.Spelled.{IsReadBack}
 use Rattle.mj_gfile.specs.Laws.Texts.{both_true, IsQuoted, quoted_at-quoted, quoted_at-IsQuoted}
 use Rattle.mj_gfile.specs.Laws.Names.{canonic_numbers, more_pass, AreSubs, name_in-listed, IsNameAt, IsNamed, name_in-IsNamed}
 use Rattle.mj_subs.specs.declared.subs.TheConstants.{SUBSCRIPTS_LIMIT}
@@ -109,39 +113,39 @@ any_word : (w : List ℕ) → is_word w ≡ (is_any_word w && nat_le (length w) 
 any_word [] = refl
 any_word (c ∷ cs) = refl
 
-subs_of : (ss : List (List ℕ)) → list_all is_subscript ss ≡ true → AreSubs ss × (list_all is_short ss ≡ true)
-subs_of [] h = (tt, refl)
-subs_of (s ∷ ss) h =
-    let p = both_true (is_subscript s) (list_all is_subscript ss) h in
-    let q = both_true (is_filled s) (is_text s) p.0 in
-    let r = both_true (is_short s) (are_bytes s) q.1 in
-    let more = subs_of ss p.1 in
+subs_of : (limit : Limit) (ss : List (List ℕ)) → list_all (is_subscript limit) ss ≡ true → AreSubs ss × (list_all (is_short limit) ss ≡ true)
+subs_of limit [] h = (tt, refl)
+subs_of limit (s ∷ ss) h =
+    let p = both_true (is_subscript limit s) (list_all (is_subscript limit) ss) h in
+    let q = both_true (is_filled s) (is_text limit s) p.0 in
+    let r = both_true (is_short limit s) (are_bytes s) q.1 in
+    let more = subs_of limit ss p.1 in
     ((record { filled = q.0; bytes = r.1 }, more.0), (λ i. r.0 i && more.1 i))
 
-of_subs : (ss : List (List ℕ)) → AreSubs ss → list_all is_short ss ≡ true → list_all is_subscript ss ≡ true
-of_subs [] k h = refl
-of_subs (s ∷ ss) k h =
-    let p = both_true (is_short s) (list_all is_short ss) h in λ i. (k.0.filled i && (p.0 i && k.0.bytes i)) && of_subs ss k.1 p.1 i
+of_subs : (limit : Limit) (ss : List (List ℕ)) → AreSubs ss → list_all (is_short limit) ss ≡ true → list_all (is_subscript limit) ss ≡ true
+of_subs limit [] k h = refl
+of_subs limit (s ∷ ss) k h =
+    let p = both_true (is_short limit s) (list_all (is_short limit) ss) h in λ i. (k.0.filled i && (p.0 i && k.0.bytes i)) && of_subs limit ss k.1 p.1 i
 
 -- a node is spelled, and within the limits
-pub node_parts : (e : Name × List ℕ) → is_node e ≡ true → IsSpelled e × (is_small_node e ≡ true)
-node_parts e h =
-    let a = both_true (e.0.global && is_word e.0.word && nat_le (length e.0.subscripts) SUBSCRIPTS_LIMIT && list_all is_subscript e.0.subscripts) (is_text e.1) h in
-    let b = both_true (e.0.global && is_word e.0.word && nat_le (length e.0.subscripts) SUBSCRIPTS_LIMIT) (list_all is_subscript e.0.subscripts) a.0 in
+pub node_parts : (limit : Limit) (e : Name × List ℕ) → is_node limit e ≡ true → IsSpelled e × (is_small_node limit e ≡ true)
+node_parts limit e h =
+    let a = both_true (e.0.global && is_word e.0.word && nat_le (length e.0.subscripts) SUBSCRIPTS_LIMIT && list_all (is_subscript limit) e.0.subscripts) (is_text limit e.1) h in
+    let b = both_true (e.0.global && is_word e.0.word && nat_le (length e.0.subscripts) SUBSCRIPTS_LIMIT) (list_all (is_subscript limit) e.0.subscripts) a.0 in
     let c = both_true (e.0.global && is_word e.0.word) (nat_le (length e.0.subscripts) SUBSCRIPTS_LIMIT) b.0 in
     let d = both_true e.0.global (is_word e.0.word) c.0 in
     let w = both_true (is_any_word e.0.word) (nat_le (length e.0.word) WORD_LIMIT) (sym (any_word e.0.word) ∙ d.1) in
-    let s = subs_of e.0.subscripts b.1 in
-    let t = both_true (is_short e.1) (are_bytes e.1) a.1 in
+    let s = subs_of limit e.0.subscripts b.1 in
+    let t = both_true (is_short limit e.1) (are_bytes e.1) a.1 in
     (record { global = d.0; word = w.0; subs = s.0; text = t.1 }, (λ i. (w.1 i && (c.1 i && s.1 i)) && t.0 i))
 
-pub node_whole : (e : Name × List ℕ) → IsSpelled e → is_small_node e ≡ true → is_node e ≡ true
-node_whole e k h =
-    let a = both_true (is_small e.0) (is_short e.1) h in
-    let b = both_true (nat_le (length e.0.word) WORD_LIMIT) (are_small e.0.subscripts) a.0 in
-    let c = both_true (nat_le (length e.0.subscripts) SUBSCRIPTS_LIMIT) (list_all is_short e.0.subscripts) b.1 in
+pub node_whole : (limit : Limit) (e : Name × List ℕ) → IsSpelled e → is_small_node limit e ≡ true → is_node limit e ≡ true
+node_whole limit e k h =
+    let a = both_true (is_small limit e.0) (is_short limit e.1) h in
+    let b = both_true (nat_le (length e.0.word) WORD_LIMIT) (are_small limit e.0.subscripts) a.0 in
+    let c = both_true (nat_le (length e.0.subscripts) SUBSCRIPTS_LIMIT) (list_all (is_short limit) e.0.subscripts) b.1 in
     let w = any_word e.0.word ∙ (λ i. k.word i && b.0 i) in
-    λ i. (((k.global i && w i) && c.0 i) && of_subs e.0.subscripts k.subs c.1 i) && (a.1 i && k.text i)
+    λ i. (((k.global i && w i) && c.0 i) && of_subs limit e.0.subscripts k.subs c.1 i) && (a.1 i && k.text i)
 
 -- ---- lines
 
@@ -310,95 +314,124 @@ rises_all (e ∷ es) k = (refl, rises_of e.0 es (first_so (below_all name_cmp e.
 
 -- ---- listings
 
-pub judged_ok : (last : Option Name) (k : ℕ) (e : Name × List ℕ) → is_small_node e ≡ true → is_after last e.0 ≡ true → judged last k (Some e) ≡ Ok e
-judged_ok last k e s a = λ i. cond (s i) (cond (a i) (Ok e) (Err (error.Order k))) (Err (error.Limit k))
+pub judged_ok : (limit : Limit) (last : Option Name) (k : ℕ) (e : Name × List ℕ) → is_small_node limit e ≡ true → is_after last e.0 ≡ true → judged limit last k (Some e) ≡ Ok e
+judged_ok limit last k e s a = λ i. cond (s i) (cond (a i) (Ok e) (Err (error.Order k))) (Err (error.Limit k))
 
 -- the lines of globals are read
-nodes_of-listed : (last : Option Name) (k : ℕ) (es : Content) → list_all is_node es ≡ true → Rises last es → nodes_of last k (lines_of (listed_lines es)) ≡ Ok es
-nodes_of-listed last k [] h r = refl
-nodes_of-listed last k (e ∷ es) h r =
-    let p = both_true (is_node e) (list_all is_node es) h in
-    let q = node_parts e p.0 in
-    ap (nodes_of last k) (line_first (listed_line e) (listed_lines es) (line_within e q.0))
-    ∙ ap (λ o. followed (judged last k o) (λ d. nodes_of (Some d.0) (suc k) (lines_of (listed_lines es)))) (line_of-listed e q.0)
-    ∙ ap (λ o. followed o (λ d. nodes_of (Some d.0) (suc k) (lines_of (listed_lines es)))) (judged_ok last k e q.1 r.0)
-    ∙ ap (before e) (nodes_of-listed (Some e.0) (suc k) es p.1 r.1)
+nodes_of-listed : (limit : Limit) (last : Option Name) (k : ℕ) (es : Content) → list_all (is_node limit) es ≡ true → Rises last es → nodes_of limit last k (lines_of (listed_lines es)) ≡ Ok es
+nodes_of-listed limit last k [] h r = refl
+nodes_of-listed limit last k (e ∷ es) h r =
+    let p = both_true (is_node limit e) (list_all (is_node limit) es) h in
+    let q = node_parts limit e p.0 in
+    ap (nodes_of limit last k) (line_first (listed_line e) (listed_lines es) (line_within e q.0))
+    ∙ ap (λ o. followed (judged limit last k o) (λ d. nodes_of limit (Some d.0) (suc k) (lines_of (listed_lines es)))) (line_of-listed e q.0)
+    ∙ ap (λ o. followed o (λ d. nodes_of limit (Some d.0) (suc k) (lines_of (listed_lines es)))) (judged_ok limit last k e q.1 r.0)
+    ∙ ap (before e) (nodes_of-listed limit (Some e.0) (suc k) es p.1 r.1)
+
+-- a header is a line, and names its version
+pub header_within : (version : Limit) → AreWithin (header version)
+unfolding no_end
+header_within V1 = refl
+header_within V2 = refl
+
+pub version_of-header : (version : Limit) → version_of (header version) ≡ Some version
+version_of-header V1 = refl
+version_of-header V2 = refl
+
+pub version_is : (l : List ℕ) (version : Limit) → version_of l ≡ Some version → l ≡ header version
+version_is l version e = first (bytes_eq l (header V1)) refl e
+  where
+    second : (b : Bool) → bytes_eq l (header V2) ≡ b → cond b (Some V2) None ≡ Some version → l ≡ header version
+    second true is so = (bytes_decides l (header V2)).0 is ∙ ap header (let same : V2 ≡ version = cc in same)
+    second false is so = absurd cc
+
+    first : (b : Bool) → bytes_eq l (header V1) ≡ b → cond b (Some V1) (cond (bytes_eq l (header V2)) (Some V2) None) ≡ Some version → l ≡ header version
+    first true is so = (bytes_decides l (header V1)).0 is ∙ ap header (let same : V1 ≡ version = cc in same)
+    first false is so = second (bytes_eq l (header V2)) refl so
 
 -- the listing of globals is read as these
-reading_of-listing : (content : Content) → AreGlobals content → reading_of (listing_of content) ≡ Ok content
-unfolding no_end
-reading_of-listing content k = ap headed (line_first header (listed_lines content) refl) ∙ nodes_of-listed None 2 content k.nodes (rises_all content k.rise)
+pub reads_back : IsReadBack
+reads_back limit version content k =
+    ap (headed limit) (line_first (header version) (listed_lines content) (header_within version))
+    ∙ ap (λ v. behind_header limit v (lines_of (listed_lines content))) (version_of-header version)
+    ∙ nodes_of-listed (smaller version limit) None 2 content k.nodes (rises_all content k.rise)
 
 -- what a reading of lines says of their bytes
-abbrev AreListed : Option Name → List (List ℕ × Bool) → Result Content ReadError → Type 0
-AreListed last ls (Err e) = Unit {0}
-AreListed last ls (Ok es) = (bytes_of ls ≡ listed_lines es) × (list_all is_node es ≡ true) × Rises last es
+abbrev AreListed : Limit → Option Name → List (List ℕ × Bool) → Result Content ReadError → Type 0
+AreListed limit last ls (Err e) = Unit {0}
+AreListed limit last ls (Ok es) = (bytes_of ls ≡ listed_lines es) × (list_all (is_node limit) es ≡ true) × Rises last es
 
-one_more : (last : Option Name) (l : List ℕ) (ls : List (List ℕ × Bool)) (e : Name × List ℕ) (r : Result Content ReadError) → l ≡ listed_line e → is_node e ≡ true → is_after last e.0 ≡ true
-    → AreListed (Some e.0) ls r → AreListed last ((l, true) ∷ ls) (before e r)
+one_more : (limit : Limit) (last : Option Name) (l : List ℕ) (ls : List (List ℕ × Bool)) (e : Name × List ℕ) (r : Result Content ReadError) → l ≡ listed_line e → is_node limit e ≡ true
+    → is_after last e.0 ≡ true → AreListed limit (Some e.0) ls r → AreListed limit last ((l, true) ∷ ls) (before e r)
 unfolding bytes_of
-one_more last l ls e (Err x) is node after h = tt
-one_more last l ls e (Ok es) is node after h = ((λ i. is i ++ 10 ∷ h.0 i), (λ i. node i && h.1 i), (after, h.2))
+one_more limit last l ls e (Err x) is node after h = tt
+one_more limit last l ls e (Ok es) is node after h = ((λ i. is i ++ 10 ∷ h.0 i), (λ i. node i && h.1 i), (after, h.2))
 
-module _ (last : Option Name) (k : ℕ) (l : List ℕ) (ls : List (List ℕ × Bool)) (more : Name × List ℕ → Result Content ReadError) (rec : (e : Name × List ℕ) → AreListed (Some e.0) ls (more e)) where
-  in_place : (e : Name × List ℕ) (b : Bool) → is_after last e.0 ≡ b → l ≡ listed_line e → is_node e ≡ true → AreListed last ((l, true) ∷ ls) (followed (cond b (Ok e) (Err (error.Order k))) more)
-  in_place e true a is node = one_more last l ls e (more e) is node a (rec e)
+module _ (limit : Limit) (last : Option Name) (k : ℕ) (l : List ℕ) (ls : List (List ℕ × Bool)) (more : Name × List ℕ → Result Content ReadError)
+    (rec : (e : Name × List ℕ) → AreListed limit (Some e.0) ls (more e)) where
+  in_place : (e : Name × List ℕ) (b : Bool) → is_after last e.0 ≡ b → l ≡ listed_line e → is_node limit e ≡ true
+      → AreListed limit last ((l, true) ∷ ls) (followed (cond b (Ok e) (Err (error.Order k))) more)
+  in_place e true a is node = one_more limit last l ls e (more e) is node a (rec e)
   in_place e false a is node = tt
 
-  in_limits : (e : Name × List ℕ) (b : Bool) → is_small_node e ≡ b → l ≡ listed_line e → IsSpelled e
-      → AreListed last ((l, true) ∷ ls) (followed (cond b (cond (is_after last e.0) (Ok e) (Err (error.Order k))) (Err (error.Limit k))) more)
-  in_limits e true s is spelled = in_place e (is_after last e.0) refl is (node_whole e spelled s)
+  in_limits : (e : Name × List ℕ) (b : Bool) → is_small_node limit e ≡ b → l ≡ listed_line e → IsSpelled e
+      → AreListed limit last ((l, true) ∷ ls) (followed (cond b (cond (is_after last e.0) (Ok e) (Err (error.Order k))) (Err (error.Limit k))) more)
+  in_limits e true s is spelled = in_place e (is_after last e.0) refl is (node_whole limit e spelled s)
   in_limits e false s is spelled = tt
 
-  line_listed : (o : Option (Name × List ℕ)) → IsLine l o → AreListed last ((l, true) ∷ ls) (followed (judged last k o) more)
+  line_listed : (o : Option (Name × List ℕ)) → IsLine l o → AreListed limit last ((l, true) ∷ ls) (followed (judged limit last k o) more)
   line_listed None h = tt
-  line_listed (Some e) h = in_limits e (is_small_node e) refl h.0 h.1
+  line_listed (Some e) h = in_limits e (is_small_node limit e) refl h.0 h.1
 
 -- what is read of lines are lines of globals
-nodes_of-AreListed : (last : Option Name) (k : ℕ) (ls : List (List ℕ × Bool)) → AreListed last ls (nodes_of last k ls)
+nodes_of-AreListed : (limit : Limit) (last : Option Name) (k : ℕ) (ls : List (List ℕ × Bool)) → AreListed limit last ls (nodes_of limit last k ls)
 unfolding bytes_of
-nodes_of-AreListed last k [] = (refl, refl, tt)
-nodes_of-AreListed last k ((l, false) ∷ ls) = tt
-nodes_of-AreListed last k ((l, true) ∷ ls) =
-    line_listed last k l ls (λ e. nodes_of (Some e.0) (suc k) ls) (λ e. nodes_of-AreListed (Some e.0) (suc k) ls) (line_of l) (line_of-IsLine l)
+nodes_of-AreListed limit last k [] = (refl, refl, tt)
+nodes_of-AreListed limit last k ((l, false) ∷ ls) = tt
+nodes_of-AreListed limit last k ((l, true) ∷ ls) =
+    line_listed limit last k l ls (λ e. nodes_of limit (Some e.0) (suc k) ls) (λ e. nodes_of-AreListed limit (Some e.0) (suc k) ls) (line_of l) (line_of-IsLine l)
 
 -- what a reading says of the bytes
-abbrev IsListing : List ℕ → Result Content ReadError → Type 0
-IsListing bs (Err e) = Unit {0}
-IsListing bs (Ok es) = (bs ≡ listing_of es) × AreGlobals es
+abbrev IsListing : Limit → List ℕ → Result Content ReadError → Type 0
+IsListing limit bs (Err e) = Unit {0}
+IsListing limit bs (Ok es) = IsListed limit bs es
 
-behind_header : (l : List ℕ) (ls : List (List ℕ × Bool)) (r : Result Content ReadError) → l ≡ header → AreListed None ls r → IsListing (bytes_of ((l, true) ∷ ls)) r
+lines_behind : (limit version : Limit) (l : List ℕ) (ls : List (List ℕ × Bool)) (r : Result Content ReadError) → l ≡ header version → AreListed (smaller version limit) None ls r
+    → IsListing limit (bytes_of ((l, true) ∷ ls)) r
 unfolding bytes_of
-behind_header l ls (Err e) is h = tt
-behind_header l ls (Ok es) is h = ((λ i. is i ++ 10 ∷ h.0 i), record { nodes = h.1; rise = sorted_of None es h.2 })
+lines_behind limit version l ls (Err e) is h = tt
+lines_behind limit version l ls (Ok es) is h = (version, (λ i. is i ++ 10 ∷ h.0 i), record { nodes = h.1; rise = sorted_of None es h.2 })
 
-headed-IsListing : (ls : List (List ℕ × Bool)) → IsListing (bytes_of ls) (headed ls)
-headed-IsListing [] = tt
-headed-IsListing ((l, false) ∷ ls) = tt
-headed-IsListing ((l, true) ∷ ls) = by (bytes_eq l header) refl
+headed-IsListing : (limit : Limit) (ls : List (List ℕ × Bool)) → IsListing limit (bytes_of ls) (headed limit ls)
+headed-IsListing limit [] = tt
+headed-IsListing limit ((l, false) ∷ ls) = tt
+headed-IsListing limit ((l, true) ∷ ls) = by (version_of l) refl
   where
-    by : (b : Bool) → bytes_eq l header ≡ b → IsListing (bytes_of ((l, true) ∷ ls)) (cond b (nodes_of None 2 ls) (Err error.Header))
-    by false e = tt
-    by true e = behind_header l ls (nodes_of None 2 ls) ((bytes_decides l header).0 e) (nodes_of-AreListed None 2 ls)
+    by : (v : Option Limit) → version_of l ≡ v → IsListing limit (bytes_of ((l, true) ∷ ls)) (behind_header limit v ls)
+    by None e = tt
+    by (Some version) e =
+        lines_behind limit version l ls (nodes_of (smaller version limit) None 2 ls) (version_is l version e) (nodes_of-AreListed (smaller version limit) None 2 ls)
 
-reading_of-IsListing : (bs : List ℕ) → IsListing bs (reading_of bs)
-reading_of-IsListing bs = subst (λ x. IsListing x (reading_of bs)) (bytes-lines bs) (headed-IsListing (lines_of bs))
+reading_of-IsListing : (limit : Limit) (bs : List ℕ) → IsListing limit bs (reading_of limit bs)
+reading_of-IsListing limit bs = subst (λ x. IsListing limit x (reading_of limit bs)) (bytes-lines bs) (headed-IsListing limit (lines_of bs))
 
--- bytes are read as some globals exactly where they are the listing of these
-pub reading : (bs : List ℕ) → IsReading bs (reading_of bs)
-reading bs = record { lists = λ content. (λ e. subst (IsListing bs) e (reading_of-IsListing bs), λ h. ap reading_of h.0 ∙ reading_of-listing content h.1) }
+-- bytes are read as some globals exactly where they are a listing of these
+pub reading : (limit : Limit) (bs : List ℕ) → IsReading limit bs (reading_of limit bs)
+reading limit bs = record {
+  lists = λ content. (λ e. subst (IsListing limit bs) e (reading_of-IsListing limit bs), λ h. ap (reading_of limit) h.1 ∙ reads_back limit h.0 content h.2);
+}
 
 -- ---- what a call gives that reads so
 
-pub lists_them : (bs : List ℕ) (r : Result Content ReadError) → IfOk r (λ g. reading_of bs ≡ Ok g) → IfOk r (λ g. (bs ≡ listing_of g) × AreGlobals g)
-lists_them bs (Ok g) h = ((reading bs).lists g).0 h
-lists_them bs (Err e) h = tt
+pub lists_them : (limit : Limit) (bs : List ℕ) (r : Result Content ReadError) → IfOk r (λ g. reading_of limit bs ≡ Ok g) → IfOk r (IsListed limit bs)
+lists_them limit bs (Ok g) h = ((reading limit bs).lists g).0 h
+lists_them limit bs (Err e) h = tt
 
-pub lists_all : {A : Type 0} (bs : List ℕ) (r : Result A ReadError) → IfErr r (λ e. (e ≡ error.Memory) ⊎ (reading_of bs ≡ Err e)) → (content : Content) → bs ≡ listing_of content → AreGlobals content
-    → IfErr r (λ e. e ≡ error.Memory)
-lists_all bs (Ok g) h content is are = tt
-lists_all bs (Err e) h content is are = by h (((reading bs).lists content).1 (is, are))
+pub lists_all : {A : Type 0} (limit : Limit) (bs : List ℕ) (r : Result A ReadError) → IfErr r (λ e. (e ≡ error.Memory) ⊎ (reading_of limit bs ≡ Err e)) → (content : Content)
+    → IsListed limit bs content → IfErr r (λ e. e ≡ error.Memory)
+lists_all limit bs (Ok g) h content is = tt
+lists_all limit bs (Err e) h content is = by h (((reading limit bs).lists content).1 is)
   where
-    by : (e ≡ error.Memory) ⊎ (reading_of bs ≡ Err e) → reading_of bs ≡ Ok content → e ≡ error.Memory
+    by : (e ≡ error.Memory) ⊎ (reading_of limit bs ≡ Err e) → reading_of limit bs ≡ Ok content → e ≡ error.Memory
     by (inl m) ok = m
     by (inr x) ok = absurd cc

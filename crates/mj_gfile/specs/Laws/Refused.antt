@@ -1,13 +1,13 @@
--- A refused listing is refused by its first line that isn't one of globals, and for one reason.
+-- A refused listing is refused by its first line that isn't one of globals, and for one reason; and globals have one listing of each version at most.
 use Rattle.std.proofs.Common.{◌≡◌, ◌⊎◌, inl, inr, ◌∙◌, ◌+◌, suc, ℕ, Bool, true, false, cond, ◌&&◌, eqb, eqb-true, List, [], ◌∷◌, ◌++◌, length, length-append, Option, Some, None, Result, Ok, Err, refl, sym, ap, subst, append_assoc, arith}
 use Rattle.std.specs.Prelude.{IfErr}
 use Rattle.std.specs.List.{list_all}
-use Rattle.std.specs.Str.{bytes_eq}
-use Rattle.std.specs.Cmp.Lexicographic.{bytes_decides}
 use Rattle.std.specs.Ordering.{is_lt}
 use Rattle.std.specs.declared.cmp.Ordering.{Ordering}
 use Rattle.std.specs.declared.cmp.Ordering.TheVariants.{Less, Equal, Greater}
 use Rattle.std.proofs.lemmas.List.Folds.{list_all-append}
+use Rattle.mj_text.specs.declared.limit.Limit.{Limit}
+use Rattle.mj_text.specs.Limit.{smaller}
 use Rattle.mj_subs.specs.Name.{Name}
 use Rattle.mj_subs.specs.Collation.{name_cmp}
 use Rattle.mj_nref.specs.Spelling.{is_filled}
@@ -15,12 +15,13 @@ use Rattle.mj_store.specs.Questions.{Content}
 use Rattle.mj_gfile.specs.declared.error.ReadError.{ReadError}
 use Rattle.mj_gfile.specs.declared.error.ReadError.TheVariants as error
 use Rattle.mj_gfile.specs.Spelling.{is_any_word, listed_line, listed_lines, header, listing_of}
+use Rattle.mj_gfile.specs.Spelled.{HasOneSpelling}
 use Rattle.mj_gfile.specs.Reading.{line_of}
-use Rattle.mj_gfile.specs.Listing.{is_small_node, begun_by, lines_of, is_after, judged, before, followed, nodes_of, headed, reading_of, are_bytes, is_node}
+use Rattle.mj_gfile.specs.Listing.{is_small_node, begun_by, lines_of, is_after, judged, before, followed, nodes_of, version_of, behind_header, headed, reading_of, are_bytes, is_node}
 use Rattle.mj_gfile.specs.Refused.{is_any_subscript, is_any_node, HasLine, IsUnspelled, IsOverLimit, IsOutOfOrder, IsFirst, IsListingRefused, HasOneReason}
 use Rattle.mj_gfile.specs.Laws.Texts.{both_true}
 use Rattle.mj_gfile.specs.Laws.Names.{AreSubs}
-use Rattle.mj_gfile.specs.Laws.Listings.{IsSpelled, node_parts, rises_all, judged_ok, line_of-listed, IsLine, line_of-IsLine, node_whole, AreWithin, line_first, line_within, Rises, sorted_of, no_end}
+use Rattle.mj_gfile.specs.Laws.Listings.{IsSpelled, node_parts, rises_all, judged_ok, line_of-listed, IsLine, line_of-IsLine, node_whole, AreWithin, line_first, line_within, Rises, sorted_of, header_within, version_of-header, version_is, reading}
 
 -- ---- a line at the front
 
@@ -130,36 +131,37 @@ last_there (d ∷ es) n h = last_before d es n h
 -- ---- up to the line that is refused
 
 -- up to these bytes, which are the lines from k on, the bytes are the listing of these globals
-record IsUpTo (bytes : List ℕ) (es : Content) (k : ℕ) (rest : List ℕ) : Type 0 where
-  cut : bytes ≡ listing_of es ++ rest
-  nodes : list_all is_node es ≡ true
+record IsUpTo (limit version : Limit) (bytes : List ℕ) (es : Content) (k : ℕ) (rest : List ℕ) : Type 0 where
+  cut : bytes ≡ listing_of version es ++ rest
+  nodes : list_all (is_node (smaller version limit)) es ≡ true
   rise : Rises None es
   place : k ≡ length es + 2
 
-module _ (bytes : List ℕ) (es : Content) (k : ℕ) (rest : List ℕ) (u : IsUpTo bytes es k rest) where
-  first : (IsWhy : Content → List ℕ → Type 0) → IsWhy es rest → IsFirst bytes k IsWhy
-  first IsWhy why = record { before = es; rest = rest; cut = u.cut; globals = record { nodes = u.nodes; rise = sorted_of None es u.rise }; place = u.place; why = why }
+module _ (limit version : Limit) (bytes : List ℕ) (es : Content) (k : ℕ) (rest : List ℕ) (u : IsUpTo limit version bytes es k rest) where
+  first : (IsWhy : Limit → Content → List ℕ → Type 0) → IsWhy (smaller version limit) es rest → IsFirst limit bytes k IsWhy
+  first IsWhy why = record { version = version; before = es; rest = rest; cut = u.cut; globals = record { nodes = u.nodes; rise = sorted_of None es u.rise }; place = u.place; why = why }
 
-  more : (e : Name × List ℕ) (r : List ℕ) → rest ≡ listed_line e ++ 10 ∷ r → is_node e ≡ true → is_after (last_of None es) e.0 ≡ true → IsUpTo bytes (es ++ e ∷ []) (suc k) r
+  more : (e : Name × List ℕ) (r : List ℕ) → rest ≡ listed_line e ++ 10 ∷ r → is_node (smaller version limit) e ≡ true → is_after (last_of None es) e.0 ≡ true
+      → IsUpTo limit version bytes (es ++ e ∷ []) (suc k) r
   more e r at can after = record {
-    cut = u.cut ∙ ap (λ x. listing_of es ++ x) (at ∙ sym (append_assoc (listed_line e) (10 ∷ []) r))
-        ∙ sym (append_assoc (listing_of es) (listed_line e ++ 10 ∷ []) r)
-        ∙ ap (λ x. x ++ r) (append_assoc header (10 ∷ listed_lines es) (listed_line e ++ 10 ∷ []) ∙ ap (λ x. header ++ 10 ∷ x) (sym (lines_added es e)));
-    nodes = list_all-append is_node es (e ∷ []) ∙ (λ i. u.nodes i && (can i && true));
+    cut = u.cut ∙ ap (λ x. listing_of version es ++ x) (at ∙ sym (append_assoc (listed_line e) (10 ∷ []) r))
+        ∙ sym (append_assoc (listing_of version es) (listed_line e ++ 10 ∷ []) r)
+        ∙ ap (λ x. x ++ r) (append_assoc (header version) (10 ∷ listed_lines es) (listed_line e ++ 10 ∷ []) ∙ ap (λ x. header version ++ 10 ∷ x) (sym (lines_added es e)));
+    nodes = list_all-append (is_node (smaller version limit)) es (e ∷ []) ∙ (λ i. u.nodes i && (can i && true));
     rise = rises_added None es e u.rise after;
     place = let one = length-append es (e ∷ []) in omega (arith, u.place, one);
   }
 
   module _ (l : List ℕ) (ls : List (List ℕ × Bool)) where
     -- no byte 10 ends the line
-    unended : lines_of rest ≡ (l, false) ∷ ls → IsUnspelled es rest
+    unended : lines_of rest ≡ (l, false) ∷ ls → IsUnspelled (smaller version limit) es rest
     unended e = record {
       some = some_lines rest l false ls e;
       none = λ node can has. absurd (let ended : false ≡ true = (first_line (listed_line node) rest l false ls (line_within node (any_spelled node can)) has e).1 in cc);
     }
 
     -- the line says nothing
-    unspelled : lines_of rest ≡ (l, true) ∷ ls → line_of l ≡ None → IsUnspelled es rest
+    unspelled : lines_of rest ≡ (l, true) ∷ ls → line_of l ≡ None → IsUnspelled (smaller version limit) es rest
     unspelled e none = record {
       some = some_lines rest l true ls e;
       none = λ node can has. absurd (
@@ -180,24 +182,26 @@ before_err : (e : Name × List ℕ) (r : Result Content ReadError) (x : ReadErro
 before_err e (Ok es) x h = absurd cc
 before_err e (Err y) x h = cc
 
-so : (bytes : List ℕ) (x a : ReadError) → ◌≡◌ {A = Result Content ReadError} (Err a) (Err x) → IsListingRefused bytes a → IsListingRefused bytes x
-so bytes x a h is = subst (IsListingRefused bytes) (err_same a x h) is
+so : (limit : Limit) (bytes : List ℕ) (x a : ReadError) → ◌≡◌ {A = Result Content ReadError} (Err a) (Err x) → IsListingRefused limit bytes a → IsListingRefused limit bytes x
+so limit bytes x a h is = subst (IsListingRefused limit bytes) (err_same a x h) is
 
 -- a line that is ended, behind which the lines ls stand
-module _ (bytes : List ℕ) (x : ReadError) (es : Content) (k : ℕ) (rest : List ℕ) (u : IsUpTo bytes es k rest) (l : List ℕ) (ls : List (List ℕ × Bool)) (e : lines_of rest ≡ (l, true) ∷ ls)
-    (rec : (d : Name × List ℕ) (r : List ℕ) → IsUpTo bytes (es ++ d ∷ []) (suc k) r → lines_of r ≡ ls → nodes_of (last_of None (es ++ d ∷ [])) (suc k) ls ≡ Err x → IsListingRefused bytes x) where
+module _ (limit version : Limit) (bytes : List ℕ) (x : ReadError) (es : Content) (k : ℕ) (rest : List ℕ) (u : IsUpTo limit version bytes es k rest) (l : List ℕ) (ls : List (List ℕ × Bool))
+    (e : lines_of rest ≡ (l, true) ∷ ls)
+    (rec : (d : Name × List ℕ) (r : List ℕ) → IsUpTo limit version bytes (es ++ d ∷ []) (suc k) r → lines_of r ≡ ls
+    → nodes_of (smaller version limit) (last_of None (es ++ d ∷ [])) (suc k) ls ≡ Err x → IsListingRefused limit bytes x) where
   has : (d : Name × List ℕ) → l ≡ listed_line d → HasLine (listed_line d) rest
   has d is = let cut = cut_line rest l ls e in has_line (listed_line d) rest cut.0 (cut.1 ∙ ap (λ y. y ++ 10 ∷ cut.0) is)
 
-  in_place : (d : Name × List ℕ) (b : Bool) → is_after (last_of None es) d.0 ≡ b → l ≡ listed_line d → is_node d ≡ true
-      → followed (cond b (Ok d) (Err (error.Order k))) (λ c. nodes_of (Some c.0) (suc k) ls) ≡ Err x → IsListingRefused bytes x
+  in_place : (d : Name × List ℕ) (b : Bool) → is_after (last_of None es) d.0 ≡ b → l ≡ listed_line d → is_node (smaller version limit) d ≡ true
+      → followed (cond b (Ok d) (Err (error.Order k))) (λ c. nodes_of (smaller version limit) (Some c.0) (suc k) ls) ≡ Err x → IsListingRefused limit bytes x
   in_place d true after is can f =
       let cut = cut_line rest l ls e in
-      rec d cut.0 (more bytes es k rest u d cut.0 (cut.1 ∙ ap (λ y. y ++ 10 ∷ cut.0) is) can after) cut.2
-      (ap (λ o. nodes_of o (suc k) ls) (last_added None es d) ∙ before_err d (nodes_of (Some d.0) (suc k) ls) x f)
+      rec d cut.0 (more limit version bytes es k rest u d cut.0 (cut.1 ∙ ap (λ y. y ++ 10 ∷ cut.0) is) can after) cut.2
+      (ap (λ o. nodes_of (smaller version limit) o (suc k) ls) (last_added None es d) ∙ before_err d (nodes_of (smaller version limit) (Some d.0) (suc k) ls) x f)
   in_place d false after is can f =
       let last = last_there es d.0 after in
-      so bytes x (error.Order k) f (first bytes es k rest u IsOutOfOrder (record {
+      so limit bytes x (error.Order k) f (first limit version bytes es k rest u IsOutOfOrder (record {
         node = d;
         line = has d is;
         can = can;
@@ -207,81 +211,86 @@ module _ (bytes : List ℕ) (x : ReadError) (es : Content) (k : ℕ) (rest : Lis
         order = last.order;
       }))
 
-  in_limits : (d : Name × List ℕ) (b : Bool) → is_small_node d ≡ b → l ≡ listed_line d → IsSpelled d
-      → followed (cond b (cond (is_after (last_of None es) d.0) (Ok d) (Err (error.Order k))) (Err (error.Limit k))) (λ c. nodes_of (Some c.0) (suc k) ls) ≡ Err x → IsListingRefused bytes x
-  in_limits d true small is spelled f = in_place d (is_after (last_of None es) d.0) refl is (node_whole d spelled small) f
+  in_limits : (d : Name × List ℕ) (b : Bool) → is_small_node (smaller version limit) d ≡ b → l ≡ listed_line d → IsSpelled d
+      → followed (cond b (cond (is_after (last_of None es) d.0) (Ok d) (Err (error.Order k))) (Err (error.Limit k))) (λ c. nodes_of (smaller version limit) (Some c.0) (suc k) ls) ≡ Err x
+      → IsListingRefused limit bytes x
+  in_limits d true small is spelled f = in_place d (is_after (last_of None es) d.0) refl is (node_whole (smaller version limit) d spelled small) f
   in_limits d false small is spelled f =
-      so bytes x (error.Limit k) f (first bytes es k rest u IsOverLimit (record { node = d; line = has d is; spelled = spelled_any d spelled; over = small }))
+      so limit bytes x (error.Limit k) f (first limit version bytes es k rest u IsOverLimit (record { node = d; line = has d is; spelled = spelled_any d spelled; over = small }))
 
-  says : (o : Option (Name × List ℕ)) → line_of l ≡ o → IsLine l o → followed (judged (last_of None es) k o) (λ c. nodes_of (Some c.0) (suc k) ls) ≡ Err x → IsListingRefused bytes x
-  says None none is f = so bytes x (error.Line k) f (first bytes es k rest u IsUnspelled (unspelled bytes es k rest u l ls e none))
-  says (Some d) some is f = in_limits d (is_small_node d) refl is.0 is.1 f
+  says : (o : Option (Name × List ℕ)) → line_of l ≡ o → IsLine l o
+      → followed (judged (smaller version limit) (last_of None es) k o) (λ c. nodes_of (smaller version limit) (Some c.0) (suc k) ls) ≡ Err x → IsListingRefused limit bytes x
+  says None none is f = so limit bytes x (error.Line k) f (first limit version bytes es k rest u IsUnspelled (unspelled limit version bytes es k rest u l ls e none))
+  says (Some d) some is f = in_limits d (is_small_node (smaller version limit) d) refl is.0 is.1 f
 
-lines_refused : (bytes : List ℕ) (x : ReadError) (es : Content) (k : ℕ) (rest : List ℕ) (ls : List (List ℕ × Bool)) → IsUpTo bytes es k rest → lines_of rest ≡ ls
-    → nodes_of (last_of None es) k ls ≡ Err x → IsListingRefused bytes x
-lines_refused bytes x es k rest [] u e h = absurd cc
-lines_refused bytes x es k rest ((l, false) ∷ ls) u e h = so bytes x (error.Line k) h (first bytes es k rest u IsUnspelled (unended bytes es k rest u l ls e))
-lines_refused bytes x es k rest ((l, true) ∷ ls) u e h =
-    says bytes x es k rest u l ls e (λ d r v f g. lines_refused bytes x (es ++ d ∷ []) (suc k) r ls v f g) (line_of l) refl (line_of-IsLine l) h
+lines_refused : (limit version : Limit) (bytes : List ℕ) (x : ReadError) (es : Content) (k : ℕ) (rest : List ℕ) (ls : List (List ℕ × Bool)) → IsUpTo limit version bytes es k rest → lines_of rest ≡ ls
+    → nodes_of (smaller version limit) (last_of None es) k ls ≡ Err x → IsListingRefused limit bytes x
+lines_refused limit version bytes x es k rest [] u e h = absurd cc
+lines_refused limit version bytes x es k rest ((l, false) ∷ ls) u e h =
+    so limit bytes x (error.Line k) h (first limit version bytes es k rest u IsUnspelled (unended limit version bytes es k rest u l ls e))
+lines_refused limit version bytes x es k rest ((l, true) ∷ ls) u e h =
+    says limit version bytes x es k rest u l ls e (λ d r v f g. lines_refused limit version bytes x (es ++ d ∷ []) (suc k) r ls v f g) (line_of l) refl (line_of-IsLine l) h
 
 -- ---- the whole
 
-module _ (bytes : List ℕ) where
-  no_header : (l : List ℕ) (b : Bool) (ls : List (List ℕ × Bool)) → lines_of bytes ≡ (l, b) ∷ ls → (b && bytes_eq l header) ≡ false → ¬ HasLine header bytes
-  unfolding no_end
-  no_header l b ls e not_so has =
-      let is = first_line header bytes l b ls refl has e in
-      let is_so : (b && bytes_eq l header) ≡ true = λ i. is.1 i && (bytes_decides l header).1 is.0 i in
-      absurd (let both : true ≡ false = sym is_so ∙ not_so in cc)
+module _ (limit : Limit) (bytes : List ℕ) where
+  no_header : (l : List ℕ) (b : Bool) (ls : List (List ℕ × Bool)) → lines_of bytes ≡ (l, b) ∷ ls → (b ≡ true → version_of l ≡ None) → (version : Limit) → ¬ HasLine (header version) bytes
+  no_header l b ls e not_so version has =
+      let is = first_line (header version) bytes l b ls (header_within version) has e in
+      let is_so : version_of l ≡ Some version = ap version_of is.0 ∙ version_of-header version in
+      absurd (let both : Some version ≡ None = sym is_so ∙ not_so is.1 in cc)
 
-  no_line : lines_of bytes ≡ [] → ¬ HasLine header bytes
-  unfolding no_end
-  no_line e has = absurd (let both : [] ≡ (header, true) ∷ lines_of has.rest = sym e ∙ ap lines_of (has.is ∙ append_assoc header (10 ∷ []) has.rest) ∙ line_first header has.rest refl in cc)
+  no_line : lines_of bytes ≡ [] → (version : Limit) → ¬ HasLine (header version) bytes
+  no_line e version has = absurd (
+      let both : [] ≡ (header version, true) ∷ lines_of has.rest =
+      sym e ∙ ap lines_of (has.is ∙ append_assoc (header version) (10 ∷ []) has.rest) ∙ line_first (header version) has.rest (header_within version) in
+      cc
+      )
 
-  behind_header : (r : List ℕ) → bytes ≡ header ++ 10 ∷ r → IsUpTo bytes [] 2 r
-  behind_header r e = record { cut = e ∙ sym (append_assoc header (10 ∷ []) r); nodes = refl; rise = tt; place = omega arith }
+  none_before : (version : Limit) (r : List ℕ) → bytes ≡ header version ++ 10 ∷ r → IsUpTo limit version bytes [] 2 r
+  none_before version r e = record { cut = e ∙ sym (append_assoc (header version) (10 ∷ []) r); nodes = refl; rise = tt; place = omega arith }
 
-  headed_refused : (x : ReadError) (ls : List (List ℕ × Bool)) → lines_of bytes ≡ ls → headed ls ≡ Err x → IsListingRefused bytes x
+  headed_refused : (x : ReadError) (ls : List (List ℕ × Bool)) → lines_of bytes ≡ ls → headed limit ls ≡ Err x → IsListingRefused limit bytes x
   unfolding last_of
-  headed_refused x [] e h = so bytes x error.Header h (no_line e)
-  headed_refused x ((l, b) ∷ ls) e h = by (b && bytes_eq l header) refl h
+  headed_refused x [] e h = so limit bytes x error.Header h (no_line e)
+  headed_refused x ((l, false) ∷ ls) e h = so limit bytes x error.Header h (no_header l false ls e (λ ended. absurd cc))
+  headed_refused x ((l, true) ∷ ls) e h = by (version_of l) refl h
     where
-      by : (c : Bool) → (b && bytes_eq l header) ≡ c → cond c (nodes_of None 2 ls) (Err error.Header) ≡ Err x → IsListingRefused bytes x
-      by false not_so f = so bytes x error.Header f (no_header l b ls e not_so)
-      by true is_so f =
-          let p = both_true b (bytes_eq l header) is_so in
-          let cut = cut_line bytes l ls (e ∙ ap (λ d. (l, d) ∷ ls) p.0) in
-          lines_refused bytes x [] 2 cut.0 ls (behind_header cut.0 (cut.1 ∙ ap (λ y. y ++ 10 ∷ cut.0) ((bytes_decides l header).0 p.1))) cut.2 f
+      by : (v : Option Limit) → version_of l ≡ v → behind_header limit v ls ≡ Err x → IsListingRefused limit bytes x
+      by None none f = so limit bytes x error.Header f (no_header l true ls e (λ ended. none))
+      by (Some version) is f =
+          let cut = cut_line bytes l ls e in
+          lines_refused limit version bytes x [] 2 cut.0 ls (none_before version cut.0 (cut.1 ∙ ap (λ y. y ++ 10 ∷ cut.0) (version_is l version is))) cut.2 f
 
 -- what isn't read is refused for this reason
-pub refusal : (bytes : List ℕ) (x : ReadError) → reading_of bytes ≡ Err x → IsListingRefused bytes x
-refusal bytes x h = headed_refused bytes x (lines_of bytes) refl h
+pub refusal : (limit : Limit) (bytes : List ℕ) (x : ReadError) → reading_of limit bytes ≡ Err x → IsListingRefused limit bytes x
+refusal limit bytes x h = headed_refused limit bytes x (lines_of bytes) refl h
 
 -- what a call gives that reads so
-pub refuses_it : {A : Type 0} (bytes : List ℕ) (r : Result A ReadError) → IfErr r (λ e. (e ≡ error.Memory) ⊎ (reading_of bytes ≡ Err e)) → IfErr r (IsListingRefused bytes)
-refuses_it bytes (Ok g) h = tt
-refuses_it bytes (Err e) h = by h
+pub refuses_it : {A : Type 0} (limit : Limit) (bytes : List ℕ) (r : Result A ReadError) → IfErr r (λ e. (e ≡ error.Memory) ⊎ (reading_of limit bytes ≡ Err e)) → IfErr r (IsListingRefused limit bytes)
+refuses_it limit bytes (Ok g) h = tt
+refuses_it limit bytes (Err e) h = by h
   where
-    by : (e ≡ error.Memory) ⊎ (reading_of bytes ≡ Err e) → IsListingRefused bytes e
-    by (inl m) = subst (IsListingRefused bytes) (sym m) tt
-    by (inr f) = refusal bytes e f
+    by : (e ≡ error.Memory) ⊎ (reading_of limit bytes ≡ Err e) → IsListingRefused limit bytes e
+    by (inl m) = subst (IsListingRefused limit bytes) (sym m) tt
+    by (inr f) = refusal limit bytes e f
 
 -- ---- one reason
 
 -- behind the lines of globals it goes on with what follows
-nodes_first : (last : Option Name) (k : ℕ) (es : Content) (rest : List ℕ) (x : ReadError) → list_all is_node es ≡ true → Rises last es
-    → nodes_of (last_of last es) (k + length es) (lines_of rest) ≡ Err x → nodes_of last k (lines_of (listed_lines es ++ rest)) ≡ Err x
+nodes_first : (limit : Limit) (last : Option Name) (k : ℕ) (es : Content) (rest : List ℕ) (x : ReadError) → list_all (is_node limit) es ≡ true → Rises last es
+    → nodes_of limit (last_of last es) (k + length es) (lines_of rest) ≡ Err x → nodes_of limit last k (lines_of (listed_lines es ++ rest)) ≡ Err x
 unfolding last_of
-nodes_first last k [] rest x can up h = let same : k ≡ k + length {A = Name × List ℕ} [] = omega arith in ap (λ n. nodes_of last n (lines_of rest)) same ∙ h
-nodes_first last k (e ∷ es) rest x can up h =
-    let p = both_true (is_node e) (list_all is_node es) can in
-    let q = node_parts e p.0 in
+nodes_first limit last k [] rest x can up h = let same : k ≡ k + length {A = Name × List ℕ} [] = omega arith in ap (λ n. nodes_of limit last n (lines_of rest)) same ∙ h
+nodes_first limit last k (e ∷ es) rest x can up h =
+    let p = both_true (is_node limit e) (list_all (is_node limit) es) can in
+    let q = node_parts limit e p.0 in
     let same : suc k + length es ≡ k + length (e ∷ es) = omega arith in
-    ap (λ l. nodes_of last k (lines_of l)) (append_assoc (listed_line e) (10 ∷ listed_lines es) rest)
-    ∙ ap (nodes_of last k) (line_first (listed_line e) (listed_lines es ++ rest) (line_within e q.0))
-    ∙ ap (λ o. followed (judged last k o) (λ d. nodes_of (Some d.0) (suc k) (lines_of (listed_lines es ++ rest)))) (line_of-listed e q.0)
-    ∙ ap (λ o. followed o (λ d. nodes_of (Some d.0) (suc k) (lines_of (listed_lines es ++ rest)))) (judged_ok last k e q.1 up.0)
-    ∙ ap (before e) (nodes_first (Some e.0) (suc k) es rest x p.1 up.1 (ap (λ n. nodes_of (last_of (Some e.0) es) n (lines_of rest)) same ∙ h))
+    ap (λ l. nodes_of limit last k (lines_of l)) (append_assoc (listed_line e) (10 ∷ listed_lines es) rest)
+    ∙ ap (nodes_of limit last k) (line_first (listed_line e) (listed_lines es ++ rest) (line_within e q.0))
+    ∙ ap (λ o. followed (judged limit last k o) (λ d. nodes_of limit (Some d.0) (suc k) (lines_of (listed_lines es ++ rest)))) (line_of-listed e q.0)
+    ∙ ap (λ o. followed o (λ d. nodes_of limit (Some d.0) (suc k) (lines_of (listed_lines es ++ rest)))) (judged_ok limit last k e q.1 up.0)
+    ∙ ap (before e) (nodes_first limit (Some e.0) (suc k) es rest x p.1 up.1 (ap (λ n. nodes_of limit (last_of (Some e.0) es) n (lines_of rest)) same ∙ h))
 
 pub no_bytes : (bs : List ℕ) → lines_of bs ≡ [] → bs ≡ []
 no_bytes [] e = refl
@@ -300,77 +309,89 @@ not_after m n h = by (name_cmp m n) h
     by Equal k = refl
     by Greater k = refl
 
-module _ (last : Option Name) (k : ℕ) (rest : List ℕ) where
+module _ (limit : Limit) (last : Option Name) (k : ℕ) (rest : List ℕ) where
   -- a line at the front is read
   line_read : (node : Name × List ℕ) (has : HasLine (listed_line node) rest) → IsSpelled node
-      → nodes_of last k (lines_of rest) ≡ followed (judged last k (Some node)) (λ c. nodes_of (Some c.0) (suc k) (lines_of has.rest))
+      → nodes_of limit last k (lines_of rest) ≡ followed (judged limit last k (Some node)) (λ c. nodes_of limit (Some c.0) (suc k) (lines_of has.rest))
   line_read node has spelled =
-      ap (λ l. nodes_of last k (lines_of l)) (has.is ∙ append_assoc (listed_line node) (10 ∷ []) has.rest)
-      ∙ ap (nodes_of last k) (line_first (listed_line node) has.rest (line_within node spelled))
-      ∙ ap (λ o. followed (judged last k o) (λ c. nodes_of (Some c.0) (suc k) (lines_of has.rest))) (line_of-listed node spelled)
+      ap (λ l. nodes_of limit last k (lines_of l)) (has.is ∙ append_assoc (listed_line node) (10 ∷ []) has.rest)
+      ∙ ap (nodes_of limit last k) (line_first (listed_line node) has.rest (line_within node spelled))
+      ∙ ap (λ o. followed (judged limit last k o) (λ c. nodes_of limit (Some c.0) (suc k) (lines_of has.rest))) (line_of-listed node spelled)
 
-  over_read : (es : Content) → IsOverLimit es rest → nodes_of last k (lines_of rest) ≡ Err (error.Limit k)
+  over_read : (es : Content) → IsOverLimit limit es rest → nodes_of limit last k (lines_of rest) ≡ Err (error.Limit k)
   over_read es w =
       line_read w.node w.line (any_spelled w.node w.spelled)
-      ∙ ap (λ b. followed (cond b (cond (is_after last w.node.0) (Ok w.node) (Err (error.Order k))) (Err (error.Limit k))) (λ c. nodes_of (Some c.0) (suc k) (lines_of w.line.rest))) w.over
+      ∙ ap (λ b. followed (cond b (cond (is_after last w.node.0) (Ok w.node) (Err (error.Order k))) (Err (error.Limit k))) (λ c. nodes_of limit (Some c.0) (suc k) (lines_of w.line.rest))) w.over
 
-  order_read : (es : Content) (w : IsOutOfOrder es rest) → last ≡ Some w.last.0 → nodes_of last k (lines_of rest) ≡ Err (error.Order k)
+  order_read : (es : Content) (w : IsOutOfOrder limit es rest) → last ≡ Some w.last.0 → nodes_of limit last k (lines_of rest) ≡ Err (error.Order k)
   order_read es w is =
-      let parts = node_parts w.node w.can in
+      let parts = node_parts limit w.node w.can in
       let after : is_after last w.node.0 ≡ false = ap (λ o. is_after o w.node.0) is ∙ not_after w.last.0 w.node.0 w.order in
       line_read w.node w.line parts.0
-      ∙ ap (λ b. followed (cond b (cond (is_after last w.node.0) (Ok w.node) (Err (error.Order k))) (Err (error.Limit k))) (λ c. nodes_of (Some c.0) (suc k) (lines_of w.line.rest))) parts.1
-      ∙ ap (λ b. followed (cond b (Ok w.node) (Err (error.Order k))) (λ c. nodes_of (Some c.0) (suc k) (lines_of w.line.rest))) after
+      ∙ ap (λ b. followed (cond b (cond (is_after last w.node.0) (Ok w.node) (Err (error.Order k))) (Err (error.Limit k))) (λ c. nodes_of limit (Some c.0) (suc k) (lines_of w.line.rest))) parts.1
+      ∙ ap (λ b. followed (cond b (Ok w.node) (Err (error.Order k))) (λ c. nodes_of limit (Some c.0) (suc k) (lines_of w.line.rest))) after
 
-  module _ (es : Content) (w : IsUnspelled es rest) where
+  module _ (es : Content) (w : IsUnspelled limit es rest) where
     no_node : (l : List ℕ) (ls : List (List ℕ × Bool)) → lines_of rest ≡ (l, true) ∷ ls → (o : Option (Name × List ℕ)) → IsLine l o
-        → followed (judged last k o) (λ c. nodes_of (Some c.0) (suc k) ls) ≡ Err (error.Line k)
+        → followed (judged limit last k o) (λ c. nodes_of limit (Some c.0) (suc k) ls) ≡ Err (error.Line k)
     no_node l ls e None h = refl
     no_node l ls e (Some d) h =
         let cut = cut_line rest l ls e in absurd (w.none d (spelled_any d h.1) (has_line (listed_line d) rest cut.0 (cut.1 ∙ ap (λ y. y ++ 10 ∷ cut.0) h.0)))
 
-    unspelled_by : (ls : List (List ℕ × Bool)) → lines_of rest ≡ ls → nodes_of last k ls ≡ Err (error.Line k)
+    unspelled_by : (ls : List (List ℕ × Bool)) → lines_of rest ≡ ls → nodes_of limit last k ls ≡ Err (error.Line k)
     unspelled_by [] e = absurd (w.some (no_bytes rest e))
     unspelled_by ((l, false) ∷ ls) e = refl
     unspelled_by ((l, true) ∷ ls) e = no_node l ls e (line_of l) (line_of-IsLine l)
 
-module _ (bytes : List ℕ) where
-  from_first : (number : ℕ) (IsWhy : Content → List ℕ → Type 0) (f : IsFirst bytes number IsWhy) (x : ReadError)
-      → nodes_of (last_of None f.before) (2 + length f.before) (lines_of f.rest) ≡ Err x → reading_of bytes ≡ Err x
-  unfolding no_end
+module _ (limit : Limit) (bytes : List ℕ) where
+  from_first : (number : ℕ) (IsWhy : Limit → Content → List ℕ → Type 0) (f : IsFirst limit bytes number IsWhy) (x : ReadError)
+      → nodes_of (smaller f.version limit) (last_of None f.before) (2 + length f.before) (lines_of f.rest) ≡ Err x → reading_of limit bytes ≡ Err x
   from_first number IsWhy f x h =
-      ap reading_of (f.cut ∙ append_assoc header (10 ∷ listed_lines f.before) f.rest) ∙ ap headed (line_first header (listed_lines f.before ++ f.rest) refl)
-      ∙ nodes_first None 2 f.before f.rest x f.globals.nodes (rises_all f.before f.globals.rise) h
+      ap (reading_of limit) (f.cut ∙ append_assoc (header f.version) (10 ∷ listed_lines f.before) f.rest)
+      ∙ ap (headed limit) (line_first (header f.version) (listed_lines f.before ++ f.rest) (header_within f.version))
+      ∙ ap (λ v. behind_header limit v (lines_of (listed_lines f.before ++ f.rest))) (version_of-header f.version)
+      ∙ nodes_first (smaller f.version limit) None 2 f.before f.rest x f.globals.nodes (rises_all f.before f.globals.rise) h
 
   number_is : (number : ℕ) (es : Content) → number ≡ length es + 2 → 2 + length es ≡ number
   number_is number es h = omega (arith, h)
 
-  headerless : ¬ HasLine header bytes → (ls : List (List ℕ × Bool)) → lines_of bytes ≡ ls → headed ls ≡ Err error.Header
+  headerless : ((version : Limit) → ¬ HasLine (header version) bytes) → (ls : List (List ℕ × Bool)) → lines_of bytes ≡ ls → headed limit ls ≡ Err error.Header
   headerless w [] e = refl
-  headerless w ((l, b) ∷ ls) e = by (b && bytes_eq l header) refl
+  headerless w ((l, false) ∷ ls) e = refl
+  headerless w ((l, true) ∷ ls) e = by (version_of l) refl
     where
-      by : (c : Bool) → (b && bytes_eq l header) ≡ c → cond c (nodes_of None 2 ls) (Err error.Header) ≡ Err error.Header
-      by false is = refl
-      by true is =
-          let p = both_true b (bytes_eq l header) is in
-          let cut = cut_line bytes l ls (e ∙ ap (λ d. (l, d) ∷ ls) p.0) in
-          absurd (w (has_line header bytes cut.0 (cut.1 ∙ ap (λ y. y ++ 10 ∷ cut.0) ((bytes_decides l header).0 p.1))))
+      by : (v : Option Limit) → version_of l ≡ v → behind_header limit v ls ≡ Err error.Header
+      by None is = refl
+      by (Some version) is =
+          let cut = cut_line bytes l ls e in
+          absurd (w version (has_line (header version) bytes cut.0 (cut.1 ∙ ap (λ y. y ++ 10 ∷ cut.0) (version_is l version is))))
 
   -- what is refused isn't read, for the same reason
-  refused_unread : (x : ReadError) → ¬ (x ≡ error.Memory) → IsListingRefused bytes x → reading_of bytes ≡ Err x
+  refused_unread : (x : ReadError) → ¬ (x ≡ error.Memory) → IsListingRefused limit bytes x → reading_of limit bytes ≡ Err x
   refused_unread error.Header not_so w = headerless w (lines_of bytes) refl
   refused_unread (error.Line number) not_so f =
       from_first number IsUnspelled f (error.Line number)
-      (unspelled_by (last_of None f.before) (2 + length f.before) f.rest f.before f.why (lines_of f.rest) refl ∙ ap (λ n. Err (error.Line n)) (number_is number f.before f.place))
+      (unspelled_by (smaller f.version limit) (last_of None f.before) (2 + length f.before) f.rest f.before f.why (lines_of f.rest) refl
+      ∙ ap (λ n. Err (error.Line n)) (number_is number f.before f.place))
   refused_unread (error.Limit number) not_so f =
       from_first number IsOverLimit f (error.Limit number)
-      (over_read (last_of None f.before) (2 + length f.before) f.rest f.before f.why ∙ ap (λ n. Err (error.Limit n)) (number_is number f.before f.place))
+      (over_read (smaller f.version limit) (last_of None f.before) (2 + length f.before) f.rest f.before f.why ∙ ap (λ n. Err (error.Limit n)) (number_is number f.before f.place))
   refused_unread (error.Order number) not_so f =
       from_first number IsOutOfOrder f (error.Order number)
-      (order_read (last_of None f.before) (2 + length f.before) f.rest f.before f.why (ap (last_of None) f.why.behind ∙ last_added None f.why.front f.why.last)
+      (order_read (smaller f.version limit) (last_of None f.before) (2 + length f.before) f.rest f.before f.why (ap (last_of None) f.why.behind ∙ last_added None f.why.front f.why.last)
       ∙ ap (λ n. Err (error.Order n)) (number_is number f.before f.place))
   refused_unread error.Memory not_so w = absurd (not_so refl)
 
 -- two refusals of some bytes are the same, unless memory was wanting
 pub one_reason : HasOneReason
-one_reason bytes e f p q h i = err_same e f (sym (refused_unread bytes e p h) ∙ refused_unread bytes f q i)
+one_reason limit bytes e f p q h i = err_same e f (sym (refused_unread limit bytes e p h) ∙ refused_unread limit bytes f q i)
+
+-- ---- one spelling
+
+-- bytes with a header that are read are the listing under it
+pub one_spelling : HasOneSpelling
+one_spelling limit version bytes content has e =
+    let is = ((reading limit bytes).lists content).0 e in
+    let first : lines_of bytes ≡ (header is.0, true) ∷ lines_of (listed_lines content) = ap lines_of is.1 ∙ line_first (header is.0) (listed_lines content) (header_within is.0) in
+    let same : header is.0 ≡ header version = (first_line (header version) bytes (header is.0) true (lines_of (listed_lines content)) (header_within version) has first).0 in
+    is.1 ∙ ap (λ h. h ++ 10 ∷ listed_lines content) same

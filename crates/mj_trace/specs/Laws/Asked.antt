@@ -30,6 +30,7 @@ use Rattle.mj_ask.specs.Formed.{is_name, is_global_name, is_search_name, are_fil
 use Rattle.mj_ask.proofs.Entries.{reading}
 use Rattle.mj_gfile.specs.Spelling.{listed_text, listed_subscripts, listed_name}
 use Rattle.mj_gfile.specs.Reading.{is_word_byte}
+use Rattle.mj_text.specs.declared.limit.Limit.TheVariants.{V2}
 use Rattle.mj_gfile.specs.Listing.{is_text}
 use Rattle.mj_gfile.specs.Laws.Texts.{both_true}
 use Rattle.mj_gfile.specs.Laws.Names.{Stops, more_pass}
@@ -83,7 +84,7 @@ device_found : (a : DeviceAsk) (r : List ℕ) → device_fits a ≡ true → Fol
 device_found (device_asks.Write t) r k w = ap (option_map (λ p. (device_asks.Write p.0, p.1))) (text_found t (32 ∷ r) k (refl, refl, refl, refl))
 device_found a r k w = timed_ask_found a r refl k w
 
-on_device_found : (d : List ℕ) (a : DeviceAsk) (r : List ℕ) → is_text d ≡ true → device_fits a ≡ true → FollowsAsk r
+on_device_found : (d : List ℕ) (a : DeviceAsk) (r : List ℕ) → is_text V2 d ≡ true → device_fits a ≡ true → FollowsAsk r
     → ask_in (ask_text (asks.Device d a) ++ 32 ∷ r) ≡ Some (asks.Device d a, 32 ∷ r)
 on_device_found d a r h k w =
     ap on_device (append_assoc (listed_text d) (32 ∷ device_text a) (32 ∷ r))
@@ -126,7 +127,7 @@ access_found (accesses.Order n directions.Backward) r h k =
     ap (λ l. on_shared (access_in (codes "order") l)) (append_assoc (listed_name n) (32 ∷ codes "-1") (32 ∷ r))
     ∙ named (codes "order") n (32 ∷ 45 ∷ 49 ∷ 32 ∷ r) (search_found n (32 ∷ 45 ∷ 49 ∷ 32 ∷ r) h k (refl, refl, refl, refl))
 access_found (accesses.Set n t) r h k =
-    let q = both_true (name_fits n) (is_text t) k in
+    let q = both_true (name_fits n) (is_text V2 t) k in
     ap (λ l. on_shared (access_in (codes "set") l)) (append_assoc (listed_name n) (32 ∷ listed_text t) (32 ∷ r))
     ∙ named (codes "set") n (32 ∷ (listed_text t ++ 32 ∷ r)) (global_found n (32 ∷ (listed_text t ++ 32 ∷ r)) h q.0 (refl, refl, refl, refl))
     ∙ ap (λ (o : Option (List ℕ × List ℕ)). on_shared (accessed (option_map (λ p. (accesses.Set n p.0, p.1)) o))) (text_found t (32 ∷ r) q.1 (refl, refl, refl, refl))
@@ -196,14 +197,14 @@ begin_found r w = if_not _ (Some (shared_asks.Begin kinds.Plain, 32 ∷ r)) (not
 
 -- ---- devices that are opened and closed
 
-open_found : (d : List ℕ) (timeout : Option ℤ) (r : List ℕ) → is_text d ≡ true → timeout_fits timeout ≡ true → FollowsAsk r
+open_found : (d : List ℕ) (timeout : Option ℤ) (r : List ℕ) → is_text V2 d ≡ true → timeout_fits timeout ≡ true → FollowsAsk r
     → open_in ((listed_text d ++ timeout_text timeout) ++ 32 ∷ r) ≡ Some (shared_asks.Open d timeout, 32 ∷ r)
 open_found d timeout r h t w =
     ap open_in (append_assoc (listed_text d) (timeout_text timeout) (32 ∷ r))
     ∙ ap (onward (λ device. timed_by (shared_asks.Open device))) (text_found d (timeout_text timeout ++ 32 ∷ r) h (ends_timed timeout r).0)
     ∙ timed_found (shared_asks.Open d) timeout r t w
 
-close_found : (d r : List ℕ) → is_text d ≡ true → close_in (listed_text d ++ 32 ∷ r) ≡ Some (shared_asks.Close d, 32 ∷ r)
+close_found : (d r : List ℕ) → is_text V2 d ≡ true → close_in (listed_text d ++ 32 ∷ r) ≡ Some (shared_asks.Close d, 32 ∷ r)
 close_found d r h = ap (option_map (λ p. (shared_asks.Close p.0, p.1))) (text_found d (32 ∷ r) h (refl, refl, refl, refl))
 
 -- ---- starts
@@ -275,7 +276,7 @@ shared_found (shared_asks.Access a) r h k w = access_found a r h k
 shared_found (shared_asks.Try names timeout) r h k w = let q = both_true (list_all name_fits names) (timeout_fits timeout) k in ap on_shared (try_found names timeout r h q.0 q.1 w)
 shared_found (shared_asks.Unlock names) r h k w = ap on_shared (unlock_found names r h k)
 shared_found (shared_asks.Begin kinds.Plain) r h k w = ap on_shared (begin_found r w)
-shared_found (shared_asks.Open d timeout) r h k w = let q = both_true (is_text d) (timeout_fits timeout) k in ap on_shared (open_found d timeout r q.0 q.1 w)
+shared_found (shared_asks.Open d timeout) r h k w = let q = both_true (is_text V2 d) (timeout_fits timeout) k in ap on_shared (open_found d timeout r q.0 q.1 w)
 shared_found (shared_asks.Close d) r h k w = ap on_shared (close_found d r k)
 shared_found (shared_asks.Start start timeout) r h k w =
     let q = both_true (list_all value_fits start.values) (timeout_fits timeout) k in ap on_shared (start_found start.entry start.values timeout r h q.0 q.1 w)
@@ -286,5 +287,5 @@ shared_found _ r h k w = refl
 -- an ask that can be written, within the limits, is found
 pub ask_found : (a : Ask) (r : List ℕ) → is_ask a ≡ true → ask_fits a ≡ true → FollowsAsk r → ask_in (ask_text a ++ 32 ∷ r) ≡ Some (a, 32 ∷ r)
 ask_found (asks.Shared a) r h k w = shared_found a r h k w
-ask_found (asks.Device d a) r h k w = let q = both_true (is_text d) (device_fits a) k in on_device_found d a r q.0 q.1 w
+ask_found (asks.Device d a) r h k w = let q = both_true (is_text V2 d) (device_fits a) k in on_device_found d a r q.0 q.1 w
 ask_found (asks.Rest n) r h k w = ap (option_map (λ p. (asks.Rest p.0, p.1))) (number_found n (32 ∷ r) k (refl, refl, refl, refl))

@@ -9,10 +9,8 @@ use Rattle.std.proofs.lemmas.Bool.Decides.{nat_tests}
 use Rattle.mj_text.specs.declared.fault.Fault.TheVariants as faults
 use Rattle.mj_num.specs.Number.{number_of, is_in_range}
 use Rattle.mj_subs.specs.Name.{Name, is_word}
-use Rattle.mj_store.specs.Questions.{Subtree}
 use Rattle.mj_store.specs.declared.access.Access.{Access}
 use Rattle.mj_store.specs.declared.access.Access.TheVariants as accesses
-use Rattle.mj_store.specs.declared.access.Answer.{Answer}
 use Rattle.mj_store.specs.declared.access.Answer.TheVariants as answers_are
 use Rattle.mj_ask.specs.Fits.{device_timeout}
 use Rattle.mj_ask.specs.Written.{entry_of}
@@ -25,8 +23,10 @@ use Rattle.mj_ask.specs.declared.ask.SharedAsk.{SharedAsk}
 use Rattle.mj_ask.specs.declared.ask.SharedAsk.TheVariants as shared_asks
 use Rattle.mj_ask.specs.declared.ask.DeviceAsk.{DeviceAsk}
 use Rattle.mj_ask.specs.declared.ask.DeviceAsk.TheVariants as device_asks
+use Rattle.mj_ask.specs.declared.ask.Reply.{Reply}
 use Rattle.mj_ask.specs.declared.ask.Reply.TheVariants as replies
 use Rattle.mj_gfile.specs.Reading.{text_at, subscript_at}
+use Rattle.mj_text.specs.declared.limit.Limit.TheVariants.{V2}
 use Rattle.mj_gfile.specs.Listing.{is_short, limited, text_field, are_bytes, is_text}
 use Rattle.mj_gfile.specs.Laws.Texts.{both_true, IsTextAt, text_at-IsTextAt}
 use Rattle.mj_gfile.specs.Laws.Names.{IsSubscriptAt, subscript_at-IsSubscriptAt}
@@ -37,8 +37,12 @@ use Rattle.mj_trace.specs.declared.run.Run.TheVariants as runs
 use Rattle.mj_trace.specs.declared.piece.Piece.{Piece}
 use Rattle.mj_trace.specs.declared.piece.Piece.TheVariants as pieces
 use Rattle.mj_trace.specs.Reading.{onward, front, behind_bytes, skipped, begins_with, number_read, number_in, below, count_in, code_in, within, text_in, subscript_in, appended, continued, all_more, closed, subscript_more, subscripts_in, with_subscripts, name_of, name_on, name_in, name_more, names_in, node_with, node_in, node_more, subtree_in, value_in, value_more, values_in, timed, timeout_in, timed_by, started, start_in, fault_of, halted, halt_in, way_of, access_with, access_in, begin_in, unlock_in, try_in, open_in, close_in, shared_with, device_with, device_in, asked_of, on_device, rest_in, on_shared, ask_with, ask_in, is_absent, answer_in, number_kept, kept_in, clash_now, clash_then, clash_in, job_in, given_as, given_in, done_of, limit_of, reply_in}
-use Rattle.mj_trace.specs.Lines.{piece_text, is_piece, event_piece, asked, event_in, counted, pooled, starting, piece_with, piece_in, respelled, piece_of}
-use Rattle.mj_trace.specs.Sized.{is_count, is_code, are_texts, name_fits, nodes_fit, access_fits, timeout_fits, value_fits, shared_fits, device_fits, ask_fits, answer_fits, kept_fits, reply_fits}
+use Rattle.mj_ask.specs.declared.noted.Spot.{Spot}
+use Rattle.mj_trace.specs.declared.form.Form.{Form}
+use Rattle.mj_trace.specs.declared.form.Form.TheVariants.{First, Second}
+use Rattle.mj_trace.specs.Reading.{line_of, line_behind, spot_in}
+use Rattle.mj_trace.specs.Lines.{piece_text, is_piece, replied, told_in, asked, placed, event_in, counted, pooled, starting, piece_with, piece_in, respelled, piece_of}
+use Rattle.mj_trace.specs.Sized.{is_count, is_code, are_texts, name_fits, nodes_fit, access_fits, timeout_fits, value_fits, shared_fits, device_fits, ask_fits, answer_fits, kept_fits, reply_fits, spot_fits}
 use Rattle.mj_trace.specs.Refused.{is_sized}
 
 -- ---- what passes a test, if there is anything
@@ -94,13 +98,13 @@ code_fits bs = below_passes 256 (number_in bs)
 
 -- ---- texts and subscripts
 
-short_if : (t rest : List ℕ) (b : Bool) → are_bytes t ≡ true → is_short t ≡ b → Finds is_text (within (Some (limited b t, rest)))
+short_if : (t rest : List ℕ) (b : Bool) → are_bytes t ≡ true → is_short V2 t ≡ b → Finds (is_text V2) (within (Some (limited b t, rest)))
 short_if t rest true h k = λ i. k i && h i
 short_if t rest false h k = tt
 
-short_passes : (o : Option (List ℕ × List ℕ)) → Finds are_bytes o → Finds is_text (within (text_field o))
+short_passes : (o : Option (List ℕ × List ℕ)) → Finds are_bytes o → Finds (is_text V2) (within (text_field V2 o))
 short_passes None h = tt
-short_passes (Some x) h = short_if x.0 x.1 (is_short x.0) h refl
+short_passes (Some x) h = short_if x.0 x.1 (is_short V2 x.0) h refl
 
 text_bytes : (bs : List ℕ) (o : Option (List ℕ × List ℕ)) → IsTextAt bs o → Finds are_bytes o
 text_bytes bs None h = tt
@@ -110,12 +114,12 @@ subscript_bytes : (bs : List ℕ) (o : Option (List ℕ × List ℕ)) → IsSubs
 subscript_bytes bs None h = tt
 subscript_bytes bs (Some x) h = h.1.bytes
 
-text_fits : (bs : List ℕ) → Finds is_text (text_in bs)
+text_fits : (bs : List ℕ) → Finds (is_text V2) (text_in bs)
 text_fits bs = short_passes (text_at bs) (text_bytes bs (text_at bs) (text_at-IsTextAt bs))
 
-subscript_fits : (bs : List ℕ) → Finds is_text (subscript_in bs)
+subscript_fits : (bs : List ℕ) → Finds (is_text V2) (subscript_in bs)
 subscript_fits bs =
-    passes_if (λ x. is_text x.0) (begins_with 34 bs) (text_in bs) (within (text_field (subscript_at bs))) (text_fits bs)
+    passes_if (λ x. is_text V2 x.0) (begins_with 34 bs) (text_in bs) (within (text_field V2 (subscript_at bs))) (text_fits bs)
     (short_passes (subscript_at bs) (subscript_bytes bs (subscript_at bs) (subscript_at-IsSubscriptAt bs)))
 
 -- ---- lists
@@ -149,14 +153,14 @@ are_few ss = nat_le (length ss) 31 && are_texts ss
 one_more : (n : ℕ) → nat_lt n 31 ≡ true → nat_le (n + 1) 31 ≡ true
 one_more n h = grind (arith, nat_tests)
 
-few_if : (ss : List (List ℕ)) (b : Bool) → nat_lt (length ss) 31 ≡ b → are_few ss ≡ true → (o : Option (List ℕ × List ℕ)) → Finds is_text o → Finds are_few (appended b ss o)
+few_if : (ss : List (List ℕ)) (b : Bool) → nat_lt (length ss) 31 ≡ b → are_few ss ≡ true → (o : Option (List ℕ × List ℕ)) → Finds (is_text V2) o → Finds are_few (appended b ss o)
 unfolding are_few
 few_if ss b h k None t = tt
 few_if ss false h k (Some x) t = tt
 few_if ss true h k (Some x) t =
     let p = both_true (nat_le (length ss) 31) (are_texts ss) k in
     let long = ap (λ n. nat_le n 31) (length-append ss (x.0 ∷ [])) ∙ one_more (length ss) h in
-    let all = list_all-append is_text ss (x.0 ∷ []) ∙ (λ i. p.1 i && (t i && true)) in
+    let all = list_all-append (is_text V2) ss (x.0 ∷ []) ∙ (λ i. p.1 i && (t i && true)) in
     λ i. long i && all i
 
 subscripts_fit : (bs : List ℕ) → Finds are_few (subscripts_in bs)
@@ -194,13 +198,13 @@ names_fit bs =
 -- ---- nodes and values
 
 is_node_sized : List (List ℕ) × List ℕ → Bool
-is_node_sized e = nat_le (length e.0) 31 && are_texts e.0 && is_text e.1
+is_node_sized e = nat_le (length e.0) 31 && are_texts e.0 && is_text V2 e.1
 
 node_fits : (bs : List ℕ) → Finds is_node_sized (node_in bs)
 unfolding is_node_sized are_few
 node_fits bs =
     passes_on are_few (λ x. is_node_sized x.0) node_with (subscripts_in (skipped bs)) (subscripts_fit (skipped bs))
-    (λ place r h. passes_as (λ x. is_text x.0) (λ x. is_node_sized x.0) (λ p. ((place, p.0), p.1)) (text_in (skipped r)) (text_fits (skipped r)) (λ t k. λ i. h i && k i))
+    (λ place r h. passes_as (λ x. is_text V2 x.0) (λ x. is_node_sized x.0) (λ p. ((place, p.0), p.1)) (text_in (skipped r)) (text_fits (skipped r)) (λ t k. λ i. h i && k i))
 
 subtree_fits : (bs : List ℕ) → Finds nodes_fit (subtree_in bs)
 unfolding is_node_sized
@@ -210,7 +214,7 @@ value_found_fits : (bs : List ℕ) → Finds value_fits (value_in bs)
 value_found_fits bs =
     let given = option_map (λ p. (Some p.0, p.1)) (text_in bs) in
     passes_if (λ x. value_fits x.0) (begins_with 45 bs) (Some (None, skipped bs)) given refl
-    (passes_as (λ x. is_text x.0) (λ x. value_fits x.0) (λ p. (Some p.0, p.1)) (text_in bs) (text_fits bs) (λ t k. k))
+    (passes_as (λ x. is_text V2 x.0) (λ x. value_fits x.0) (λ p. (Some p.0, p.1)) (text_in bs) (text_fits bs) (λ t k. k))
 
 values_fit : (bs : List ℕ) → Finds (list_all value_fits) (values_in bs)
 values_fit bs = closed_passes (list_all value_fits) value_more (λ values r h. appended_passes value_fits values (value_in r) h (value_found_fits r)) 41 [] (skipped bs) refl
@@ -254,7 +258,7 @@ module _ (word : List ℕ) (name : Name) (rest : List ℕ) (h : name_fits name �
       (passes_as (λ x. nodes_fit x.0) (λ x. access_fits x.0) (λ p. (accesses.Put name p.0, p.1)) (subtree_in (skipped rest)) (subtree_fits (skipped rest)) (λ x k. λ i. h i && k i)) tt
 
   set_fits : Finds access_fits (option_map (λ p. (accesses.Set name p.0, p.1)) (text_in (skipped rest)))
-  set_fits = passes_as (λ x. is_text x.0) (λ x. access_fits x.0) (λ p. (accesses.Set name p.0, p.1)) (text_in (skipped rest)) (text_fits (skipped rest)) (λ x k. λ i. h i && k i)
+  set_fits = passes_as (λ x. is_text V2 x.0) (λ x. access_fits x.0) (λ p. (accesses.Set name p.0, p.1)) (text_in (skipped rest)) (text_fits (skipped rest)) (λ x k. λ i. h i && k i)
 
   order_fits : Finds access_fits (option_map (λ p. (accesses.Order name (way_of p.0), p.1)) (number_in (skipped rest)))
   order_fits = passes_as (λ x. true) (λ x. access_fits x.0) (λ p. (accesses.Order name (way_of p.0), p.1)) (number_in (skipped rest)) (passes_any (number_in (skipped rest))) (λ x k. h)
@@ -305,11 +309,11 @@ try_fits bs =
 
 open_fits : (bs : List ℕ) → Finds shared_fits (open_in bs)
 open_fits bs =
-    passes_on is_text (λ x. shared_fits x.0) (λ device. timed_by (shared_asks.Open device)) (text_in bs) (text_fits bs)
+    passes_on (is_text V2) (λ x. shared_fits x.0) (λ device. timed_by (shared_asks.Open device)) (text_in bs) (text_fits bs)
     (λ device r h. timed_passes shared_fits (shared_asks.Open device) r (λ t k. λ i. h i && k i))
 
 close_fits : (bs : List ℕ) → Finds shared_fits (close_in bs)
-close_fits bs = passes_as (λ x. is_text x.0) (λ x. shared_fits x.0) (λ p. (shared_asks.Close p.0, p.1)) (text_in bs) (text_fits bs) (λ x k. k)
+close_fits bs = passes_as (λ x. is_text V2 x.0) (λ x. shared_fits x.0) (λ p. (shared_asks.Close p.0, p.1)) (text_in bs) (text_fits bs) (λ x k. k)
 
 shared_found_fits : (word rest : List ℕ) → Finds shared_fits (shared_with word rest)
 shared_found_fits word rest =
@@ -352,13 +356,13 @@ device_word_fits : (word rest : List ℕ) → Finds device_fits (device_with wor
 device_word_fits word rest =
     let timed = timed_ask word (timeout_in rest).0 in
     passes_if (λ x. device_fits x.0) (bytes_eq word (codes "write")) (option_map (λ p. (device_asks.Write p.0, p.1)) (text_in (skipped rest))) (option_map (λ a. (a, (timeout_in rest).1)) timed)
-    (passes_as (λ x. is_text x.0) (λ x. device_fits x.0) (λ p. (device_asks.Write p.0, p.1)) (text_in (skipped rest)) (text_fits (skipped rest)) (λ x k. k))
+    (passes_as (λ x. is_text V2 x.0) (λ x. device_fits x.0) (λ p. (device_asks.Write p.0, p.1)) (text_in (skipped rest)) (text_fits (skipped rest)) (λ x k. k))
     (passes_as device_fits (λ x. device_fits x.0) (λ a. (a, (timeout_in rest).1)) timed
     (timed_fit timed (timed_alone timeout_fits word (timeout_in rest).0 refl (timeout_found_fits rest))) (λ a k. k))
 
 on_device_fits : (bs : List ℕ) → Finds ask_fits (on_device bs)
 on_device_fits bs =
-    passes_on is_text (λ x. ask_fits x.0) asked_of (text_in bs) (text_fits bs)
+    passes_on (is_text V2) (λ x. ask_fits x.0) asked_of (text_in bs) (text_fits bs)
     (λ device r h. passes_as (λ x. device_fits x.0) (λ x. ask_fits x.0) (λ p. (asks.Device device p.0, p.1)) (device_in (skipped r))
     (device_word_fits (front runs.Letters (skipped r)) (behind_bytes runs.Letters (skipped r))) (λ x k. λ i. h i && k i))
 
@@ -384,11 +388,11 @@ ask_found_fits bs = ask_word_fits (front runs.Letters bs) (behind_bytes runs.Let
 answer_found_fits : (a : Access) (bs : List ℕ) → Passes answer_fits (answer_in a bs)
 answer_found_fits (accesses.Value n) bs =
     passes_if answer_fits (is_absent bs) (Some (answers_are.Value None)) (option_map (λ p. answers_are.Value (Some p.0)) (text_in bs)) refl
-    (passes_as (λ x. is_text x.0) answer_fits (λ p. answers_are.Value (Some p.0)) (text_in bs) (text_fits bs) (λ x k. k))
+    (passes_as (λ x. is_text V2 x.0) answer_fits (λ p. answers_are.Value (Some p.0)) (text_in bs) (text_fits bs) (λ x k. k))
 answer_found_fits (accesses.Data n) bs = passes_as (λ x. is_code x.0) answer_fits (λ p. answers_are.Data p.0) (code_in bs) (code_fits bs) (λ x k. k)
 answer_found_fits (accesses.Order n way) bs =
     passes_if answer_fits (is_absent bs) (Some (answers_are.Order None)) (option_map (λ p. answers_are.Order (Some p.0)) (subscript_in bs)) refl
-    (passes_as (λ x. is_text x.0) answer_fits (λ p. answers_are.Order (Some p.0)) (subscript_in bs) (subscript_fits bs) (λ x k. k))
+    (passes_as (λ x. is_text V2 x.0) answer_fits (λ p. answers_are.Order (Some p.0)) (subscript_in bs) (subscript_fits bs) (λ x k. k))
 answer_found_fits (accesses.Query n) bs =
     passes_if answer_fits (is_absent bs) (Some (answers_are.Query None)) (option_map (λ p. answers_are.Query (Some p.0)) (name_in bs)) refl
     (passes_as (λ x. name_fits x.0) answer_fits (λ p. answers_are.Query (Some p.0)) (name_in bs) (name_found_fits bs) (λ x k. k))
@@ -409,7 +413,7 @@ kept_found_fits bs = by (begins_with 34 bs) (begins_with 94 bs) (begins_with 123
         (cond a (option_map (λ p. (kepts.Text p.0, p.1)) (text_in bs))
         (cond b (option_map (λ p. (kepts.Name p.0, p.1)) (name_in bs))
         (cond c (option_map (λ p. (kepts.Subtree p.0, p.1)) (subtree_in bs)) (number_kept bs))))
-    by true b c = passes_as (λ x. is_text x.0) (λ x. kept_fits x.0) (λ p. (kepts.Text p.0, p.1)) (text_in bs) (text_fits bs) (λ x k. k)
+    by true b c = passes_as (λ x. is_text V2 x.0) (λ x. kept_fits x.0) (λ p. (kepts.Text p.0, p.1)) (text_in bs) (text_fits bs) (λ x k. k)
     by false true c = passes_as (λ x. name_fits x.0) (λ x. kept_fits x.0) (λ p. (kepts.Name p.0, p.1)) (name_in bs) (name_found_fits bs) (λ x k. k)
     by false false true = passes_as (λ x. nodes_fit x.0) (λ x. kept_fits x.0) (λ p. (kepts.Subtree p.0, p.1)) (subtree_in bs) (subtree_fits bs) (λ x k. k)
     by false false false = number_kept_fits bs
@@ -427,7 +431,7 @@ job_fits bs = let at = skipped (behind_bytes runs.Letters bs) in passes_as (λ x
 
 device_given_fits : (given : Given) (bs : List ℕ) → Passes reply_fits (given_as given bs)
 device_given_fits givens.Nothing bs = tt
-device_given_fits givens.Text bs = passes_as (λ x. is_text x.0) reply_fits (λ p. replies.Line p.0) (text_in bs) (text_fits bs) (λ x k. k)
+device_given_fits givens.Text bs = passes_as (λ x. is_text V2 x.0) reply_fits (λ p. replies.Line p.0) (text_in bs) (text_fits bs) (λ x k. k)
 device_given_fits givens.Code bs = passes_as (λ x. is_code x.0) reply_fits (λ p. replies.Byte p.0) (code_in bs) (code_fits bs) (λ x k. k)
 
 given_fits : (a : Ask) (bs : List ℕ) → Passes reply_fits (given_in a bs)
@@ -469,37 +473,60 @@ reply_found_fits a bs =
 
 -- ---- lines
 
-event_fits : (line : List ℕ) → Passes is_sized (event_in line)
-event_fits line =
-    passes_on is_count is_sized asked (count_in line) (count_fits line)
-    (λ job r h. passes_on ask_fits is_sized (event_piece job) (ask_in (skipped r)) (ask_found_fits (skipped r))
-    (λ ask s k. passes_as reply_fits is_sized (λ reply. pieces.Event job ask reply) (reply_in ask (skipped s)) (reply_found_fits ask (skipped s)) (λ reply j. λ i. (h i && k i) && j i)))
+spot_found_fits : (bs : List ℕ) → Finds spot_fits (spot_in bs)
+spot_found_fits bs =
+    passes_if (λ x. spot_fits x.0) (begins_with 45 bs) (Some (None, skipped bs)) (line_behind (front runs.Word bs) (behind_bytes runs.Word bs)) refl
+    (passes_if (λ x. spot_fits x.0) (is_word (front runs.Word bs)) (option_map (line_of (front runs.Word bs)) (count_in (skipped (behind_bytes runs.Word bs)))) None
+    (passes_as (λ x. is_count x.0) (λ x. spot_fits x.0) (line_of (front runs.Word bs)) (count_in (skipped (behind_bytes runs.Word bs)))
+    (count_fits (skipped (behind_bytes runs.Word bs))) (λ p k. k)) tt)
+
+-- an ask and its reply
+both_fit : Ask × Reply → Bool
+both_fit told = ask_fits told.0 && reply_fits told.1
+
+told_fits : (bs : List ℕ) → Passes both_fit (told_in bs)
+unfolding both_fit
+told_fits bs = passes_on ask_fits both_fit replied (ask_in bs) (ask_found_fits bs)
+    (λ ask s k. passes_as reply_fits both_fit (λ reply. (ask, reply)) (reply_in ask (skipped s)) (reply_found_fits ask (skipped s)) (λ reply j. λ i. k i && j i))
+
+asked_fits : (job : ℕ) (spot : Option Spot) (bs : List ℕ) → is_count job ≡ true → spot_fits spot ≡ true → Passes is_sized (asked job spot bs)
+unfolding both_fit
+asked_fits job spot bs h k =
+    passes_as both_fit is_sized (λ told. pieces.Event (record { job = job; spot = spot; ask = told.0; reply = told.1 })) (told_in (skipped bs)) (told_fits (skipped bs))
+    (λ told j. let p = both_true (ask_fits told.0) (reply_fits told.1) j in λ i. ((h i && k i) && p.0 i) && p.1 i)
+
+placed_fits : (form : Form) (job : ℕ) (bs : List ℕ) → is_count job ≡ true → Passes is_sized (placed form job bs)
+placed_fits First job bs h = asked_fits job None bs h refl
+placed_fits (Second limit) job bs h = passes_on spot_fits is_sized (asked job) (spot_in (skipped bs)) (spot_found_fits (skipped bs)) (λ spot r k. asked_fits job spot r h k)
+
+event_fits : (form : Form) (line : List ℕ) → Passes is_sized (event_in form line)
+event_fits form line = passes_on is_count is_sized (placed form) (count_in line) (count_fits line) (λ job r h. placed_fits form job r h)
 
 device_piece_fits : (bs : List ℕ) → Passes is_sized (pooled bs)
 device_piece_fits bs =
-    passes_on is_text is_sized counted (text_in bs) (text_fits bs)
+    passes_on (is_text V2) is_sized counted (text_in bs) (text_fits bs)
     (λ name r h. passes_as (λ x. is_count x.0) is_sized (λ p. pieces.Device name p.0) (count_in (skipped r)) (count_fits (skipped r)) (λ x k. λ i. h i && k i))
 
 start_piece_fits : (bs : List ℕ) → Passes is_sized (starting bs)
 start_piece_fits bs = passes_as (λ entry. true) is_sized pieces.Start (entry_of bs) (passes_any (entry_of bs)) (λ entry k. refl)
 
-any_piece_fits : (line word rest : List ℕ) → Passes is_sized (piece_with line word rest)
-any_piece_fits line word rest = by (bytes_eq word (codes "pool")) (bytes_eq word (codes "start"))
+any_piece_fits : (form : Form) (line word rest : List ℕ) → Passes is_sized (piece_with form line word rest)
+any_piece_fits form line word rest = by (bytes_eq word (codes "pool")) (bytes_eq word (codes "start"))
   where
-    by : (a b : Bool) → Passes is_sized (cond a (pooled (skipped rest)) (cond b (starting (skipped rest)) (event_in line)))
+    by : (a b : Bool) → Passes is_sized (cond a (pooled (skipped rest)) (cond b (starting (skipped rest)) (event_in form line)))
     by true b = device_piece_fits (skipped rest)
     by false true = start_piece_fits (skipped rest)
-    by false false = event_fits line
+    by false false = event_fits form line
 
-respelled_fits : (line : List ℕ) (o : Option Piece) → Passes is_sized o → Passes is_sized (respelled line o)
-respelled_fits line None h = tt
-respelled_fits line (Some p) h = passes_if is_sized (is_piece p && bytes_eq (piece_text p) line) (Some p) None h tt
+respelled_fits : (form : Form) (line : List ℕ) (o : Option Piece) → Passes is_sized o → Passes is_sized (respelled form line o)
+respelled_fits form line None h = tt
+respelled_fits form line (Some p) h = passes_if is_sized (is_piece form p && bytes_eq (piece_text form p) line) (Some p) None h tt
 
 found_is : (p : Piece) (o : Option Piece) → Passes is_sized o → o ≡ Some p → is_sized p ≡ true
 found_is p None h e = absurd cc
 found_is p (Some q) h e = ap is_sized (let same : p ≡ q = cc in same) ∙ h
 
 -- what a line says is within the sizes of its values
-pub piece_fits : (line : List ℕ) (p : Piece) → piece_of line ≡ Some p → is_sized p ≡ true
-piece_fits line p e =
-    found_is p (piece_of line) (respelled_fits line (piece_in line) (any_piece_fits line (front runs.Letters line) (behind_bytes runs.Letters line))) e
+pub piece_fits : (form : Form) (line : List ℕ) (p : Piece) → piece_of form line ≡ Some p → is_sized p ≡ true
+piece_fits form line p e =
+    found_is p (piece_of form line) (respelled_fits form line (piece_in form line) (any_piece_fits form line (front runs.Letters line) (behind_bytes runs.Letters line))) e

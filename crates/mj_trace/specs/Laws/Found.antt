@@ -12,11 +12,15 @@ use Rattle.mj_subs.specs.Name.{Name, is_word}
 use Rattle.mj_nref.specs.Spelling.{word_text}
 use Rattle.mj_gfile.specs.Spelling.{listed_text, listed_subscript, listed_rest, listed_subscripts, listed_name}
 use Rattle.mj_gfile.specs.Reading.{front_by, rest_by, is_number_byte, is_word_byte, subscript_at}
+use Rattle.mj_text.specs.declared.limit.Limit.TheVariants.{V2}
 use Rattle.mj_gfile.specs.Listing.{limited, is_short, text_field, are_bytes, is_text}
 use Rattle.mj_gfile.specs.Laws.Texts.{both_true, NoQuote, text_at-listed}
 use Rattle.mj_gfile.specs.Laws.Names.{Stops, more_pass, canonic_numbers, subscript_at-listed}
-use Rattle.mj_trace.specs.Reading.{onward, skipped, begins_with, number_read, number_in, below, count_in, code_in, within, text_in, subscript_in, appended, continued, all_more, subscript_more, subscripts_in, with_subscripts, name_of, name_on, name_in}
-use Rattle.mj_trace.specs.Sized.{is_count, is_code, are_texts, name_fits}
+use Rattle.mj_trace.specs.Reading.{onward, skipped, begins_with, number_read, number_in, below, count_in, code_in, within, text_in, subscript_in, appended, continued, all_more, subscript_more, subscripts_in, with_subscripts, name_of, name_on, name_in, front, behind_bytes, line_of, line_behind, spot_in}
+use Rattle.mj_ask.specs.declared.noted.Spot.{Spot}
+use Rattle.mj_trace.specs.declared.run.Run.TheVariants as runs
+use Rattle.mj_trace.specs.Spelling.{spot_text}
+use Rattle.mj_trace.specs.Sized.{is_count, is_code, are_texts, name_fits, spot_fits}
 
 -- ---- runs
 
@@ -86,10 +90,10 @@ code_found n r h e =
 
 -- ---- texts and subscripts
 
-pub text_found : (t r : List ℕ) → is_text t ≡ true → Ends r → text_in (listed_text t ++ r) ≡ Some (t, r)
+pub text_found : (t r : List ℕ) → is_text V2 t ≡ true → Ends r → text_in (listed_text t ++ r) ≡ Some (t, r)
 text_found t r h e =
-    let p = both_true (is_short t) (are_bytes t) h in
-    ap (λ o. within (text_field o)) (text_at-listed t r p.1 (no_quote r e)) ∙ ap (λ b. within (Some (limited b t, r))) p.0
+    let p = both_true (is_short V2 t) (are_bytes t) h in
+    ap (λ o. within (text_field V2 o)) (text_at-listed t r p.1 (no_quote r e)) ∙ ap (λ b. within (Some (limited b t, r))) p.0
 
 number_no_quote : (c : ℕ) → is_number_byte c ≡ true → eqb c 34 ≡ false
 number_no_quote c h = grind (arith, nat_tests)
@@ -97,17 +101,17 @@ number_no_quote c h = grind (arith, nat_tests)
 number_no_close : (c : ℕ) → is_number_byte c ≡ true → eqb c 41 ≡ false
 number_no_close c h = grind (arith, nat_tests)
 
-bare_found : (s r : List ℕ) → is_text s ≡ true → is_canonic s ≡ true → Ends r → subscript_in (s ++ r) ≡ Some (s, r)
+bare_found : (s r : List ℕ) → is_text V2 s ≡ true → is_canonic s ≡ true → Ends r → subscript_in (s ++ r) ≡ Some (s, r)
 bare_found [] r h k e = absurd cc
 bare_found (c ∷ cs) r h k e =
-    let p = both_true (is_short (c ∷ cs)) (are_bytes (c ∷ cs)) h in
+    let p = both_true (is_short V2 (c ∷ cs)) (are_bytes (c ∷ cs)) h in
     let first = (both_true (is_number_byte c) (list_all is_number_byte cs) (canonic_numbers (c ∷ cs) k)).0 in
     let at : subscript_at ((c ∷ cs) ++ r) ≡ Some (c ∷ cs, r) =
     ap (λ b. subscript_at (cond b (c ∷ cs) (listed_text (c ∷ cs)) ++ r)) (sym k) ∙ subscript_at-listed (c ∷ cs) r (record { filled = refl; bytes = p.1 }) (no_number r e) (no_quote r e) in
-    ap (λ b. cond b (text_in (c ∷ (cs ++ r))) (within (text_field (subscript_at (c ∷ (cs ++ r)))))) (number_no_quote c first)
-    ∙ ap (λ o. within (text_field o)) at ∙ ap (λ b. within (Some (limited b (c ∷ cs), r))) p.0
+    ap (λ b. cond b (text_in (c ∷ (cs ++ r))) (within (text_field V2 (subscript_at (c ∷ (cs ++ r)))))) (number_no_quote c first)
+    ∙ ap (λ o. within (text_field V2 o)) at ∙ ap (λ b. within (Some (limited b (c ∷ cs), r))) p.0
 
-pub subscript_found : (s r : List ℕ) → is_text s ≡ true → Ends r → subscript_in (listed_subscript s ++ r) ≡ Some (s, r)
+pub subscript_found : (s r : List ℕ) → is_text V2 s ≡ true → Ends r → subscript_in (listed_subscript s ++ r) ≡ Some (s, r)
 subscript_found s r h e = by (is_canonic s) refl
   where
     by : (b : Bool) → is_canonic s ≡ b → subscript_in (cond b s (listed_text s) ++ r) ≡ Some (s, r)
@@ -162,10 +166,10 @@ FewTexts acc ss = (length acc + length ss ≤ 31) × (are_texts ss ≡ true)
 few_more : (acc : List (List ℕ)) (s : List ℕ) (ss : List (List ℕ)) (r : List ℕ) → FewTexts acc (s ∷ ss) → Ends r → subscript_more acc (listed_subscript s ++ r) ≡ Some (acc ++ s ∷ [], r)
 few_more acc s ss r f e =
     let below : nat_lt (length acc) 31 ≡ true = grind (arith, nat_tests, f.0) in
-    ap (appended (nat_lt (length acc) 31) acc) (subscript_found s r (both_true (is_text s) (are_texts ss) f.1).0 e) ∙ ap (λ b. cond b (Some (acc ++ s ∷ [], r)) None) below
+    ap (appended (nat_lt (length acc) 31) acc) (subscript_found s r (both_true (is_text V2 s) (are_texts ss) f.1).0 e) ∙ ap (λ b. cond b (Some (acc ++ s ∷ [], r)) None) below
 
 few_on : (acc : List (List ℕ)) (s : List ℕ) (ss : List (List ℕ)) → FewTexts acc (s ∷ ss) → FewTexts (acc ++ s ∷ []) ss
-few_on acc s ss f = (omega (arith, f.0, length-append acc (s ∷ [])), (both_true (is_text s) (are_texts ss) f.1).1)
+few_on acc s ss f = (omega (arith, f.0, length-append acc (s ∷ [])), (both_true (is_text V2 s) (are_texts ss) f.1).1)
 
 -- how the subscripts behind the first are spelled, and what follows
 abbrev tail : List ℕ → List (List ℕ) → List ℕ
@@ -238,3 +242,33 @@ kind_found false w ss r h few t e =
 pub name_found : (n : Name) (r : List ℕ) → is_word n.word ≡ true → length n.subscripts ≤ 31 → name_fits n ≡ true → Ends r → name_in (listed_name n ++ r) ≡ Some (n, r)
 name_found n r h few t e =
     ap name_in (append_assoc (word_text n.global n.word) (listed_subscripts n.subscripts) r) ∙ kind_found n.global n.word n.subscripts r h few t e
+
+-- ---- places
+
+word_no_dash : (w r : List ℕ) → is_word w ≡ true → begins_with 45 (w ++ r) ≡ false
+word_no_dash [] r h = absurd cc
+word_no_dash (c ∷ cs) r h = other c (both_true (is_word_byte c) (list_all is_word_byte cs) (word_bytes (c ∷ cs) h)).0
+  where
+    other : (d : ℕ) → is_word_byte d ≡ true → eqb d 45 ≡ false
+    other d e = grind (arith, nat_tests)
+
+line_found : (s : Spot) (r : List ℕ) → is_word s.routine ≡ true → is_count s.line ≡ true → Ends r → spot_in (s.routine ++ 58 ∷ (decimal s.line ++ r)) ≡ Some (Some s, r)
+line_found s r h k e =
+    let rest = 58 ∷ (decimal s.line ++ r) in
+    let all = word_bytes s.routine h in
+    let f = front_all is_word_byte s.routine rest all refl in
+    let b = rest_all is_word_byte s.routine rest all refl in
+    ap (λ c. cond c (Some (None, skipped (s.routine ++ rest))) (line_behind (front runs.Word (s.routine ++ rest)) (behind_bytes runs.Word (s.routine ++ rest))))
+    (word_no_dash s.routine rest h)
+    ∙ (λ i. line_behind (f i) (b i))
+    ∙ ap (λ c. cond c (option_map (line_of s.routine) (count_in (decimal s.line ++ r))) None) h
+    ∙ ap (option_map (line_of s.routine)) (count_found s.line r k e)
+
+-- where an ask came from: nothing, or a line of a routine whose name is a word
+abbrev pub IsWordSpot : Option Spot → Type 0
+IsWordSpot None = Unit {0}
+IsWordSpot (Some s) = is_word s.routine ≡ true
+
+pub spot_found : (spot : Option Spot) (r : List ℕ) → IsWordSpot spot → spot_fits spot ≡ true → Ends r → spot_in (spot_text spot ++ r) ≡ Some (spot, r)
+spot_found None r h k e = refl
+spot_found (Some s) r h k e = ap spot_in (append_assoc s.routine (58 ∷ decimal s.line) r) ∙ line_found s r h k e

@@ -9,6 +9,7 @@ use Rattle.mj_subs.specs.Name.{Name, is_word}
 use Rattle.mj_store.specs.Questions.{Subtree}
 use Rattle.mj_ask.specs.Formed.{is_name, are_filled}
 use Rattle.mj_gfile.specs.Spelling.{listed_text, listed_subscript, listed_rest, listed_name}
+use Rattle.mj_text.specs.declared.limit.Limit.TheVariants.{V2}
 use Rattle.mj_gfile.specs.Listing.{is_text}
 use Rattle.mj_gfile.specs.Laws.Texts.{both_true}
 use Rattle.mj_trace.specs.Spelling.{rest_of_names, names_text, node_text, rest_of_nodes, subtree_text, value_text, rest_of_values, values_text, timeout_text}
@@ -58,9 +59,9 @@ names_found n (m ∷ ms) r h e c =
 -- ---- nodes
 
 abbrev is_sized_node : List (List ℕ) × List ℕ → Bool
-is_sized_node e = nat_le (length e.0) 31 && are_texts e.0 && is_text e.1
+is_sized_node e = nat_le (length e.0) 31 && are_texts e.0 && is_text V2 e.1
 
-node_of : (place : List (List ℕ)) (t r : List ℕ) → nat_le (length place) 31 ≡ true → are_texts place ≡ true → is_text t ≡ true → Ends r → node_in (node_text (place, t) ++ r) ≡ Some ((place, t), r)
+node_of : (place : List (List ℕ)) (t r : List ℕ) → nat_le (length place) 31 ≡ true → are_texts place ≡ true → is_text V2 t ≡ true → Ends r → node_in (node_text (place, t) ++ r) ≡ Some ((place, t), r)
 node_of [] t r a b c e = ap (option_map (λ p. (([], p.0), p.1))) (text_found t r c e)
 node_of (s ∷ ss) t r a b c e =
     ap (λ l. onward node_with (subscripts_in l)) (append_assoc (listed_subscript s ++ listed_rest ss) (61 ∷ listed_text t) r)
@@ -74,7 +75,7 @@ node_reads : (acc : Subtree) (x : List (List ℕ) × List ℕ) (xs : Subtree) (r
 unfolding AreNodes
 node_reads acc x xs r h e =
     let a = both_true (is_sized_node x) (list_all is_sized_node xs) h in
-    let b = both_true (nat_le (length x.0) 31 && are_texts x.0) (is_text x.1) a.0 in
+    let b = both_true (nat_le (length x.0) 31 && are_texts x.0) (is_text V2 x.1) a.0 in
     let c = both_true (nat_le (length x.0) 31) (are_texts x.0) b.0 in
     ap (appended true acc) (node_of x.0 x.1 r c.0 c.1 b.1 e)
 

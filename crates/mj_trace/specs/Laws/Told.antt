@@ -30,6 +30,7 @@ use Rattle.mj_ask.specs.Formed.{is_global_name, is_name, is_kept, is_clash, is_a
 use Rattle.mj_ask.specs.Fits.{is_reply_to, answers}
 use Rattle.mj_gfile.specs.Spelling.{listed_text, listed_subscript, listed_subscripts, listed_name}
 use Rattle.mj_gfile.specs.Reading.{is_number_byte}
+use Rattle.mj_text.specs.declared.limit.Limit.TheVariants.{V2}
 use Rattle.mj_gfile.specs.Listing.{is_text}
 use Rattle.mj_gfile.specs.Laws.Texts.{both_true}
 use Rattle.mj_gfile.specs.Laws.Names.{canonic_numbers}
@@ -139,7 +140,7 @@ subscript_there s = by (is_canonic s) refl
 
 -- ---- what ends the line
 
-text_all : (t : List ℕ) → is_text t ≡ true → text_in (listed_text t) ≡ Some (t, [])
+text_all : (t : List ℕ) → is_text V2 t ≡ true → text_in (listed_text t) ≡ Some (t, [])
 text_all t h = ap text_in (sym (append-nil (listed_text t))) ∙ text_found t [] h tt
 
 pub count_all : (n : ℕ) → is_count n ≡ true → count_in (decimal n) ≡ Some (n, [])
@@ -148,7 +149,7 @@ count_all n h = ap count_in (sym (append-nil (decimal n))) ∙ count_found n [] 
 code_all : (n : ℕ) → is_code n ≡ true → code_in (decimal n) ≡ Some (n, [])
 code_all n h = ap code_in (sym (append-nil (decimal n))) ∙ code_found n [] h tt
 
-subscript_all : (s : List ℕ) → is_text s ≡ true → subscript_in (listed_subscript s) ≡ Some (s, [])
+subscript_all : (s : List ℕ) → is_text V2 s ≡ true → subscript_in (listed_subscript s) ≡ Some (s, [])
 subscript_all s h = ap subscript_in (sym (append-nil (listed_subscript s))) ∙ subscript_found s [] h tt
 
 name_all : (n : Name) → is_global_name n ≡ true → name_fits n ≡ true → name_in (listed_name n) ≡ Some (n, [])
@@ -159,7 +160,7 @@ subtree_all nodes h = ap subtree_in (sym (append-nil (subtree_text nodes))) ∙ 
 
 -- ---- answers
 
-text_answer : (n : Name) (t : List ℕ) → is_text t ≡ true → reply_in (asks.Shared (shared_asks.Access (accesses.Value n))) (listed_text t) ≡ Some (replies.Answer (answers_are.Value (Some t)))
+text_answer : (n : Name) (t : List ℕ) → is_text V2 t ≡ true → reply_in (asks.Shared (shared_asks.Access (accesses.Value n))) (listed_text t) ≡ Some (replies.Answer (answers_are.Value (Some t)))
 text_answer n t h =
     given_when (asks.Shared (shared_asks.Access (accesses.Value n))) (listed_text t) refl
     ∙ ap (λ (o : Option (List ℕ × List ℕ)). option_map replies.Answer (option_map (λ p. answers_are.Value (Some p.0)) o)) (text_all t h)
@@ -169,7 +170,7 @@ data_answer n d h =
     given_when (asks.Shared (shared_asks.Access (accesses.Data n))) (decimal d) (number_mark (pos d) (code_ranged d h))
     ∙ ap (λ (o : Option (ℕ × List ℕ)). option_map replies.Answer (option_map (λ p. answers_are.Data p.0) o)) (code_all d h)
 
-order_answer : (n : Name) (way : Direction) (s : List ℕ) → is_text s ≡ true
+order_answer : (n : Name) (way : Direction) (s : List ℕ) → is_text V2 s ≡ true
     → reply_in (asks.Shared (shared_asks.Access (accesses.Order n way))) (listed_subscript s) ≡ Some (replies.Answer (answers_are.Order (Some s)))
 order_answer n way s h =
     given_when (asks.Shared (shared_asks.Access (accesses.Order n way))) (listed_subscript s) (subscript_mark s)
@@ -272,7 +273,7 @@ limit_is : (a : Ask) → is_reply_to a replies.Limit ≡ true → limit_of a ≡
 limit_is (asks.Shared (shared_asks.Access a)) h = absurd cc
 limit_is _ h = refl
 
-line_found : (a : Ask) (t : List ℕ) → is_reply_to a (replies.Line t) ≡ true → is_text t ≡ true → reply_in a (listed_text t) ≡ Some (replies.Line t)
+line_found : (a : Ask) (t : List ℕ) → is_reply_to a (replies.Line t) ≡ true → is_text V2 t ≡ true → reply_in a (listed_text t) ≡ Some (replies.Line t)
 line_found (asks.Device d a) t h f =
     given_when (asks.Device d a) (listed_text t) refl ∙ ap (λ g. given_as g (listed_text t)) (text_given a t h) ∙ ap (option_map (λ p. replies.Line p.0)) (text_all t f)
 line_found (asks.Shared (shared_asks.Access a)) t h f = absurd cc

@@ -35,14 +35,19 @@ use Rattle.mj_ask.specs.Fits.{device_timeout}
 use Rattle.mj_ask.specs.Formed.{is_name, is_global_name, is_search_name, are_filled, are_filled_before_last, is_subtree, is_access, are_names, is_shared_ask, is_ask, is_kept, is_clash, is_answer, is_reply}
 use Rattle.mj_gfile.specs.Spelling.{listed_text, listed_subscripts, listed_name}
 use Rattle.mj_gfile.specs.Reading.{is_word_byte, is_number_byte}
+use Rattle.mj_text.specs.declared.limit.Limit.TheVariants.{V2}
 use Rattle.mj_gfile.specs.Listing.{is_text}
 use Rattle.mj_gfile.specs.Laws.Texts.{both_true}
 use Rattle.mj_gfile.specs.Laws.Names.{more_pass}
 use Rattle.mj_gfile.specs.Laws.Listings.{no_end, AreWithin, within-append, above_ten, number_above, text_within, subscript_within, subscripts_within}
 use Rattle.mj_trace.specs.Devices.{device_word}
-use Rattle.mj_trace.specs.Spelling.{rest_of_names, names_text, place_text, node_text, rest_of_nodes, nodes_between, subtree_text, value_text, rest_of_values, values_between, values_text, timeout_text, direction_text, access_text, shared_text, device_text, ask_text, answer_text, kept_text, clash_text, reply_text, event_text}
-use Rattle.mj_trace.specs.Sized.{is_count, name_fits, value_fits, timeout_fits, shared_fits, device_fits, ask_fits, answer_fits, kept_fits, reply_fits}
-use Rattle.mj_trace.specs.Laws.Found.{number_bytes, word_bytes}
+use Rattle.mj_trace.specs.Spelling.{rest_of_names, names_text, place_text, node_text, rest_of_nodes, nodes_between, subtree_text, value_text, rest_of_values, values_between, values_text, timeout_text, direction_text, access_text, shared_text, device_text, ask_text, answer_text, kept_text, clash_text, reply_text, spot_text, spot_part, told_text, event_text}
+use Rattle.mj_ask.specs.declared.noted.Spot.{Spot}
+use Rattle.mj_ask.specs.declared.noted.Noted.{Noted}
+use Rattle.mj_trace.specs.declared.form.Form.{Form}
+use Rattle.mj_trace.specs.declared.form.Form.TheVariants.{First, Second}
+use Rattle.mj_trace.specs.Sized.{is_count, name_fits, value_fits, timeout_fits, shared_fits, device_fits, ask_fits, answer_fits, kept_fits, reply_fits, spot_fits}
+use Rattle.mj_trace.specs.Laws.Found.{number_bytes, word_bytes, IsWordSpot}
 use Rattle.mj_trace.specs.Laws.Asked.{code_small}
 use Rattle.mj_trace.specs.Laws.Told.{count_ranged, code_ranged}
 
@@ -187,7 +192,7 @@ shared_within (shared_asks.Try names timeout) h k =
 shared_within (shared_asks.Unlock names) h k = names_within names (all_names names h)
 shared_within (shared_asks.Begin kinds.Plain) h k = refl
 shared_within (shared_asks.Open d timeout) h k =
-    within-append (listed_text d) (timeout_text timeout) (text_within d) (timeout_within timeout (both_true (is_text d) (timeout_fits timeout) k).1)
+    within-append (listed_text d) (timeout_text timeout) (text_within d) (timeout_within timeout (both_true (is_text V2 d) (timeout_fits timeout) k).1)
 shared_within (shared_asks.Close d) h k = text_within d
 shared_within (shared_asks.Start start timeout) h k =
     let q = both_true (list_all value_fits start.values) (timeout_fits timeout) k in
@@ -210,7 +215,7 @@ device_within a k = within-append (device_word a) (timeout_text (device_timeout 
 pub ask_within : (a : Ask) → is_ask a ≡ true → ask_fits a ≡ true → AreWithin (ask_text a)
 unfolding no_end
 ask_within (asks.Shared a) h k = shared_within a h k
-ask_within (asks.Device d a) h k = within-append (listed_text d) (32 ∷ device_text a) (text_within d) (device_within a (both_true (is_text d) (device_fits a) k).1)
+ask_within (asks.Device d a) h k = within-append (listed_text d) (32 ∷ device_text a) (text_within d) (device_within a (both_true (is_text V2 d) (device_fits a) k).1)
 ask_within (asks.Rest n) h k = number_within n k
 
 -- ---- replies
@@ -263,10 +268,23 @@ reply_within (replies.Clash clash) h k = clash_within clash h k
 
 -- ---- lines
 
-pub event_within : (job : ℕ) (a : Ask) (r : Reply) → is_count job ≡ true → is_ask a ≡ true → ask_fits a ≡ true → is_reply r ≡ true → reply_fits r ≡ true → AreWithin (event_text job a r)
+spot_within : (spot : Option Spot) → IsWordSpot spot → spot_fits spot ≡ true → AreWithin (spot_text spot)
 unfolding no_end
-event_within job a r j h k m f =
-    within-append (decimal job) (32 ∷ (ask_text a ++ 32 ∷ reply_text r)) (count_within job j) (within-append (ask_text a) (32 ∷ reply_text r) (ask_within a h k) (reply_within r m f))
+spot_within None h k = refl
+spot_within (Some s) h k = within-append s.routine (58 ∷ decimal s.line) (word_within s.routine h) (count_within s.line k)
+
+part_within : (form : Form) (spot : Option Spot) → IsWordSpot spot → spot_fits spot ≡ true → AreWithin (spot_part form spot)
+unfolding no_end
+part_within First spot h k = refl
+part_within (Second limit) spot h k = within-append (spot_text spot) (32 ∷ []) (spot_within spot h k) refl
+
+pub event_within : (form : Form) (e : Noted) → is_count e.job ≡ true → IsWordSpot e.spot → spot_fits e.spot ≡ true → is_ask e.ask ≡ true → ask_fits e.ask ≡ true
+    → is_reply e.reply ≡ true → reply_fits e.reply ≡ true → AreWithin (event_text form e)
+unfolding no_end
+event_within form e j w s h k m f =
+    within-append (decimal e.job) (32 ∷ (spot_part form e.spot ++ told_text e.ask e.reply)) (count_within e.job j)
+    (within-append (spot_part form e.spot) (told_text e.ask e.reply) (part_within form e.spot w s)
+    (within-append (ask_text e.ask) (32 ∷ reply_text e.reply) (ask_within e.ask h k) (reply_within e.reply m f)))
 
 pub device_line_within : (name : List ℕ) (count : ℕ) → is_count count ≡ true → AreWithin (listed_text name ++ 32 ∷ decimal count)
 unfolding no_end

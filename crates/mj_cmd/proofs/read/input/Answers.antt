@@ -27,14 +27,14 @@ pub returns-in-Some-clause-reads : goal.returns-in-Some-clause-reads
 returns-in-Some-clause-reads c = λ m r o condition k done.
     let ks = tokens_seen c.args.tokens.now in
     let q = some_of c.in_ok-value.field-0 (c.in-Some.value, c.in-Some.behind) (HasNoQuoted ks) (λ x. (ks ≡ Quoted x.0 ∷ tokens_seen x.1.now) ×
-    (length x.0 ≤ 32767) × (length x.1.now < length c.args.tokens.now)) c.in-Some.is c.in_ok-value.ensures in
+    (length x.0 ≤ 1048576) × (length x.1.now < length c.args.tokens.now)) c.in-Some.is c.in_ok-value.ensures in
     went_prompt c.args.phrases.limited m c.args.tokens.now c.in-Some.behind.now c.in-Some.value o condition k done q.0 q.1
 
 pub returns-in_err-received-in-None-clause-reads : goal.returns-in_err-received-in-None-clause-reads
 returns-in_err-received-in-None-clause-reads c = λ m r o condition k done.
     let ks = tokens_seen c.args.tokens.now in
     let u = c.begins_layout.ensures.no c.if-begins_layout.false in
-    let q = none_of c.in_ok-value.field-0 (HasNoQuoted ks) (λ x. (ks ≡ Quoted x.0 ∷ tokens_seen x.1.now) × (length x.0 ≤ 32767) ×
+    let q = none_of c.in_ok-value.field-0 (HasNoQuoted ks) (λ x. (ks ≡ Quoted x.0 ∷ tokens_seen x.1.now) × (length x.0 ≤ 1048576) ×
     (length x.1.now < length c.args.tokens.now)) c.in-None.is c.in_ok-value.ensures in
     reads_err c.args.phrases.limited _ _ c.from_residual-in_err-received-in-None.result c.in_err-received-in-None.field-0.0 m c.args.tokens.now _ _ c.from_residual-in_err-received-in-None.ensures.1
     (c.in_err-received-in-None.ensures.reads m r u.0 u.1 q o condition k done)
@@ -43,6 +43,6 @@ pub returns-in_ok-received-in-None-clause-reads : goal.returns-in_ok-received-in
 returns-in_ok-received-in-None-clause-reads c = λ m r o condition k done.
     let ks = tokens_seen c.args.tokens.now in
     let u = c.begins_layout.ensures.no c.if-begins_layout.false in
-    let q = none_of c.in_ok-value.field-0 (HasNoQuoted ks) (λ x. (ks ≡ Quoted x.0 ∷ tokens_seen x.1.now) × (length x.0 ≤ 32767) ×
+    let q = none_of c.in_ok-value.field-0 (HasNoQuoted ks) (λ x. (ks ≡ Quoted x.0 ∷ tokens_seen x.1.now) × (length x.0 ≤ 1048576) ×
     (length x.1.now < length c.args.tokens.now)) c.in-None.is c.in_ok-value.ensures in
     c.in_ok-received-in-None.ensures.reads m r u.0 u.1 q o condition k done

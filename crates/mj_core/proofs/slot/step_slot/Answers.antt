@@ -2,7 +2,7 @@ use Rattle.std.proofs.Common.{◌≡◌, true, refl, sym, ap, ◌∙◌, subst, 
 use Rattle.std.specs.Option.{is_some}
 use Rattle.std.specs.Prelude.{None, Result, Ok, Err, IfOk, OnErr, option_copied}
 use Rattle.std.specs.declared.alloc.AllocError.{AllocError}
-use Rattle.mj_load.specs.Image.{routines_of}
+use Rattle.mj_load.specs.Image.{program_of}
 use Rattle.mj_jobs.specs.Rows.{IsLive}
 use Rattle.mj_jobvm.specs.Run.{Log, GoesOn, HasEnded}
 use Rattle.mj_jobvm.specs.Told.{AdvanceTells, IsWaitingAt, spent_after}
@@ -22,11 +22,11 @@ slot_in g c = record { claim = c.slot.inside.claim; job = c.slot.inside.job; ans
 
 -- how its job went, by its run from its start
 told : (g : Over) (c : After-advance g) (went : Result Turn AllocError) → c.advance.result ≡ went
-    → IfOk went (λ turn. AdvanceTells (routines_of c.args.image.now) (start_of (slot_in g c)) turn c.advance.new.self.run)
+    → IfOk went (λ turn. AdvanceTells (program_of c.args.image.now) (start_of (slot_in g c)) turn c.advance.new.self.run)
 told g c went is =
     let P : Placed g.row.A.Denot → Type 0 = λ p. IsPlaced g.A.Answerer.answering c.args.image.now g.O.Opening.opening c.args.system.now p in
     let tied = subst P (sym c.slot.view_is) c.requires.tied in
-    let T : Result Turn AllocError → Type 0 = λ w. IfOk w (λ turn. AdvanceTells (routines_of c.args.image.now) (start_of (slot_in g c)) turn c.advance.new.self.run) in
+    let T : Result Turn AllocError → Type 0 = λ w. IfOk w (λ turn. AdvanceTells (program_of c.args.image.now) (start_of (slot_in g c)) turn c.advance.new.self.run) in
     subst T is (c.advance.ensures.told (start_of (slot_in g c)) tied.own.run)
 
 -- and what it counted
@@ -69,7 +69,7 @@ pub returns-in-Ok-Ran-clause-gives : goal.returns-in-Ok-Ran-clause-gives
 returns-in-Ok-Ran-clause-gives g c =
     let at = (goal.at.returns-in-Ok-Ran-clause-gives g c).After-advance in
     let is : c.advance.result ≡ Ok turns.Ran = c.in-Ok-Ran.is ∙ ap Ok c.in-Ok-Ran.field-0-is in
-    let Q : Log → Type 0 = λ l. GoesOn (routines_of c.args.image.now) (start_of (slot_in g at)) l c.advance.new.self.run.spent in
+    let Q : Log → Type 0 = λ l. GoesOn (program_of c.args.image.now) (start_of (slot_in g at)) l c.advance.new.self.run.spent in
     rw (← c.slot.view_is) (
       counted g at (Ok turns.Ran) is,
       subst Q c.advance.ensures.log (told g at (Ok turns.Ran) is),
@@ -85,7 +85,7 @@ pub returns-in-Ok-Ended-clause-gives : goal.returns-in-Ok-Ended-clause-gives
 returns-in-Ok-Ended-clause-gives g c =
     let at = (goal.at.returns-in-Ok-Ended-clause-gives g c).After-advance in
     let is : c.advance.result ≡ Ok turns.Ended = c.in-Ok-Ended.is ∙ ap Ok c.in-Ok-Ended.field-0-is in
-    let Q : Log → Type 0 = λ l. HasEnded (routines_of c.args.image.now) (start_of (slot_in g at)) l in
+    let Q : Log → Type 0 = λ l. HasEnded (program_of c.args.image.now) (start_of (slot_in g at)) l in
     rw (← c.slot.view_is) (
       subst Q c.advance.ensures.log (told g at (Ok turns.Ended) is),
       refl,
@@ -108,9 +108,9 @@ behind g c =
     let T : Placed g.row.A.Denot → Type 0 = λ p. IsPlaced ans image opening system p in
     let tied = subst T (sym c.slot.view_is) c.requires.tied in
     let L : Placed g.row.A.Denot → Type 0 = λ p. IsLive (state_of opening system.history).rows p.claim.job in
-    let W : Result Turn AllocError → Type 0 = λ w. IfOk w (λ turn. AdvanceTells (routines_of image) start turn c.advance.new.self.run) in
+    let W : Result Turn AllocError → Type 0 = λ w. IfOk w (λ turn. AdvanceTells (program_of image) start turn c.advance.new.self.run) in
     let S : Result Turn AllocError → Type 0 = λ w. c.advance.new.self.run.spent ≡ spent_after w 10000 s.job.run.spent in
-    let asks : AdvanceTells (routines_of image) start turns.Asks c.advance.new.self.run = subst W is (c.advance.ensures.told start tied.own.run) in
+    let asks : AdvanceTells (program_of image) start turns.Asks c.advance.new.self.run = subst W is (c.advance.ensures.told start tied.own.run) in
     let P : Placed g.row.A.Denot → Type 0 = λ p.
     IsStepped ans image opening c.args.late (option_copied c.args.given) system p c.ask.result c.ask.new.system
     (record { claim = c.ask.new.claim; job = c.ask.new.job; answerer = c.ask.new.answerer; at_ask = true }) in

@@ -2,7 +2,7 @@ use Rattle.std.proofs.Common.{◌≡◌, ℕ, suc, ◌+◌, List, [], ◌∷◌,
 use Rattle.std.specs.Prelude.{slice_get, Ok, option_copied}
 use Rattle.std.proofs.lemmas.Option.{slice_get-get_or}
 use Rattle.std.proofs.lemmas.Result.{err_from_is_err_and}
-use Rattle.mj_load.specs.Image.{routines_of}
+use Rattle.mj_load.specs.Image.{program_of}
 use Rattle.mj_jobs.specs.Rows.{Row, row_at, IsLive, rows_limit}
 use Rattle.mj_sys.specs.History.{state_of}
 use Rattle.mj_sys.specs.System.{Claimed}
@@ -57,7 +57,7 @@ slots_on g c = slice_set c.args.slots.now c.args.at c.step_slot.new.slot
 -- what was made of the step
 abbrev Gave : (g : Over) (c : After-step_slot g) → Made → Type 0
 Gave g c m =
-    Steps g.A.Answerer.answering (routines_of c.args.image.now) g.O.Opening.opening c.args.late (option_copied c.args.given) c.args.system.now (slot_in g c) m
+    Steps g.A.Answerer.answering (program_of c.args.image.now) g.O.Opening.opening c.args.late (option_copied c.args.given) c.args.system.now (slot_in g c) m
     c.step_slot.new.system c.step_slot.new.slot
 
 -- all is kept, where the order is that of what was made

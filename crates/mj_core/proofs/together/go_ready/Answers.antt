@@ -2,7 +2,7 @@ use Rattle.std.proofs.Common.{◌≡◌, suc, List, Bool, Option, Some, refl, sy
 use Rattle.std.specs.Prelude.{slice_get, slice_set, Result, Ok, Err, IfOk, OnErr}
 use Rattle.std.specs.declared.alloc.AllocError.{AllocError}
 use Rattle.std.proofs.lemmas.Option.{slice_get-get_or}
-use Rattle.mj_load.specs.Image.{routines_of}
+use Rattle.mj_load.specs.Image.{program_of}
 use Rattle.mj_jobs.specs.Rows.{Row, row_at, rows_limit}
 use Rattle.mj_jobvm.specs.Told.{AdvanceTells, IsWaitingAt, spent_after}
 use Rattle.mj_jobvm.specs.declared.job.Turn.{Turn}
@@ -38,9 +38,9 @@ abbrev slots_on : (g : Over) (c : After-advance g) → Result Turn AllocError �
 slots_on g c went = slice_set c.args.slots.now c.args.at (record (slot_in g c) { job = c.advance.new.self; at_ask = is_at_ask went })
 
 told : (g : Over) (c : After-advance g) (went : Result Turn AllocError) → c.advance.result ≡ went
-    → IfOk went (λ turn. AdvanceTells (routines_of c.args.image.now) (start_of (slot_in g c)) turn c.advance.new.self.run)
+    → IfOk went (λ turn. AdvanceTells (program_of c.args.image.now) (start_of (slot_in g c)) turn c.advance.new.self.run)
 told g c went is =
-    let T : Result Turn AllocError → Type 0 = λ w. IfOk w (λ turn. AdvanceTells (routines_of c.args.image.now) (start_of (slot_in g c)) turn c.advance.new.self.run) in
+    let T : Result Turn AllocError → Type 0 = λ w. IfOk w (λ turn. AdvanceTells (program_of c.args.image.now) (start_of (slot_in g c)) turn c.advance.new.self.run) in
     subst T is (c.advance.ensures.told (start_of (slot_in g c)) (c.requires.kept.1.tied c.args.at (slot_in g c) (here g c)).placed.own.run)
 
 -- whether it waits then: one that was refused memory didn't before

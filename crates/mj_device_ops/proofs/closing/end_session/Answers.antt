@@ -12,8 +12,8 @@ use Rattle.mj_machine.specs.Kept.{context_of, stack_of, state_of, replied}
 use Rattle.mj_machine.proofs.Asks.{does_as, no_more}
 use Rattle.mj_device_ops.proofs.closing.end_session.Goals as goal
 
-pub returns-then-machine-ge-STEPS_LIMIT-clause-ok : goal.returns-then-machine-ge-STEPS_LIMIT-clause-ok
-returns-then-machine-ge-STEPS_LIMIT-clause-ok c = λ all u.
+pub returns-then-machine-clause-ok : goal.returns-then-machine-clause-ok
+returns-then-machine-clause-ok c = λ all u.
     let old = c.args.machine.now in
     let st : Stack = stack_of old in
     let name : List ℕ = top st in
@@ -26,5 +26,5 @@ returns-then-machine-ge-STEPS_LIMIT-clause-ok c = λ all u.
     does_as (λ next. end_session name (away next) (badly next) (well next)) (λ next. fault Steps) old (replied c.args.given) c.fail.result c.fail.new.machine
     (λ next n back replies.
     ap (λ b. (if b then ask (asks.Device name device_asks.End) (rest next) else away next) n back (state_of old) replies) there
-    ∙ no_more _ (rest next) n back (state_of old) replies c.if-machine-ge-STEPS_LIMIT.true)
+    ∙ no_more _ (rest next) n back (state_of old) replies c.if-machine.true)
     (c.fail.ensures (replied c.args.given))

@@ -2,6 +2,7 @@ use Rattle.std.proofs.Common.{◌≡◌, ℕ, ◌+◌, ◌++◌, ◌<◌, map, l
 use Rattle.std.specs.Prelude.{ℤ, replicate}
 use Rattle.std.proofs.lemmas.Result.{IfOk-weaker}
 use Rattle.mj_text.specs.declared.fault.Fault.TheVariants.{Length}
+use Rattle.mj_text.specs.Limit.{most_bytes}
 use Rattle.mj_num.specs.Number.{reading}
 use Rattle.mj_semantics.specs.State.{column_at}
 use Rattle.mj_semantics.specs.Outcome.{Timed, look, fault}
@@ -27,8 +28,8 @@ returns-in-Err-clause-ok c = λ all u.
     (λ next n back replies. given_is (reading (top st)) (Err f) (after next) n back (state_of old) replies is)
     (c.fail.ensures (replied c.args.given))
 
-pub returns-then-spaces-clause-ok : goal.returns-then-spaces-clause-ok
-returns-then-spaces-clause-ok c = λ all u.
+pub returns-then-spaces-most-clause-ok : goal.returns-then-spaces-most-clause-ok
+returns-then-spaces-most-clause-ok c = λ all u.
     let old = c.args.machine.now in
     let st : Stack = stack_of old in
     let marks = c.args.marks.now in
@@ -37,14 +38,15 @@ returns-then-spaces-clause-ok c = λ all u.
     let is : reading (top st) ≡ Ok i = sym (sym c.in-Ok.is ∙ c.read.ensures ∙ ap reading t) in
     let from : ℕ = column_at old.devices.current (state_of old) in
     let spaces : c.spaces-spaces.result ≡ gap marks i from = c.spaces-spaces.ensures ∙ ap (λ l. gap l i c.column.result) c.as_slice.ensures ∙ ap (gap marks i) c.column.ensures.value in
-    let long : 32767 < length (tab_bytes marks i from) = tab_long marks i from (omega (arith, spaces, c.if-spaces.true)) in
+    let most : ℕ = most_bytes old.bounds.limit in
+    let long : most < length (tab_bytes marks i from) = tab_long most marks i from (omega (arith, spaces, c.if-spaces-most.true, c.bytes-most.ensures.value)) in
     let rest : Next → Timed = λ next. next (context_of old) (c.args.pc + 1) (below st) in
     let after : Next → ℤ → Timed = λ next j. look (λ s. write (tab_bytes marks j (column_at s.current s)) (rest next)) in
-    does_as (λ next. tab marks (top st) (rest next)) (λ next. fault Length) old (replied c.args.given) c.fail-then-spaces.result c.fail-then-spaces.new.machine
+    does_as (λ next. tab marks (top st) (rest next)) (λ next. fault Length) old (replied c.args.given) c.fail-then-spaces-most.result c.fail-then-spaces-most.new.machine
     (λ next n back replies.
     given_is (reading (top st)) (Ok i) (after next) n back (state_of old) replies is
     ∙ over_long (tab_bytes marks i from) (rest next) n back (state_of old) replies long)
-    (c.fail-then-spaces.ensures (replied c.args.given))
+    (c.fail-then-spaces-most.ensures (replied c.args.given))
 
 pub returns-clause-ok : goal.returns-clause-ok
 returns-clause-ok c =

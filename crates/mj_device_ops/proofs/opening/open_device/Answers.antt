@@ -69,8 +69,8 @@ returns-then-len-gt-DEVICES_LIMIT-clause-ok c = λ all u.
     ∙ obtain_limit name z (late next) (got next) n back (state_of old) replies none (omega (arith, c.len.ensures, c.if-len-gt-DEVICES_LIMIT.true)))
     (c.fail-then-len-gt-DEVICES_LIMIT.ensures (replied c.args.given))
 
-pub returns-then-machine-ge-STEPS_LIMIT-clause-ok : goal.returns-then-machine-ge-STEPS_LIMIT-clause-ok
-returns-then-machine-ge-STEPS_LIMIT-clause-ok c = λ all u.
+pub returns-then-machine-clause-ok : goal.returns-then-machine-clause-ok
+returns-then-machine-clause-ok c = λ all u.
     let old = c.args.machine.now in
     let w = c.args.wait in
     let st : Stack = stack_of old in
@@ -82,9 +82,9 @@ returns-then-machine-ge-STEPS_LIMIT-clause-ok c = λ all u.
     let t : timeout_in w st ≡ Ok z = sym (sym c.in-Ok.is ∙ c.timeout_of.ensures ∙ ap (λ l. timeout_in w (reverse l)) c.deref.ensures.value) in
     let named : c.at.result.now ≡ name = c.at.ensures ∙ ap (λ l. top (drop c.wait_size-above.result (reverse l))) c.deref-2.ensures.value ∙ ap (λ k. top (drop k st)) c.wait_size-above.ensures in
     let none : is_open name (state_of old) ≡ false = ap (λ x. is_open x (state_of old)) (sym named) ∙ sym c.has.ensures ∙ c.if-has.false in
-    does_as (λ next. waits w st (after next)) (λ next. fault Steps) old (replied c.args.given) c.fail-then-machine-ge-STEPS_LIMIT.result c.fail-then-machine-ge-STEPS_LIMIT.new.machine
+    does_as (λ next. waits w st (after next)) (λ next. fault Steps) old (replied c.args.given) c.fail-then-machine.result c.fail-then-machine.new.machine
     (λ next n back replies. ap (λ q. q back (state_of old) replies) (waits_known w st (after next) n)
     ∙ given_is (timeout_in w st) (Ok z) (after next) n back (state_of old) replies t
     ∙ obtain_asks name z (late next) (got next) n back (state_of old) replies none (omega (arith, c.len.ensures, c.if-len-gt-DEVICES_LIMIT.false))
-    ∙ no_more _ (λ r. obtained name z r (late next) (got next)) n back (state_of old) replies c.if-machine-ge-STEPS_LIMIT.true)
-    (c.fail-then-machine-ge-STEPS_LIMIT.ensures (replied c.args.given))
+    ∙ no_more _ (λ r. obtained name z r (late next) (got next)) n back (state_of old) replies c.if-machine.true)
+    (c.fail-then-machine.ensures (replied c.args.given))

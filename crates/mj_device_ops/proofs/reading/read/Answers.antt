@@ -25,8 +25,8 @@ returns-in-Err-clause-ok c = λ all u.
     (λ next n back replies. ap (λ q. q back (state_of old) replies) (waits_known w st (after next) n) ∙ given_is (timeout_in w st) (Err f) (after next) n back (state_of old) replies t)
     (c.fail.ensures (replied c.args.given))
 
-pub returns-then-machine-ge-STEPS_LIMIT-clause-ok : goal.returns-then-machine-ge-STEPS_LIMIT-clause-ok
-returns-then-machine-ge-STEPS_LIMIT-clause-ok c = λ all u.
+pub returns-then-machine-clause-ok : goal.returns-then-machine-clause-ok
+returns-then-machine-clause-ok c = λ all u.
     let old = c.args.machine.now in
     let w = c.args.wait in
     let m = c.args.mode in
@@ -36,8 +36,8 @@ returns-then-machine-ge-STEPS_LIMIT-clause-ok c = λ all u.
     let z = c.in-Ok.timeout in
     let name = old.devices.current in
     let t : timeout_in w st ≡ Ok z = sym (sym c.in-Ok.is ∙ c.timeout_of.ensures ∙ ap (λ l. timeout_in w (reverse l)) c.deref.ensures.value) in
-    does_as (λ next. waits w st (after next)) (λ next. fault Steps) old (replied c.args.given) c.fail-then-machine-ge-STEPS_LIMIT.result c.fail-then-machine-ge-STEPS_LIMIT.new.machine
+    does_as (λ next. waits w st (after next)) (λ next. fault Steps) old (replied c.args.given) c.fail-then-machine.result c.fail-then-machine.new.machine
     (λ next n back replies. ap (λ q. q back (state_of old) replies) (waits_known w st (after next) n)
     ∙ given_is (timeout_in w st) (Ok z) (after next) n back (state_of old) replies t
-    ∙ no_more _ (λ r. input_taken name m z r (rest next)) n back (state_of old) replies c.if-machine-ge-STEPS_LIMIT.true)
-    (c.fail-then-machine-ge-STEPS_LIMIT.ensures (replied c.args.given))
+    ∙ no_more _ (λ r. input_taken name m z r (rest next)) n back (state_of old) replies c.if-machine.true)
+    (c.fail-then-machine.ensures (replied c.args.given))

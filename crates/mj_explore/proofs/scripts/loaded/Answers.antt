@@ -3,6 +3,7 @@ use Rattle.std.specs.Prelude.{All}
 use Rattle.std.specs.List.{AllZip}
 use Rattle.std.proofs.lemmas.List.{take_all}
 use Rattle.std.proofs.lemmas.List.Elements.{All-push}
+use Rattle.mj_ask.specs.declared.bounds.Bounds.{Bounds}
 use Rattle.mj_ast.specs.declared.routine.Routine.{Routine}
 use Rattle.mj_load.specs.Image.{IsWithinLimits, names_of, repeated}
 use Rattle.mj_rou.proofs.Routines.{ok_if}
@@ -46,7 +47,10 @@ returns-in-Ok-clause-ok c =
     let l = c.sources in
     let sources = c.args.sources.now in
     let read = zipped sources l.routines.items l.source-index (take_all l.source-index sources c.sources-test.false) l.invariant.read in
-    subst (AllZip IsReadFrom (sources_of sources)) (sym c.in-Ok.ensures.ok) read
+    (subst (AllZip IsReadFrom (sources_of sources)) (sym c.in-Ok.ensures.ok) read, c.in-Ok.ensures.bounds)
+
+pub returns-in-Ok-clause-long : goal.returns-in-Ok-clause-long
+returns-in-Ok-clause-long c = ap (λ (b : Bounds). b.limit) c.in-Ok.ensures.bounds
 
 pub returns-in-Ok-clause-apart : goal.returns-in-Ok-clause-apart
 returns-in-Ok-clause-apart c =

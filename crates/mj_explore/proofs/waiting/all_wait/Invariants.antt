@@ -1,6 +1,6 @@
 use Rattle.std.proofs.Common.{◌≡◌, ◌≤◌, ℕ}
 use Rattle.mj_jobs.specs.Rows.{IsLive}
-use Rattle.mj_load.specs.Image.{routines_of}
+use Rattle.mj_load.specs.Image.{program_of}
 use Rattle.mj_sys.specs.History.{state_of}
 use Rattle.mj_explore.specs.Found.{IsHeld}
 use Rattle.mj_explore.proofs.waiting.all_wait.Given as goal
@@ -11,5 +11,5 @@ invariant-each g l = record {
   history : l.jobs.history ≡ l.fn.jobs.history;
   image : l.jobs.image ≡ l.fn.jobs.image;
   held : (job : ℕ) → job ≤ l.done → IsLive (state_of g.O.Opening.opening l.fn.jobs.history).rows job
-      → IsHeld (routines_of l.fn.jobs.image) g.O.Opening.opening l.fn.jobs.history job;
+      → IsHeld (program_of l.fn.jobs.image) g.O.Opening.opening l.fn.jobs.history job;
 }

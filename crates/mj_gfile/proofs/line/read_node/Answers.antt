@@ -8,10 +8,10 @@ use Rattle.mj_gfile.proofs.line.read_node.Goals as goal
 
 pub returns-in-Some-Over-clause-err : goal.returns-in-Some-Over-clause-err
 returns-in-Some-Over-clause-err c =
-    inr (judged_over (option_copied c.args.last) c.args.number (line_of c.args.line.now) (ap Some (sym c.in-Some-Over.field-0-is) ∙ sym c.in-Some-Over.is ∙ c.in_ok-read_line.ensures))
+    inr (judged_over c.args.limit (option_copied c.args.last) c.args.number (line_of c.args.line.now) (ap Some (sym c.in-Some-Over.field-0-is) ∙ sym c.in-Some-Over.is ∙ c.in_ok-read_line.ensures))
 
 pub returns-then-is_after-clause-ok : goal.returns-then-is_after-clause-ok
 returns-then-is_after-clause-ok c =
-    judged_within (option_copied c.args.last) c.args.number c.in-Some-Within.node (line_of c.args.line.now)
+    judged_within c.args.limit (option_copied c.args.last) c.args.number c.in-Some-Within.node (line_of c.args.line.now)
     (ap Some (sym c.in-Some-Within.field-0-is) ∙ sym c.in-Some-Within.is ∙ c.in_ok-read_line.ensures)
     ∙ ap (λ b. cond b (Ok c.in-Some-Within.node) (Err (error.Order c.args.number))) (sym c.is_after.ensures ∙ c.if-is_after.true)

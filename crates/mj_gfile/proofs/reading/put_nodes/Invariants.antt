@@ -6,7 +6,7 @@ use Rattle.mj_gfile.proofs.reading.put_nodes.Given as goal
 -- the names so far and those to come are all, and those so far stand before those to come
 abbrev pub invariant-loop-line : goal.invariant-loop-line
 invariant-loop-line l = record {
-  reads : nodes_of None 2 (lines_of l.bytes) ≡ joined_nodes l.globals.content (nodes_of l.last l.number (lines_of l.rest));
+  reads : nodes_of l.limit None 2 (lines_of l.bytes) ≡ joined_nodes l.globals.content (nodes_of l.limit l.last l.number (lines_of l.rest));
   stand : AreBefore l.globals.content l.last;
   numbered : l.number + length l.rest ≤ length l.bytes + 2;
 }

@@ -8,5 +8,6 @@ invariant_of-result c = record {
   units = c.requires.code;
   small = are_small c.args.routines.items c.args.units.items c.requires.within c.requires.code;
   checked = c.requires.checked;
-  does = does_entries c.args.routines.items c.args.units.items c.requires.code c.requires.apart (are_checked c.args.units.items c.requires.checked);
+  does = does_entries c.args.routines.items c.args.units.items c.requires.code c.requires.apart (are_checked c.args.units.items c.requires.checked) c.args.bounds;
+  some = c.requires.some;
 }

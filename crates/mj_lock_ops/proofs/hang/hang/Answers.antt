@@ -22,8 +22,8 @@ returns-in-Err-clause-ok c = λ all u.
     (λ next n back replies. given_is (reading (top (stack_of old))) (Err f) (after next) n back (state_of old) replies is)
     (c.fail.ensures (replied c.args.given))
 
-pub returns-then-machine-ge-STEPS_LIMIT-clause-ok : goal.returns-then-machine-ge-STEPS_LIMIT-clause-ok
-returns-then-machine-ge-STEPS_LIMIT-clause-ok c = λ all u.
+pub returns-then-machine-clause-ok : goal.returns-then-machine-clause-ok
+returns-then-machine-clause-ok c = λ all u.
     let old = c.args.machine.now in
     let t : c.top.result.now ≡ top (stack_of old) = c.top.ensures ∙ ap (λ l. top (reverse l)) c.deref.ensures.value in
     let i = c.in-Ok.time in
@@ -31,9 +31,9 @@ returns-then-machine-ge-STEPS_LIMIT-clause-ok c = λ all u.
     let above : int_lt (pos 0) i ≡ true = ap (λ z. int_lt z i) (sym c.from_truth.ensures) ∙ sym c.if-not-is_less.ensures in
     let rest : Next → Timed = λ next. next (context_of old) (c.args.pc + 1) (below (stack_of old)) in
     let after : Next → ℤ → Timed = λ next j. if int_lt (pos 0) j then tell (asks.Rest j) (rest next) else rest next in
-    does_as (λ next. hang (top (stack_of old)) (rest next)) (λ next. fault Steps) old (replied c.args.given) c.fail-then-machine-ge-STEPS_LIMIT.result c.fail-then-machine-ge-STEPS_LIMIT.new.machine
+    does_as (λ next. hang (top (stack_of old)) (rest next)) (λ next. fault Steps) old (replied c.args.given) c.fail-then-machine.result c.fail-then-machine.new.machine
     (λ next n back replies.
     given_is (reading (top (stack_of old))) (Ok i) (after next) n back (state_of old) replies is
     ∙ ap (λ b. (if b then tell (asks.Rest i) (rest next) else rest next) n back (state_of old) replies) above
-    ∙ no_more _ (λ r. rest next) n back (state_of old) replies c.if-machine-ge-STEPS_LIMIT.true)
-    (c.fail-then-machine-ge-STEPS_LIMIT.ensures (replied c.args.given))
+    ∙ no_more _ (λ r. rest next) n back (state_of old) replies c.if-machine.true)
+    (c.fail-then-machine.ensures (replied c.args.given))

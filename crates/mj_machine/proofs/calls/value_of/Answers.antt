@@ -15,5 +15,5 @@ pub returns-in-QSubscript : goal.returns-in-QSubscript
 returns-in-QSubscript c =
     let first : List ℕ → Type 0 = λ t. AnswersOrMemory (part_value t c.needed-second.result.now) c.name_part.result in
     let second : List ℕ → Type 0 = λ k. AnswersOrMemory (part_value (needed_of 0 c.args.arguments.now) k) c.name_part.result in
-    let whole : Function → Type 0 = λ f. AnswersOrMemory (call_value f c.args.arguments.now) c.name_part.result in
+    let whole : Function → Type 0 = λ f. AnswersOrMemory (call_value c.args.limit f c.args.arguments.now) c.name_part.result in
     subst whole (sym c.in-QSubscript.is) (subst second c.needed-second.ensures (subst first c.needed-first.ensures c.name_part.ensures))

@@ -1,6 +1,9 @@
-use Rattle.std.proofs.Common.{◌<◌, length, sym, ap}
+use Rattle.std.proofs.Common.{◌<◌, length, sym, ap, arith}
 use Rattle.std.proofs.lemmas.Result.{IfOk-weaker}
+use Rattle.mj_text.specs.declared.text.TheConstants.{TEXT_LIMIT}
 use Rattle.mj_text.specs.declared.fault.Fault.TheVariants.{Length}
+use Rattle.mj_text.specs.Limit.{most_bytes}
+use Rattle.mj_text.proofs.LimitLemmas.{most_below}
 use Rattle.mj_semantics.specs.Outcome.{fault}
 use Rattle.mj_semantics.specs.Commands.{write}
 use Rattle.mj_machine.specs.Kept.{state_of, replied, without}
@@ -11,7 +14,8 @@ pub returns-in-Fault-clause-ok : goal.returns-in-Fault-clause-ok
 returns-in-Fault-clause-ok c =
     let old = c.args.machine.now in
     let bytes = c.args.bytes.now in
-    let long : 32767 < length bytes = too_long (length bytes) c.in-Err.failure _ c.from.result c.in-Err.is c.in-Fault.is c.from.ensures.within in
+    let above : TEXT_LIMIT < length bytes = too_long (length bytes) c.in-Err.failure _ c.from.result c.in-Err.is c.in-Fault.is c.from.ensures.within in
+    let long : most_bytes old.bounds.limit < length bytes = omega (arith, above, most_below old.bounds.limit) in
     does_as (λ next. write bytes (without old c.args.pc c.args.count next)) (λ next. fault Length) old (replied c.args.given) c.fail.result c.fail.new.machine
     (λ next n back replies. over_long bytes (without old c.args.pc c.args.count next) n back (state_of old) replies long)
     (c.fail.ensures (replied c.args.given))

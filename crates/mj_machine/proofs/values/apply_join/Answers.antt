@@ -1,6 +1,7 @@
 use Rattle.std.proofs.Common.{◌+◌, ◌∷◌, ◌++◌, List, ℕ, sym, ap, ◌∙◌}
 use Rattle.std.specs.Prelude.{Ok, Err}
-use Rattle.mj_oper.specs.Operators.{joined}
+use Rattle.mj_text.specs.declared.limit.Limit.{Limit}
+use Rattle.mj_text.specs.Limit.{within_limit}
 use Rattle.mj_semantics.specs.Outcome.{Timed}
 use Rattle.mj_pcode.specs.Machine.{top, below}
 use Rattle.mj_machine.specs.Standing.{given_first}
@@ -14,11 +15,12 @@ returns-in-Ok-clause-ok c = λ reply all u. (
   tt,
   λ next n handle replies.
       let old = c.args.machine.now in
+      let limit : Limit = old.bounds.limit in
       let l : List ℕ = top (below (stack_of old)) in
       let r : List ℕ = top (stack_of old) in
       let rest : List ℕ → Timed = λ v. next (context_of old) (c.args.pc + 1) (v ∷ below (below (stack_of old))) in
-      given_is (joined l r) (Ok (l ++ r)) rest n (handle (restart_of old)) (state_of old) (given_first reply replies)
-      (joins l r c.join.result _ c.join.ensures.long c.in-Ok.is)
+      given_is (within_limit limit (l ++ r)) (Ok (l ++ r)) rest n (handle (restart_of old)) (state_of old) (given_first reply replies)
+      (joins limit l r c.join.result _ c.join.ensures.long c.in-Ok.is)
       ∙ ap (λ st. next (context_of old) (c.args.pc + 1) st n (handle (restart_of old)) (state_of old) (given_first reply replies)) (sym c.in-Ok.ensures.ok),
 )
 
@@ -27,9 +29,10 @@ returns-in-Err-Fault-clause-ok c = λ reply all u. (
   tt,
   λ next n handle replies.
       let old = c.args.machine.now in
+      let limit : Limit = old.bounds.limit in
       let l : List ℕ = top (below (stack_of old)) in
       let r : List ℕ = top (stack_of old) in
       let rest : List ℕ → Timed = λ v. next (context_of old) (c.args.pc + 1) (v ∷ below (below (stack_of old))) in
-      given_is (joined l r) (Err c.in-Err-Fault.fault) rest n (handle (restart_of old)) (state_of old) (given_first reply replies)
-      (joins_not l r c.join.result _ c.in-Err-Fault.fault c.join.ensures.long c.join.ensures.within c.in-Err-Fault.is c.in-Err-Fault.field-0-is),
+      given_is (within_limit limit (l ++ r)) (Err c.in-Err-Fault.fault) rest n (handle (restart_of old)) (state_of old) (given_first reply replies)
+      (joins_not limit l r c.join.result _ c.in-Err-Fault.fault c.join.ensures.long c.join.ensures.within c.in-Err-Fault.is c.in-Err-Fault.field-0-is),
 )

@@ -6,15 +6,15 @@ use Rattle.mj_oper.proofs.Texts.{written_truth}
 use Rattle.mj_oper.proofs.apply.of_numbers.Goals as goal
 
 pub returns-in_ok-holds_of_numbers-in-Is : goal.returns-in_ok-holds_of_numbers-in-Is
-returns-in_ok-holds_of_numbers-in-Is c =
+returns-in_ok-holds_of_numbers-in-Is c limit =
     let holds = c.in_ok-holds_of_numbers-in-Is in
-    ap (λ op. binary_value op c.args.left.now c.args.right.now) c.in-Is.is
+    ap (λ op. binary_value limit op c.args.left.now c.args.right.now) c.in-Is.is
     ∙ ap (λ h. then_value h (λ b. Ok (truth_text b))) holds.ensures
     ∙ ap Ok (sym (ap canonic_text c.from_truth.ensures ∙ written_truth holds.field-0))
 
 pub returns-in_ok-holds_of_numbers-in-IsNot : goal.returns-in_ok-holds_of_numbers-in-IsNot
-returns-in_ok-holds_of_numbers-in-IsNot c =
+returns-in_ok-holds_of_numbers-in-IsNot c limit =
     let holds = c.in_ok-holds_of_numbers-in-IsNot in
-    ap (λ op. binary_value op c.args.left.now c.args.right.now) c.in-IsNot.is
+    ap (λ op. binary_value limit op c.args.left.now c.args.right.now) c.in-IsNot.is
     ∙ ap (λ h. then_value h (λ b. Ok (truth_text (not b)))) holds.ensures
     ∙ ap Ok (sym (ap canonic_text c.from_truth-in-IsNot.ensures ∙ written_truth (not holds.field-0)))

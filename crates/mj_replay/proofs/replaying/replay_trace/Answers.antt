@@ -1,9 +1,8 @@
 -- A trace can open a run, and what is said of its opening and of the events that were made is said of those of the trace.
-use Rattle.std.proofs.Common.{◌≤◌, ℕ, List, length, sym, subst}
+use Rattle.std.proofs.Common.{◌≤◌, List, length, sym, subst, arith}
 use Rattle.std.specs.Prelude.{IfOk}
-use Rattle.mj_ask.specs.declared.ask.Ask.{Ask}
-use Rattle.mj_ask.specs.declared.ask.Reply.{Reply}
-use Rattle.mj_load.specs.Image.{routines_of}
+use Rattle.mj_ask.specs.declared.noted.Noted.{Noted}
+use Rattle.mj_load.specs.Image.{program_of}
 use Rattle.mj_sys.specs.Shared.{Shared}
 use Rattle.mj_sys.specs.System.{history_limit}
 use Rattle.mj_replica.specs.Replays.{history_of, Says}
@@ -24,14 +23,17 @@ pub replay_over-requires-clause-bare : goal.replay_over-requires-clause-bare
 replay_over-requires-clause-bare c = opened.bare c.args.trace.now c.requires.written c.in-Ok.pool c.in-Ok.starts.items c.in-Ok.ensures.pool c.in-Ok.ensures.starts
 
 pub replay_over-requires-clause-short : goal.replay_over-requires-clause-short
-replay_over-requires-clause-short c = subst (λ (events : List (ℕ × Ask × Reply)). length events ≤ history_limit) (sym c.events.ensures) c.requires.written.events_few
+replay_over-requires-clause-short c =
+    let few = c.requires.written.events_few in
+    subst (λ (events : List Noted). length events ≤ history_limit) (sym c.events.ensures)
+    (let le : length c.args.trace.now.events ≤ history_limit = omega (arith, few) in le)
 
 pub returns-in-Ok : goal.returns-in-Ok
 returns-in-Ok c =
-    let image = routines_of c.args.image.now in
+    let image = program_of c.args.image.now in
     let result = c.replay_over.result in
     let opening = opening_in c.args.globals.content c.args.trace.now in
     let P : Shared → Type 0 = λ o. IfOk result (λ verdict. Says image o (history_of c.events.result.now) verdict) in
-    let Q : List (ℕ × Ask × Reply) → Type 0 = λ events. IfOk result (λ verdict. Says image opening (history_of events) verdict) in
+    let Q : List Noted → Type 0 = λ events. IfOk result (λ verdict. Says image opening (history_of events) verdict) in
     let same = opened.opens c.args.trace.now c.requires.written c.in-Ok.pool c.in-Ok.starts.items c.in-Ok.ensures.pool c.in-Ok.ensures.starts c.args.globals.content in
     subst Q c.events.ensures (subst P same c.replay_over.ensures)

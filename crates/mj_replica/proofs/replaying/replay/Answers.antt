@@ -1,8 +1,7 @@
 use Rattle.std.proofs.Common.{◌≡◌, ℕ, ◌≤◌, length, Bool, Some, sym, ap, ◌∙◌, subst, arith}
 use Rattle.std.specs.Prelude.{slice_get, take}
 use Rattle.std.proofs.lemmas.Option.{slice_get-get_or}
-use Rattle.mj_ask.specs.declared.ask.Ask.{Ask}
-use Rattle.mj_ask.specs.declared.ask.Reply.{Reply}
+use Rattle.mj_ask.specs.declared.noted.Noted.{Noted}
 use Rattle.mj_sys.specs.System.{history_limit}
 use Rattle.mj_replica.specs.Replays.{event_of, history_of}
 use Rattle.mj_replica.specs.Playing.{Stages}
@@ -20,7 +19,7 @@ pub returns-then-not-branch : goal.returns-then-not-branch
 returns-then-not-branch g c =
     let events = c.args.events.now in
     let at = c.loop-at.at in
-    let e : ℕ × Ask × Reply = c.index-events-at.result in
+    let e : Noted = c.index-events-at.result in
     let is : slice_get events at ≡ Some e = slice_get-get_or events at e c.loop-at-test.true ∙ ap Some (sym c.index-events-at.is) in
     let opening = g.O.Opening.opening in
     let P : Bool → Type 0 = λ b. Stages c.args.image.now opening (take at (history_of events)) (event_of e) b c.make_event.new.system c.make_event.new.jobs.items in
@@ -31,7 +30,7 @@ pub loop-at-preserved : goal.loop-at-preserved
 loop-at-preserved g c =
     let events = c.args.events.now in
     let at = c.loop-at.at in
-    let e : ℕ × Ask × Reply = c.index-events-at.result in
+    let e : Noted = c.index-events-at.result in
     let is : slice_get events at ≡ Some e = slice_get-get_or events at e c.loop-at-test.true ∙ ap Some (sym c.index-events-at.is) in
     let opening = g.O.Opening.opening in
     let P : Bool → Type 0 = λ b. Stages c.args.image.now opening (take at (history_of events)) (event_of e) b c.make_event.new.system c.make_event.new.jobs.items in

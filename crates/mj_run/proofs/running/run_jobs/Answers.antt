@@ -1,6 +1,6 @@
 use Rattle.std.proofs.Common.{◌≡◌, ◌∙◌, sym, ap, subst, IfSome, IfNone}
 use Rattle.mj_dev.specs.Told.{IsToldBy}
-use Rattle.mj_load.specs.Image.{Loaded, routines_of}
+use Rattle.mj_load.specs.Image.{Loaded, program_of}
 use Rattle.mj_sys.specs.Shared.{Shared}
 use Rattle.mj_core.specs.Runs.{IsRun}
 use Rattle.mj_core.specs.Shown.{Shown}
@@ -54,7 +54,7 @@ returns-clause-run g c =
     ap image_of c.jobs.view_is
     ∙ steps_image tells g.O.Opening.opening c.in_ok-core.core c.go-ending.new.self c.go-ending.ensures.run
     ∙ ap image_of c.in_ok-core.ensures.ok in
-    let P : Loaded → Type 0 = λ image. IsRun (routines_of image) g.O.Opening.opening c.jobs.inside.core.history in
+    let P : Loaded → Type 0 = λ image. IsRun (program_of image) g.O.Opening.opening c.jobs.inside.core.history in
     subst P same c.len-run.ensures.run
 
 pub returns-clause-serial : goal.returns-clause-serial
@@ -64,7 +64,7 @@ returns-clause-serial g c =
     ap image_of c.jobs.view_is
     ∙ steps_image tells g.O.Opening.opening c.in_ok-core.core c.go-ending.new.self c.go-ending.ensures.run
     ∙ ap image_of c.in_ok-core.ensures.ok in
-    let P : Loaded → Type 0 = λ image. IsAsAlone (routines_of image) g.O.Opening.opening c.jobs.inside.core.history in
+    let P : Loaded → Type 0 = λ image. IsAsAlone (program_of image) g.O.Opening.opening c.jobs.inside.core.history in
     subst P same c.holds.ensures.serial
 
 pub returns-clause-clashes : goal.returns-clause-clashes
@@ -74,5 +74,5 @@ returns-clause-clashes g c =
     ap image_of c.jobs.view_is
     ∙ steps_image tells g.O.Opening.opening c.in_ok-core.core c.go-ending.new.self c.go-ending.ensures.run
     ∙ ap image_of c.in_ok-core.ensures.ok in
-    let P : Loaded → Type 0 = λ image. AllMustClash (routines_of image) g.O.Opening.opening c.jobs.inside.core.history in
+    let P : Loaded → Type 0 = λ image. AllMustClash (program_of image) g.O.Opening.opening c.jobs.inside.core.history in
     subst P same c.holds.ensures.clashes

@@ -8,7 +8,7 @@ use Rattle.mj_strfn.proofs.bytes.char_of_all.Goals as goal
 pub returns-in_err-byte : goal.returns-in_err-byte
 returns-in_err-byte c =
     let is : c.from_residual.result ≡ Err c.in_err-byte.field-0.0 = search rules in
-    rw is (char_exit c.args.codes.now c.loop-code.code-index _ _ _ (omega arith) c.code-item.is c.loop-code.invariant c.in_err-byte.ensures)
+    rw is (char_exit c.args.limit c.args.codes.now c.loop-code.code-index _ _ _ (omega arith) c.code-item.is c.loop-code.invariant c.in_err-byte.ensures)
 
 pub loop-code-preserved : goal.loop-code-preserved
 loop-code-preserved c =

@@ -24,4 +24,4 @@ returns c =
     let middle = c.args.middle.now in
     let back = c.args.back.now in
     let all = room_all _ _ _ front filling middle back _ c.args.times c.in_ok-extend_from_slice-4.ensures.items c.in_ok-extend_from_slice-3.ensures.items c.loop-time.invariant end in
-    made_answers _ _ _ (c.as_slice.ensures.value ∙ all) (assembled_within front filling middle back c.args.times 32767 c.requires) c.from.ensures.ok c.from.ensures.within
+    made_answers _ _ _ (c.as_slice.ensures.value ∙ all) (assembled_within front filling middle back c.args.times 1048576 c.requires) c.from.ensures.ok c.from.ensures.within

@@ -39,4 +39,4 @@ returns c =
     let middle = c.args.middle.now in
     let back = c.args.back.now in
     let all = room_all _ _ _ front filling middle back _ c.args.times c.put-3.ensures c.put-2.ensures c.loop-time.invariant end in
-    made_answers _ _ _ (c.bytes.ensures ∙ all) (assembled_within front filling middle back c.args.times 32767 (omega (arith, c.requires))) c.from.ensures.ok c.from.ensures.within
+    made_answers _ _ _ (c.bytes.ensures ∙ all) (assembled_within front filling middle back c.args.times 1048576 (omega (arith, c.requires))) c.from.ensures.ok c.from.ensures.within

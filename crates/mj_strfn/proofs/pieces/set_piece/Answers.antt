@@ -3,4 +3,4 @@ use Rattle.mj_strfn.proofs.pieces.set_piece.Goals as goal
 
 pub returns : goal.returns
 returns c =
-    set_answers _ _ _ _ _ _ _ _ _ c.bytes-old.ensures.value c.bytes-separator.ensures.value c.bytes-value.ensures.value c.range.view_is c.if-is_empty.ensures.1 c.replaced.ensures
+    set_answers c.args.limit _ _ _ _ _ _ _ _ _ c.bytes-old.ensures.value c.bytes-separator.ensures.value c.bytes-value.ensures.value c.range.view_is c.if-is_empty.ensures.1 c.replaced.ensures

@@ -7,5 +7,5 @@ pub returns : goal.returns
 returns c =
     let no_more = length-translated_by c.args.table.now c.args.bytes.now in
     let limit = c.requires in
-    let room : length (translated_by c.args.table.now c.args.bytes.now) ≤ 32767 = omega arith in
+    let room : length (translated_by c.args.table.now c.args.bytes.now) ≤ 1048576 = omega arith in
     made_answers _ _ _ c.write-kept.ensures.value room c.from.ensures.ok c.from.ensures.within

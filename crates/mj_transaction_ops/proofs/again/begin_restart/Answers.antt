@@ -6,11 +6,11 @@ use Rattle.mj_machine.specs.Kept.{state_of, restart_of, replied}
 use Rattle.mj_machine.proofs.Asks.{no_more}
 use Rattle.mj_transaction_ops.proofs.again.begin_restart.Goals as goal
 
-pub returns-then-machine-ge-STEPS_LIMIT-clause-ok : goal.returns-then-machine-ge-STEPS_LIMIT-clause-ok
-returns-then-machine-ge-STEPS_LIMIT-clause-ok c = λ pc all u.
+pub returns-then-machine-clause-ok : goal.returns-then-machine-clause-ok
+returns-then-machine-clause-ok c = λ pc all u.
     let old = c.args.machine.now in (
       tt,
       λ n replies.
           no_more _ (λ r. change restarted go_back) n (handler all (restart_of old)) (state_of old) (given_first (replied c.args.given) replies)
-          c.if-machine-ge-STEPS_LIMIT.true,
+          c.if-machine.true,
     )

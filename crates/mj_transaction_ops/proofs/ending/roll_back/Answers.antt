@@ -16,11 +16,11 @@ returns-then-machine-eq0-clause-ok c = λ all u.
     (λ next n back replies. none_open n back (state_of old) replies _ c.if-machine-eq0.true)
     (c.fail.ensures (replied c.args.given))
 
-pub returns-then-machine-ge-STEPS_LIMIT-clause-ok : goal.returns-then-machine-ge-STEPS_LIMIT-clause-ok
-returns-then-machine-ge-STEPS_LIMIT-clause-ok c = λ all u.
+pub returns-then-machine-clause-ok : goal.returns-then-machine-clause-ok
+returns-then-machine-clause-ok c = λ all u.
     let old = c.args.machine.now in
     let rest : ℕ → Next → Timed = λ k next. next (context_of old) (c.args.pc + k) (stack_of old) in
     let some : 0 < old.level = omega (arith, c.if-machine-eq0.false) in
-    does_as (λ next. roll_back (rest 1 next)) (λ next. fault Steps) old (replied c.args.given) c.fail-then-machine-ge-STEPS_LIMIT.result c.fail-then-machine-ge-STEPS_LIMIT.new.machine
-    (λ next n back replies. no_roll_back n back (state_of old) replies (rest 1 next) some c.if-machine-ge-STEPS_LIMIT.true)
-    (c.fail-then-machine-ge-STEPS_LIMIT.ensures (replied c.args.given))
+    does_as (λ next. roll_back (rest 1 next)) (λ next. fault Steps) old (replied c.args.given) c.fail-then-machine.result c.fail-then-machine.new.machine
+    (λ next n back replies. no_roll_back n back (state_of old) replies (rest 1 next) some c.if-machine.true)
+    (c.fail-then-machine.ensures (replied c.args.given))

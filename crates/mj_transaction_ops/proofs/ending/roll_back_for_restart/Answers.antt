@@ -27,12 +27,12 @@ returns-then-not-can_restart-clause-ok c = λ all u.
     (λ next n back replies. no_restart n back (state_of old) replies (rest 1 next) some never)
     (c.fail-then-not-can_restart.ensures (replied c.args.given))
 
-pub returns-then-machine-ge-STEPS_LIMIT-clause-ok : goal.returns-then-machine-ge-STEPS_LIMIT-clause-ok
-returns-then-machine-ge-STEPS_LIMIT-clause-ok c = λ all u.
+pub returns-then-machine-clause-ok : goal.returns-then-machine-clause-ok
+returns-then-machine-clause-ok c = λ all u.
     let old = c.args.machine.now in
     let rest : ℕ → Next → Timed = λ k next. next (context_of old) (c.args.pc + k) (stack_of old) in
     let some : 0 < old.level = omega (arith, c.if-machine-eq0.false) in
     let can : can_restart (state_of old) ≡ true = sym c.can_restart.ensures ∙ c.if-not-can_restart.false in
-    does_as (λ next. roll_back_for_restart (rest 1 next)) (λ next. fault Steps) old (replied c.args.given) c.fail-then-machine-ge-STEPS_LIMIT.result c.fail-then-machine-ge-STEPS_LIMIT.new.machine
-    (λ next n back replies. no_give_back n back (state_of old) replies (rest 1 next) some can c.if-machine-ge-STEPS_LIMIT.true)
-    (c.fail-then-machine-ge-STEPS_LIMIT.ensures (replied c.args.given))
+    does_as (λ next. roll_back_for_restart (rest 1 next)) (λ next. fault Steps) old (replied c.args.given) c.fail-then-machine.result c.fail-then-machine.new.machine
+    (λ next n back replies. no_give_back n back (state_of old) replies (rest 1 next) some can c.if-machine.true)
+    (c.fail-then-machine.ensures (replied c.args.given))

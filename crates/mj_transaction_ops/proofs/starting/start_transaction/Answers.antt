@@ -26,12 +26,12 @@ returns-then-any_function-clause-ok c = λ all u.
     (λ next n back replies. in_expression n back (state_of old) replies (restored_of c.args.restores.now) c.args.serial (rest 2 next) (rest 1 next) none (sym c.any_function.ensures ∙ c.if-any_function.true))
     (c.fail-then-any_function.ensures (replied c.args.given))
 
-pub returns-then-machine-ge-STEPS_LIMIT-clause-ok : goal.returns-then-machine-ge-STEPS_LIMIT-clause-ok
-returns-then-machine-ge-STEPS_LIMIT-clause-ok c = λ all u.
+pub returns-then-machine-clause-ok : goal.returns-then-machine-clause-ok
+returns-then-machine-clause-ok c = λ all u.
     let old = c.args.machine.now in
     let rest : ℕ → Next → Timed = λ k next. next (context_of old) (c.args.pc + k) (stack_of old) in
     let none : old.level ≡ 0 = omega (arith, c.if-machine-ne0.false) in
     does_as (λ next. begin_transaction (restored_of c.args.restores.now) c.args.serial (rest 2 next) (rest 1 next))
-    (λ next. fault Steps) old (replied c.args.given) c.fail-then-machine-ge-STEPS_LIMIT.result c.fail-then-machine-ge-STEPS_LIMIT.new.machine
-    (λ next n back replies. no_begin n back (state_of old) replies (restored_of c.args.restores.now) c.args.serial (rest 2 next) (rest 1 next) none (sym c.any_function.ensures ∙ c.if-any_function.false) c.if-machine-ge-STEPS_LIMIT.true)
-    (c.fail-then-machine-ge-STEPS_LIMIT.ensures (replied c.args.given))
+    (λ next. fault Steps) old (replied c.args.given) c.fail-then-machine.result c.fail-then-machine.new.machine
+    (λ next n back replies. no_begin n back (state_of old) replies (restored_of c.args.restores.now) c.args.serial (rest 2 next) (rest 1 next) none (sym c.any_function.ensures ∙ c.if-any_function.false) c.if-machine.true)
+    (c.fail-then-machine.ensures (replied c.args.given))

@@ -17,13 +17,13 @@ use Rattle.mj_machine.specs.Kept.{restart_of, standing, state_of, replied}
 use Rattle.mj_machine.proofs.Asks.{does_as, waits, takes, no_more, one_more, device_told, device_tells}
 use Rattle.mj_turn.proofs.calling.begin.Goals as goal
 
-pub returns-then-machine-ge-STEPS_LIMIT-clause-ok : goal.returns-then-machine-ge-STEPS_LIMIT-clause-ok
-returns-then-machine-ge-STEPS_LIMIT-clause-ok c =
+pub returns-then-machine-clause-ok : goal.returns-then-machine-clause-ok
+returns-then-machine-clause-ok c =
     let old = c.args.machine.now in
     let start = start_of c.args.start.now in
     let rest : Next → Timed = λ next. calls false (found c.args.units.now start.entry) start.values [] next in
     does_as (standings.begin start c.args.units.now) (λ next. fault Steps) old (replied c.args.given) c.fail.result c.fail.new.machine
-    (λ next n back replies. no_more _ (device_told principal (rest next)) n back (state_of old) replies c.if-machine-ge-STEPS_LIMIT.true)
+    (λ next n back replies. no_more _ (device_told principal (rest next)) n back (state_of old) replies c.if-machine.true)
     (c.fail.ensures (replied c.args.given))
 
 pub returns-in-None-clause-ok : goal.returns-in-None-clause-ok
@@ -34,7 +34,7 @@ returns-in-None-clause-ok c =
     IfOk-weaker c.wait.result _ _
     (λ step w. waits (standings.begin start c.args.units.now) (asks.Device c.principal.result device_asks.Begin) old (replied c.args.given) step (ap (option_map (λ r. r.now)) c.in-None.is) w
     (λ next n back.
-    one_more _ (device_told principal (rest next)) n back (state_of old) [] c.if-machine-ge-STEPS_LIMIT.false
+    one_more _ (device_told principal (rest next)) n back (state_of old) [] c.if-machine.false
     ∙ ap (λ p. Needs (asks.Device p device_asks.Begin) (state_of old).locals (places (state_of old))) (sym c.principal.ensures)))
     c.wait.ensures
 
@@ -47,7 +47,7 @@ returns-then-is_failed-clause-ok c =
       tt,
       λ next n handle replies.
           ap (λ g. standings.begin start c.args.units.now next n (handle (restart_of old)) (state_of old) (standings.given_first (replied g) replies)) c.in-Some.is
-          ∙ device_tells principal device_asks.Begin (rest next) n (handle (restart_of old)) (state_of old) r true replies c.if-machine-ge-STEPS_LIMIT.false
+          ∙ device_tells principal device_asks.Begin (rest next) n (handle (restart_of old)) (state_of old) r true replies c.if-machine.false
           (sym c.is_failed.ensures ∙ c.if-is_failed.true)
           ∙ ap (λ (o : Opened). fault Device n (handle (restart_of old)) (record (counted (state_of old)) { devices = o.devices; current = o.current }) replies) (sym c.fail_principal.ensures),
     )
@@ -66,6 +66,6 @@ returns-in-Ok-clause-ok c =
     let r = c.in-Some.reply.now in
     let rest : Next → Timed = λ next. calls false (found c.args.units.now start.entry) start.values [] next in
     takes (standings.begin start c.args.units.now) rest old (replied c.args.given) r steps.Took c.enter_first.new.machine (ap (option_map (λ q. q.now)) c.in-Some.is)
-    (λ next n back replies. device_tells principal device_asks.Begin (rest next) n back (state_of old) r false replies c.if-machine-ge-STEPS_LIMIT.false
+    (λ next n back replies. device_tells principal device_asks.Begin (rest next) n back (state_of old) r false replies c.if-machine.false
     (sym c.is_failed.ensures ∙ c.if-is_failed.false))
     (refl, c.in-Ok.ensures.ok None)

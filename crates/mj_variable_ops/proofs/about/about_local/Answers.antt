@@ -1,6 +1,7 @@
 use Rattle.std.proofs.Common.{◌≡◌, ℕ, ◌+◌, ◌-◌, ◌∷◌, drop, List, Some, None, refl, sym, ap, ◌∙◌, reverse}
 use Rattle.std.specs.Prelude.{Option, Result, Ok, Err, option_copied}
 use Rattle.mj_text.specs.declared.fault.Fault.{Fault}
+use Rattle.mj_text.specs.declared.limit.Limit.{Limit}
 use Rattle.mj_ast.specs.declared.expr.Scope.{Scope}
 use Rattle.mj_subs.specs.Name.{Name}
 use Rattle.mj_semantics.specs.Functions.{optional}
@@ -48,10 +49,11 @@ returns-clause-ok c = λ reply all u.
     let no : no_name (filled_for f ss) ss ≡ None = sym (c.refusal_for.ensures ∙ ap (λ l. no_name (filled_for f l) l) under) ∙ c.in_default.is in
     let is : named_for f r.scope r.word ss ≡ Ok x = is_named r.scope r.word (filled_for f ss) ss no ∙ ap (λ (s : Scope). Ok (name_with s r.word ss)) c.requires.local in
     let other : option_copied c.foremost-other.result ≡ o = c.foremost-other.ensures ∙ ap (optional 0) (c.topmost.ensures ∙ ap (λ l. operands k (reverse l)) c.deref-2.ensures.value) in
-    let told : Result (List ℕ) Fault = told_among f (local_with r.word c.topmost-subscripts.result.now) (option_copied c.foremost-other.result) (state_of old).locals in
-    let same : told ≡ told_among f x o (state_of old).locals = λ i. told_among f (local_with r.word (under i)) (other i) (state_of old).locals in
+    let limit : Limit = old.bounds.limit in
+    let told : Result (List ℕ) Fault = told_among limit f (local_with r.word c.topmost-subscripts.result.now) (option_copied c.foremost-other.result) (state_of old).locals in
+    let same : told ≡ told_among limit f x o (state_of old).locals = λ i. told_among limit f (local_with r.word (under i)) (other i) (state_of old).locals in
     does_as (λ next. given (named_for f r.scope r.word ss) (whole next)) (λ next. given told (rest next)) old reply steps.Next c.put_value.new.machine
     (λ next n back replies. given_is (named_for f r.scope r.word ss) (Ok x) (whole next) n back (state_of old) replies is
     ∙ about_local f x o (rest next) n back (state_of old) replies refl (asks_too f c.requires.tells)
     ∙ ap (λ w. given w (rest next) n back (state_of old) replies) (sym same))
-    (c.in_ok-put_value.ensures.ok told c.told_under-value.ensures reply)
+    (c.in_ok-put_value.ensures.ok told (c.told_under-value.ensures limit) reply)

@@ -3,7 +3,7 @@ use Rattle.std.specs.Prelude.{Ok, Err, option_copied}
 use Rattle.std.proofs.lemmas.Result.{IfOk-weaker}
 use Rattle.mj_subs.specs.Name.{Name}
 use Rattle.mj_semantics.specs.Functions.{optional}
-use Rattle.mj_semantics.specs.Outcome.{Timed, given, fault}
+use Rattle.mj_semantics.specs.Outcome.{Timed, composed, fault}
 use Rattle.mj_semantics.specs.Evaluation.{about}
 use Rattle.mj_semantics.specs.Names.{question, function_told}
 use Rattle.mj_pcode.specs.Machine.{operands}
@@ -45,7 +45,7 @@ returns-in-Ok-clause-ok c =
     IfOk-weaker c.ask.result _ _
     (λ step d reply e rest. does_as (λ next. about f x o (rest next)) (λ next. asked f o c.in-Ok.access (rest next)) old reply step _
     (λ next n back replies. about_asks f x o (rest next) n back (state_of old) replies (Ok c.in-Ok.access) c.requires.asks q)
-    (d reply e (λ next. λ r. given (function_told f o r) (rest next))))
+    (d reply e (λ next. λ r. composed (λ limit. function_told limit f o r) (rest next))))
     c.ask.ensures.ok
 
 pub ask-requires : goal.ask-requires

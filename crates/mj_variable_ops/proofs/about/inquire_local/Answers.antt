@@ -18,7 +18,7 @@ returns-clause-ok c = λ reply.
     let x = c.args.name.now in
     let o = option_copied c.args.other in
     let rest : Next → List ℕ → Timed = with_value old c.args.pc c.args.count in
-    let w : Result (List ℕ) Fault = told_among f x o (state_of old).locals in
+    let w : Result (List ℕ) Fault = told_among old.bounds.limit f x o (state_of old).locals in
     does_as (λ next. about f x o (rest next)) (λ next. given w (rest next)) old reply steps.Next c.put_value.new.machine
     (λ next n back replies. about_local f x o (rest next) n back (state_of old) replies c.requires.local c.requires.asks)
     (c.in_ok-put_value.ensures.ok w c.told_here-value.ensures reply)

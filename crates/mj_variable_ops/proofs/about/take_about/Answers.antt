@@ -35,11 +35,11 @@ returns-clause-ok c =
     let other : option_copied c.foremost-other.result ≡ o = c.foremost-other.ensures ∙ ap (optional 0) (c.topmost.ensures ∙ ap (λ l. operands c.args.others (reverse l)) c.deref.ensures.value) in
     let r = c.args.reply.now in
     let none : misled f o ≡ None = sym (c.misled.ensures ∙ ap (misled f) other) ∙ c.in_default.is in
-    let w : Result (List ℕ) Fault = made_of f (option_copied c.foremost-other.result) (answer_told r) in
+    let w : Result (List ℕ) Fault = made_of old.bounds.limit f (option_copied c.foremost-other.result) (answer_told r) in
     IfOk-weaker c.put_told.result _ _
     (λ step t x global. takes (λ next. about f x o (rest next)) (λ next. given w (rest next)) old (Some r) r step c.put_told.new.machine refl
     (λ next n back replies. about_asks f x o (rest next) n back (state_of old) (r ∷ replies) (Ok (led f x o)) c.requires.asks (question_led f x o none)
     ∙ asked_told f o (led f x o) (rest next) n back (state_of old) r w replies
     (ap (λ (y : Name). y.global) (question_of f x o (led f x o) (question_led f x o none)) ∙ global) c.requires.more
-    (ap (λ p. made_of f p (answer_told r)) (sym other))) t)
+    (ap (λ p. made_of old.bounds.limit f p (answer_told r)) (sym other))) t)
     (c.put_told.ensures.ok w c.told_by-value.ensures)

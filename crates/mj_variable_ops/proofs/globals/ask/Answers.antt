@@ -10,11 +10,11 @@ use Rattle.mj_machine.proofs.Asks.{does_as, waits}
 use Rattle.mj_variable_ops.proofs.Accesses.{access_needs, access_ends}
 use Rattle.mj_variable_ops.proofs.globals.ask.Goals as goal
 
-pub returns-then-machine-ge-STEPS_LIMIT-clause-ok : goal.returns-then-machine-ge-STEPS_LIMIT-clause-ok
-returns-then-machine-ge-STEPS_LIMIT-clause-ok c = λ given e rest.
+pub returns-then-machine-clause-ok : goal.returns-then-machine-clause-ok
+returns-then-machine-clause-ok c = λ given e rest.
     let old = c.args.machine.now in
     does_as (λ next. access c.args.access (rest next)) (λ next. fault Steps) old given c.fail.result c.fail.new.machine
-    (λ next n back replies. access_ends c.args.access (rest next) n back (state_of old) replies c.requires.global c.if-machine-ge-STEPS_LIMIT.true) (c.fail.ensures given)
+    (λ next n back replies. access_ends c.args.access (rest next) n back (state_of old) replies c.requires.global c.if-machine.true) (c.fail.ensures given)
 
 the_first : (P : Type 0) (n most : ℕ) → P ⊎ (most ≤ n) → n < most → P
 the_first P n most (inl p) few = p
@@ -25,6 +25,6 @@ returns-clause-ok c =
     let old = c.args.machine.now in
     IfOk-weaker c.wait.result _ _
     (λ step w given e rest. waits (λ next. access c.args.access (rest next)) (asks.Shared (shared_asks.Access c.args.access)) old given step
-    (the_first _ old.replied 1000000 e c.if-machine-ge-STEPS_LIMIT.false) w
-    (λ next n back. access_needs c.args.access (rest next) n back (state_of old) c.requires.global c.if-machine-ge-STEPS_LIMIT.false))
+    (the_first _ old.replied old.bounds.events e c.if-machine.false) w
+    (λ next n back. access_needs c.args.access (rest next) n back (state_of old) c.requires.global c.if-machine.false))
     c.wait.ensures

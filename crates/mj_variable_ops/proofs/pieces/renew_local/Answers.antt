@@ -1,6 +1,7 @@
 use Rattle.std.proofs.Common.{◌≡◌, Option, List, ℕ, drop, reverse, ap, ◌∙◌, subst, sym}
 use Rattle.std.specs.Prelude.{Result, option_copied}
 use Rattle.mj_text.specs.declared.fault.Fault.{Fault}
+use Rattle.mj_text.specs.declared.limit.Limit.{Limit}
 use Rattle.mj_ast.specs.declared.expr.Scope.{Scope}
 use Rattle.mj_subs.specs.Name.{Name}
 use Rattle.mj_strfn.specs.Functions.{AnswersOrMemory, set_piece_value}
@@ -9,7 +10,7 @@ use Rattle.mj_store.specs.declared.access.Access.TheVariants as accesses
 use Rattle.mj_semantics.specs.Accesses.{value_told}
 use Rattle.mj_semantics.specs.Functions.{needed}
 use Rattle.mj_semantics.specs.Evaluation.{is_global}
-use Rattle.mj_semantics.specs.Outcome.{given}
+use Rattle.mj_semantics.specs.Outcome.{given, composed}
 use Rattle.mj_semantics.specs.Commands.{or_empty, renewed}
 use Rattle.mj_pcode.specs.Machine.{top, operands}
 use Rattle.mj_machine.specs.declared.machine.TurnOutcome.TheVariants as steps
@@ -36,10 +37,12 @@ returns-clause-ok c = λ reply.
     let stands : option_copied c.in_ok-old.old ≡ value_at old.locals.now x =
     c.in_ok-old.ensures ∙ ap (λ (k : List (List ℕ)). value_at old.locals.now (local_with r.word k)) under
     ∙ ap (λ (s : Scope). value_at old.locals.now (name_with s r.word ss)) (sym c.requires.local) in
-    let w : Result (List ℕ) Fault = set_piece_value (or_empty (option_copied c.in_ok-old.old)) c.needed-separator.result.now range c.top-value.result.now in
-    let same : w ≡ set_piece_value (or_empty (value_at old.locals.now x)) d range e = λ i. set_piece_value (or_empty (stands i)) (sep i) range (v i) in
+    let limit : Limit = old.bounds.limit in
+    let w : Result (List ℕ) Fault = set_piece_value limit (or_empty (option_copied c.in_ok-old.old)) c.needed-separator.result.now range c.top-value.result.now in
+    let same : w ≡ set_piece_value limit (or_empty (value_at old.locals.now x)) d range e = λ i. set_piece_value limit (or_empty (stands i)) (sep i) range (v i) in
     does_as (λ next. renewed x d range e (with_value old c.args.pc 0 next)) (λ next. given w (with_value old c.args.pc 0 next)) old reply steps.Next c.put_value.new.machine
     (λ next n back replies.
-    access_made (accesses.Value x) (λ a. given (set_piece_value (or_empty (value_told a)) d range e) (with_value old c.args.pc 0 next)) n back (state_of old) replies (ap is_global c.requires.local)
+    access_made (accesses.Value x) (λ a. composed (λ limit. set_piece_value limit (or_empty (value_told a)) d range e) (with_value old c.args.pc 0 next)) n back (state_of old) replies
+    (ap is_global c.requires.local)
     ∙ ap (λ q. given q (with_value old c.args.pc 0 next) n back (state_of old) replies) (sym same))
     (c.in_ok-put_value.ensures.ok w c.with_pieces-renewed.ensures reply)

@@ -1,5 +1,6 @@
-use Rattle.std.proofs.Common.{◌≤◌, ℕ, length, None, sym, ap, ◌∙◌, subst}
-use Rattle.mj_load.specs.Image.{routines_of}
+use Rattle.std.proofs.Common.{◌≡◌, ◌≤◌, ℕ, length, None, sym, ap, ◌∙◌, subst}
+use Rattle.mj_text.specs.declared.limit.Limit.TheVariants.{V2}
+use Rattle.mj_load.specs.Image.{program_of}
 use Rattle.mj_jobs.specs.Rows.{rows_limit}
 use Rattle.mj_sys.specs.System.{history_limit}
 use Rattle.mj_core.specs.Runs.{IsRun}
@@ -22,13 +23,19 @@ returns-clause-within g c =
     let i = c.self.inside in
     let kept = c.self.invariant.0 in
     let many = as_many (logs_of i.slots.items) i.order.items kept.there in
-    subst (λ (s : Shown). length s.history ≤ history_limit) c.self.view_is (subst (λ (n : ℕ). n ≤ history_limit) (sym many) kept.within)
+    subst (λ (s : Shown). length s.history ≤ s.image.bounds.events) c.self.view_is (subst (λ (n : ℕ). n ≤ i.image.bounds.events) (sym many) kept.within)
+
+pub returns-clause-most : goal.returns-clause-most
+returns-clause-most g c = subst (λ (s : Shown). s.image.bounds.events ≤ history_limit) c.self.view_is c.self.invariant.0.most
+
+pub returns-clause-long : goal.returns-clause-long
+returns-clause-long g c = subst (λ (s : Shown). s.image.bounds.limit ≡ V2) c.self.view_is c.self.invariant.0.long
 
 pub returns-clause-run : goal.returns-clause-run
 returns-clause-run g c =
     let i = c.self.inside in
     let opening = g.O.Opening.opening in
-    subst (λ (s : Shown). IsRun (routines_of s.image) opening s.history) c.self.view_is
+    subst (λ (s : Shown). IsRun (program_of s.image) opening s.history) c.self.view_is
     (is_run g.A.Answerer.answering i.image opening i.system i.slots.items (claim_of i.waiting) i.order.items c.self.invariant.0)
 
 pub returns-clause-over : goal.returns-clause-over

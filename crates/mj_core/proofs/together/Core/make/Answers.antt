@@ -5,7 +5,6 @@ use Rattle.std.specs.Vec.{with_items}
 use Rattle.std.specs.Prelude.{Ok, Err, option_copied}
 use Rattle.std.specs.List.{slice_index_or}
 use Rattle.mj_jobs.specs.Rows.{rows_limit}
-use Rattle.mj_sys.specs.System.{history_limit}
 use Rattle.mj_core.specs.Woven.{woven}
 use Rattle.mj_core.specs.declared.happened.Happened.{Happened}
 use Rattle.mj_core.specs.declared.seen.Seen.TheVariants as seen
@@ -17,8 +16,8 @@ use Rattle.mj_core.specs.Kept.{logs_of, claim_of, shown}
 use Rattle.mj_core.proofs.Answering.{is_full, is_made, is_done, is_short, shown_same, row_within, seen_as, room_as, full_as, done_as, made_of, late_is}
 use Rattle.mj_core.proofs.together.Core.make.Goals as goal
 
-pub returns-then-len-ge-HISTORY_LIMIT : goal.returns-then-len-ge-HISTORY_LIMIT
-returns-then-len-ge-HISTORY_LIMIT g c =
+pub returns-then-len-most : goal.returns-then-len-most
+returns-then-len-most g c =
     let ans = g.A.Answerer.answering in
     let opening = g.O.Opening.opening in
     let i = c.self.inside in
@@ -29,7 +28,8 @@ returns-then-len-ge-HISTORY_LIMIT g c =
     ap (λ b. slice_index_or i.over.items c.in-Some.at b) (sym c.if-index.false) ∙ sym c.index.ensures ∙ c.if-index.false in
     let going = seen_as ans i.image opening i.system i.slots.items (claim_of i.waiting) i.order.items c.self.invariant.0 i.over.items rows_limit
     c.args.self.now c.self.view_is c.in-Some.at false goes in
-    let full : history_limit ≤ length i.order.items = (let f = c.if-len-ge-HISTORY_LIMIT.true in let k = i.order.ok.0 in let long = c.len.ensures in omega (arith, f, long, k)) in
+    let full : i.image.bounds.events ≤ length i.order.items =
+    (let f = c.if-len-most.true in let k = i.order.ok.0 in let long = c.len.ensures in let most = c.most_events-most.ensures.value in omega (arith, f, long, k, most)) in
     is_full means given opening c.args.self.now c.args.step c.in-Some.at there.0 there.2 going
     (full_as ans i.image opening i.system i.slots.items (claim_of i.waiting) i.order.items c.self.invariant.0 i.over.items rows_limit c.args.self.now c.self.view_is full)
 
@@ -45,7 +45,8 @@ returns-then-not-is_live g c =
     ap (λ b. slice_index_or i.over.items c.in-Some.at b) (sym c.if-index.false) ∙ sym c.index.ensures ∙ c.if-index.false in
     let going = seen_as ans i.image opening i.system i.slots.items (claim_of i.waiting) i.order.items c.self.invariant.0 i.over.items rows_limit
     c.args.self.now c.self.view_is c.in-Some.at false goes in
-    let few : length i.order.items < history_limit = (let f = c.if-len-ge-HISTORY_LIMIT.false in let k = i.order.ok.0 in let long = c.len.ensures in omega (arith, f, long, k)) in
+    let few : length i.order.items < i.image.bounds.events =
+    (let f = c.if-len-most.false in let k = i.order.ok.0 in let long = c.len.ensures in let most = c.most_events-most.ensures.value in omega (arith, f, long, k, most)) in
     let room = room_as ans i.image opening i.system i.slots.items (claim_of i.waiting) i.order.items c.self.invariant.0 i.over.items rows_limit c.args.self.now c.self.view_is few in
     let done = done_as ans i.image opening i.system i.slots.items (claim_of i.waiting) i.order.items c.self.invariant.0 i.over.items rows_limit c.args.self.now c.self.view_is c.args.step.job
     (λ live. false≢true (c.if-not-is_live.ensures.1 live)) in
@@ -65,7 +66,8 @@ returns-in_default-reserve g c =
     ap (λ b. slice_index_or i.over.items c.in-Some.at b) (sym c.if-index.false) ∙ sym c.index.ensures ∙ c.if-index.false in
     let going = seen_as ans i.image opening i.system i.slots.items (claim_of i.waiting) i.order.items c.self.invariant.0 i.over.items rows_limit
     c.args.self.now c.self.view_is c.in-Some.at false goes in
-    let few : length i.order.items < history_limit = (let f = c.if-len-ge-HISTORY_LIMIT.false in let k = i.order.ok.0 in let long = c.len.ensures in omega (arith, f, long, k)) in
+    let few : length i.order.items < i.image.bounds.events =
+    (let f = c.if-len-most.false in let k = i.order.ok.0 in let long = c.len.ensures in let most = c.most_events-most.ensures.value in omega (arith, f, long, k, most)) in
     let room = room_as ans i.image opening i.system i.slots.items (claim_of i.waiting) i.order.items c.self.invariant.0 i.over.items rows_limit c.args.self.now c.self.view_is few in
     let reserved : shown i.image i.slots.items c.reserve.new.self.items i.over.items rows_limit ≡ c.args.self.now =
     ap (λ o. shown i.image i.slots.items o i.over.items rows_limit) c.reserve.ensures.items ∙ c.self.view_is in
@@ -95,7 +97,8 @@ returns-in_default-admit g c =
     ap (λ b. slice_index_or i.over.items c.in-Some.at b) (sym c.if-index.false) ∙ sym c.index.ensures ∙ c.if-index.false in
     let going = seen_as ans i.image opening i.system i.slots.items (claim_of i.waiting) i.order.items c.self.invariant.0 i.over.items rows_limit
     c.args.self.now c.self.view_is c.in-Some.at false goes in
-    let few : length i.order.items < history_limit = (let f = c.if-len-ge-HISTORY_LIMIT.false in let k = i.order.ok.0 in let long = c.len.ensures in omega (arith, f, long, k)) in
+    let few : length i.order.items < i.image.bounds.events =
+    (let f = c.if-len-most.false in let k = i.order.ok.0 in let long = c.len.ensures in let most = c.most_events-most.ensures.value in omega (arith, f, long, k, most)) in
     let room = room_as ans i.image opening i.system i.slots.items (claim_of i.waiting) i.order.items c.self.invariant.0 i.over.items rows_limit c.args.self.now c.self.view_is few in
     let reserved : shown i.image i.slots.items c.reserve.new.self.items i.over.items rows_limit ≡ c.args.self.now =
     ap (λ o. shown i.image i.slots.items o i.over.items rows_limit) c.reserve.ensures.items ∙ c.self.view_is in
@@ -105,6 +108,16 @@ returns-in_default-admit g c =
     (c.admit.ensures.turns rows_limit) (c.admit.ensures.stands rows_limit) ∙ reserved in
     let P : Shown → Type 0 = λ s. StepGivesBy means opening c.args.self.now c.args.step given (Err refusals.Memory) s in
     subst P (sym admitted) (is_short means given opening c.args.self.now c.args.step c.in-Some.at there.0 there.2 going room)
+
+pub go-requires-clause-short : goal.go-requires-clause-short
+go-requires-clause-short g c =
+    let i = c.self.inside in
+    let same = ap (λ l. length l) c.reserve.ensures.items in
+    let f = c.if-len-most.false in
+    let k = i.order.ok.0 in
+    let long = c.len.ensures in
+    let most = c.most_events-most.ensures.value in
+    omega (arith, f, long, k, most, same)
 
 pub returns : goal.returns
 returns g c =
@@ -118,7 +131,8 @@ returns g c =
     ap (λ b. slice_index_or i.over.items c.in-Some.at b) (sym c.if-index.false) ∙ sym c.index.ensures ∙ c.if-index.false in
     let going = seen_as ans i.image opening i.system i.slots.items (claim_of i.waiting) i.order.items c.self.invariant.0 i.over.items rows_limit
     c.args.self.now c.self.view_is c.in-Some.at false goes in
-    let few : length i.order.items < history_limit = (let f = c.if-len-ge-HISTORY_LIMIT.false in let k = i.order.ok.0 in let long = c.len.ensures in omega (arith, f, long, k)) in
+    let few : length i.order.items < i.image.bounds.events =
+    (let f = c.if-len-most.false in let k = i.order.ok.0 in let long = c.len.ensures in let most = c.most_events-most.ensures.value in omega (arith, f, long, k, most)) in
     let room = room_as ans i.image opening i.system i.slots.items (claim_of i.waiting) i.order.items c.self.invariant.0 i.over.items rows_limit c.args.self.now c.self.view_is few in
     let reserved : shown i.image i.slots.items c.reserve.new.self.items i.over.items rows_limit ≡ c.args.self.now =
     ap (λ o. shown i.image i.slots.items o i.over.items rows_limit) c.reserve.ensures.items ∙ c.self.view_is in

@@ -2,7 +2,7 @@ use Rattle.std.specs.Prelude.{option_copied}
 use Rattle.std.proofs.Common.{◌≡◌, List, Option, Some, None, sym, ap, ◌∙◌, subst}
 use Rattle.std.proofs.lemmas.Option.{none-some}
 use Rattle.mj_semantics.specs.State.{Place, places, place_of}
-use Rattle.mj_load.specs.Image.{Loaded, routines_of}
+use Rattle.mj_load.specs.Image.{Loaded, program_of}
 use Rattle.mj_jobs.specs.Rows.{row_at}
 use Rattle.mj_sys.specs.History.{History, state_of}
 use Rattle.mj_replica.specs.Shows.{HasStood}
@@ -30,7 +30,7 @@ returns-in_default-line-clause-none g c =
     let now = c.args.self.now in
     let found = c.requires.asks.0 in
     let before = c.in-Some.then.now in
-    let S : History → Type 0 = λ h. HasStood (routines_of now.core.image) opening h c.args.job before.run.at.state.locals (places before.run.at.state) in
+    let S : History → Type 0 = λ h. HasStood (program_of now.core.image) opening h c.args.job before.run.at.state.locals (places before.run.at.state) in
     let stood = subst S (front_whole now.core.history now.place c.requires.end)
     (stands now.core.image opening now.core.history c.played.result.now c.played.ensures.replica now.place c.played.ensures.made c.args.job before
     (sym c.job.ensures ∙ ap option_copied c.in-Some.is)) in
@@ -43,7 +43,7 @@ returns-then-not-is_breakpoint-clause-none g c =
     let now = c.args.self.now in
     let found = c.requires.asks.0 in
     let before = c.in-Some.then.now in
-    let S : History → Type 0 = λ h. HasStood (routines_of now.core.image) opening h c.args.job before.run.at.state.locals (places before.run.at.state) in
+    let S : History → Type 0 = λ h. HasStood (program_of now.core.image) opening h c.args.job before.run.at.state.locals (places before.run.at.state) in
     let stood = subst S (front_whole now.core.history now.place c.requires.end)
     (stands now.core.image opening now.core.history c.played.result.now c.played.ensures.replica now.place c.played.ensures.made c.args.job before
     (sym c.job.ensures ∙ ap option_copied c.in-Some.is)) in
@@ -61,7 +61,7 @@ returns-then-is_on_line-clause-none g c =
     let now = c.args.self.now in
     let found = c.requires.asks.0 in
     let before = c.in-Some.then.now in
-    let S : History → Type 0 = λ h. HasStood (routines_of now.core.image) opening h c.args.job before.run.at.state.locals (places before.run.at.state) in
+    let S : History → Type 0 = λ h. HasStood (program_of now.core.image) opening h c.args.job before.run.at.state.locals (places before.run.at.state) in
     let stood = subst S (front_whole now.core.history now.place c.requires.end)
     (stands now.core.image opening now.core.history c.played.result.now c.played.ensures.replica now.place c.played.ensures.made c.args.job before
     (sym c.job.ensures ∙ ap option_copied c.in-Some.is)) in
@@ -80,7 +80,7 @@ returns-clause-some g c =
     let now = c.args.self.now in
     let found = c.requires.asks.0 in
     let before = c.in-Some.then.now in
-    let S : History → Type 0 = λ h. HasStood (routines_of now.core.image) opening h c.args.job before.run.at.state.locals (places before.run.at.state) in
+    let S : History → Type 0 = λ h. HasStood (program_of now.core.image) opening h c.args.job before.run.at.state.locals (places before.run.at.state) in
     let stood = subst S (front_whole now.core.history now.place c.requires.end)
     (stands now.core.image opening now.core.history c.played.result.now c.played.ensures.replica now.place c.played.ensures.made c.args.job before
     (sym c.job.ensures ∙ ap option_copied c.in-Some.is)) in

@@ -1,7 +1,7 @@
 use Rattle.std.proofs.Common.{◌≡◌, ◌+◌, ℕ, Option, Some, None, sym, ap, ◌∙◌, subst, arith}
 use Rattle.mj_ask.specs.declared.ask.Ask.{Ask}
 use Rattle.mj_semantics.specs.Job.{Start}
-use Rattle.mj_load.specs.Image.{routines_of}
+use Rattle.mj_load.specs.Image.{program_of}
 use Rattle.mj_machine.specs.Standing.{Standing}
 use Rattle.mj_machine.specs.Kept.{standing}
 use Rattle.mj_turn.specs.Starts.{start_of}
@@ -16,7 +16,7 @@ use Rattle.mj_jobvm.proofs.job.Job.advance.Goals as goal
 pub returns-in-Some-clause-told : goal.returns-in-Some-clause-told
 returns-in-Some-clause-told c = λ start is.
     let j = c.args.self.now in
-    told_again (routines_of c.args.image.now) start (code_in c.args.image.now j.start) j.run c.in-Some.field-0
+    told_again (program_of c.args.image.now) start (code_in c.args.image.now j.start) j.run c.in-Some.field-0
     (ap (λ job. job.run.pending) (sym c.self.view_is) ∙ c.in-Some.is) is
 
 pub returns-in-Some-clause-forward : goal.returns-in-Some-clause-forward
@@ -100,9 +100,9 @@ returns-in-Err-clause-forward c = λ start turns is.
       let same : standing c.go_on.new.machine (given_of c.go_on.new.given s.log.items) ≡ standing c.run_segment-made.new.machine (given_of s.given s.log.items) =
           subst (λ l. standing c.go_on.new.machine (given_of c.go_on.new.given l) ≡ standing c.run_segment-made.new.machine (given_of s.given l)) c.deref.ensures.value c.in-Err.ensures.err in
           let P : Standing → Type 0 =
-          λ x. IsRunAfter (routines_of c.args.image.now) start (code_in c.args.image.now (start_of s.start)) (turns + c.turns.done + more) (run s.log.items s.pending s.spent x) in
+          λ x. IsRunAfter (program_of c.args.image.now) start (code_in c.args.image.now (start_of s.start)) (turns + c.turns.done + more) (run s.log.items s.pending s.spent x) in
           further turns c.turns.done more (subst P (sym same)
-          (counted_as (routines_of c.args.image.now) start (code_in c.args.image.now (start_of s.start)) (turns + c.turns.done + more) s.log.items None s.pending
+          (counted_as (program_of c.args.image.now) start (code_in c.args.image.now (start_of s.start)) (turns + c.turns.done + more) s.log.items None s.pending
           (c.args.self.now.run.spent + c.turns.done + more) s.spent (standing c.run_segment-made.new.machine (given_of s.given s.log.items)) i.pending
           (let e = i.spent in omega (arith, e)) (ahead start turns is))),
     )
@@ -121,9 +121,9 @@ returns-in-Err-clause-run c = λ start (turns, is).
       let same : standing c.go_on.new.machine (given_of c.go_on.new.given s.log.items) ≡ standing c.run_segment-made.new.machine (given_of s.given s.log.items) =
           subst (λ l. standing c.go_on.new.machine (given_of c.go_on.new.given l) ≡ standing c.run_segment-made.new.machine (given_of s.given l)) c.deref.ensures.value c.in-Err.ensures.err in
           let P : Standing → Type 0 =
-          λ x. IsRunAfter (routines_of c.args.image.now) start (code_in c.args.image.now (start_of s.start)) (turns + c.turns.done + more) (run s.log.items s.pending s.spent x) in
+          λ x. IsRunAfter (program_of c.args.image.now) start (code_in c.args.image.now (start_of s.start)) (turns + c.turns.done + more) (run s.log.items s.pending s.spent x) in
           subst P (sym same)
-          (counted_as (routines_of c.args.image.now) start (code_in c.args.image.now (start_of s.start)) (turns + c.turns.done + more) s.log.items None s.pending
+          (counted_as (program_of c.args.image.now) start (code_in c.args.image.now (start_of s.start)) (turns + c.turns.done + more) s.log.items None s.pending
           (c.args.self.now.run.spent + c.turns.done + more) s.spent (standing c.run_segment-made.new.machine (given_of s.given s.log.items)) i.pending
           (let e = i.spent in omega (arith, e)) (ahead start turns is)),
     )
@@ -141,7 +141,7 @@ returns-in-Asks-clause-forward c = λ start turns is.
       c.turns.done + more,
       (let a = c.run_segment-made.ensures.most in let b = i.most in omega (arith, a, b)),
       further turns c.turns.done more
-          (counted_as (routines_of c.args.image.now) start (code_in c.args.image.now (start_of s.start)) (turns + c.turns.done + more) s.log.items (Some c.in-Asks.ask.value)
+          (counted_as (program_of c.args.image.now) start (code_in c.args.image.now (start_of s.start)) (turns + c.turns.done + more) s.log.items (Some c.in-Asks.ask.value)
           c.wait.new.pending (c.args.self.now.run.spent + c.turns.done + more) s.spent (standing c.go_on.new.machine (given_of c.go_on.new.given s.log.items)) c.wait.ensures
           (let e = i.spent in omega (arith, e))
           (went_asks c.args.image.now start (start_of s.start) (turns + c.turns.done + more) c.units-units.result.now s.log.items c.deref.result.now i.code c.deref.ensures.value
@@ -160,7 +160,7 @@ returns-in-Asks-clause-run c = λ start (turns, is).
     λ start turns is. went_ahead c.args.image.now start (start_of s.start) (turns + c.turns.done) c.units-units.result.now s.log.items i.code
     (c.args.self.now.run.spent + c.turns.done) more s.machine c.run_segment-made.new.machine s.given c.run_segment-made.ensures.turns c.run_segment-made.ensures.sound (i.run start turns is) in (
       turns + c.turns.done + more,
-      counted_as (routines_of c.args.image.now) start (code_in c.args.image.now (start_of s.start)) (turns + c.turns.done + more) s.log.items (Some c.in-Asks.ask.value) c.wait.new.pending
+      counted_as (program_of c.args.image.now) start (code_in c.args.image.now (start_of s.start)) (turns + c.turns.done + more) s.log.items (Some c.in-Asks.ask.value) c.wait.new.pending
           (c.args.self.now.run.spent + c.turns.done + more) s.spent (standing c.go_on.new.machine (given_of c.go_on.new.given s.log.items)) c.wait.ensures
           (let e = i.spent in omega (arith, e))
           (went_asks c.args.image.now start (start_of s.start) (turns + c.turns.done + more) c.units-units.result.now s.log.items c.deref.result.now i.code c.deref.ensures.value
@@ -180,7 +180,7 @@ returns-in-Over-clause-forward c = λ start turns is.
     (c.args.self.now.run.spent + c.turns.done) more s.machine c.run_segment-made.new.machine s.given c.run_segment-made.ensures.turns c.run_segment-made.ensures.sound (i.run start turns is) in (
       c.turns.done + more,
       (let a = c.run_segment-made.ensures.most in let b = i.most in omega (arith, a, b)),
-      further turns c.turns.done more (counted_as (routines_of c.args.image.now) start
+      further turns c.turns.done more (counted_as (program_of c.args.image.now) start
           (code_in c.args.image.now (start_of s.start)) (turns + c.turns.done + more) s.log.items None s.pending (c.args.self.now.run.spent + c.turns.done + more) s.spent
           (standing c.go_on.new.machine (given_of c.go_on.new.given s.log.items)) i.pending (let e = i.spent in omega (arith, e))
           (went_over c.args.image.now start (start_of s.start) (turns + c.turns.done + more) c.units-units.result.now s.log.items c.deref.result.now i.code c.deref.ensures.value
@@ -199,7 +199,7 @@ returns-in-Over-clause-run c = λ start (turns, is).
     λ start turns is. went_ahead c.args.image.now start (start_of s.start) (turns + c.turns.done) c.units-units.result.now s.log.items i.code
     (c.args.self.now.run.spent + c.turns.done) more s.machine c.run_segment-made.new.machine s.given c.run_segment-made.ensures.turns c.run_segment-made.ensures.sound (i.run start turns is) in (
       turns + c.turns.done + more,
-      counted_as (routines_of c.args.image.now) start
+      counted_as (program_of c.args.image.now) start
           (code_in c.args.image.now (start_of s.start)) (turns + c.turns.done + more) s.log.items None s.pending (c.args.self.now.run.spent + c.turns.done + more) s.spent
           (standing c.go_on.new.machine (given_of c.go_on.new.given s.log.items)) i.pending (let e = i.spent in omega (arith, e))
           (went_over c.args.image.now start (start_of s.start) (turns + c.turns.done + more) c.units-units.result.now s.log.items c.deref.result.now i.code c.deref.ensures.value
@@ -213,7 +213,7 @@ returns-clause-forward c = λ start turns is.
     let s = c.turns.self-inside in (
       c.turns.done,
       (let a = c.turns-test.false in let b = i.most in omega (arith, a, b)),
-      counted_as (routines_of c.args.image.now) start
+      counted_as (program_of c.args.image.now) start
           (code_in c.args.image.now (start_of s.start)) (turns + c.turns.done) s.log.items None s.pending (c.args.self.now.run.spent + c.turns.done) c.min-self-inside.result
           (standing s.machine (given_of s.given s.log.items)) i.pending
           (let a = c.min-self-inside.ensures in let b = c.saturating_add.ensures in let d = c.turns-test.false in let e = i.spent in omega (arith, a, b, d, e)) (i.run start turns is),
@@ -224,7 +224,7 @@ returns-clause-run c = λ start (turns, is).
     let i = c.turns.invariant in
     let s = c.turns.self-inside in (
       turns + c.turns.done,
-      counted_as (routines_of c.args.image.now) start
+      counted_as (program_of c.args.image.now) start
           (code_in c.args.image.now (start_of s.start)) (turns + c.turns.done) s.log.items None s.pending (c.args.self.now.run.spent + c.turns.done) c.min-self-inside.result
           (standing s.machine (given_of s.given s.log.items)) i.pending
           (let a = c.min-self-inside.ensures in let b = c.saturating_add.ensures in let d = c.turns-test.false in let e = i.spent in omega (arith, a, b, d, e)) (i.run start turns is),
@@ -242,9 +242,9 @@ returns-in-Asks-clause-told c = λ start (turns, is).
     (c.args.self.now.run.spent + c.turns.done) more s.machine c.run_segment-made.new.machine s.given c.run_segment-made.ensures.turns c.run_segment-made.ensures.sound (i.run start turns is) in
     let spent = c.args.self.now.run.spent + c.turns.done + more in
     let at : Standing = standing c.go_on.new.machine (given_of c.go_on.new.given s.log.items) in
-    let P : Option Ask → Type 0 = λ p. AdvanceTells (routines_of c.args.image.now) start reports.Asks (run s.log.items p spent at) in
+    let P : Option Ask → Type 0 = λ p. AdvanceTells (program_of c.args.image.now) start reports.Asks (run s.log.items p spent at) in
     subst P (sym c.wait.ensures)
-    (told_asks (routines_of c.args.image.now) start (code_in c.args.image.now (start_of s.start)) s.log.items spent c.in-Asks.ask.value at (
+    (told_asks (program_of c.args.image.now) start (code_in c.args.image.now (start_of s.start)) s.log.items spent c.in-Asks.ask.value at (
       turns + c.turns.done + more,
       went_asks c.args.image.now start (start_of s.start) (turns + c.turns.done + more) c.units-units.result.now s.log.items c.deref.result.now i.code c.deref.ensures.value
           (c.args.self.now.run.spent + c.turns.done + more) c.run_segment-made.new.machine c.go_on.new.machine s.given c.go_on.new.given c.in-Ok.went c.in-Ok.ensures.ok c.go_on.ensures.sound
@@ -269,9 +269,9 @@ pub returns-clause-told : goal.returns-clause-told
 returns-clause-told c = λ start (turns, is).
     let i = c.turns.invariant in
     let s = c.turns.self-inside in
-    told_ran (routines_of c.args.image.now) start (code_in c.args.image.now (start_of s.start)) s.log.items s.pending c.min-self-inside.result (standing s.machine (given_of s.given s.log.items)) (
+    told_ran (program_of c.args.image.now) start (code_in c.args.image.now (start_of s.start)) s.log.items s.pending c.min-self-inside.result (standing s.machine (given_of s.given s.log.items)) (
       turns + c.turns.done,
-      counted_as (routines_of c.args.image.now) start
+      counted_as (program_of c.args.image.now) start
           (code_in c.args.image.now (start_of s.start)) (turns + c.turns.done) s.log.items None s.pending (c.args.self.now.run.spent + c.turns.done) c.min-self-inside.result
           (standing s.machine (given_of s.given s.log.items)) i.pending
           (let a = c.min-self-inside.ensures in let b = c.saturating_add.ensures in let d = c.turns-test.false in let e = i.spent in omega (arith, a, b, d, e)) (i.run start turns is),

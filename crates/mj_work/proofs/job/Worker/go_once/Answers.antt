@@ -1,5 +1,5 @@
 use Rattle.std.proofs.Common.{Bool, subst}
-use Rattle.mj_load.specs.Image.{routines_of}
+use Rattle.mj_load.specs.Image.{program_of}
 use Rattle.mj_jobvm.specs.Told.{AdvanceTells, IsWaitingAt}
 use Rattle.mj_jobvm.specs.declared.job.Turn.{Turn}
 use Rattle.mj_core.specs.Runs.{start_in}
@@ -22,7 +22,7 @@ returns-in-Ok-Ended-clause-ran g c =
     let ans = g.A.Answerer.answering in
     let start = start_in c.args.claim.now.job c.args.claim.now.start in
     let at = goes_at ans c.args.self.now.image.now c.args.claim.now c.args.job.now c.args.answerer.now c.args.halted c.advance.new.self c.requires c.advance.ensures.run c.advance.ensures.log in
-    let T : Turn → Type 0 = λ t. AdvanceTells (routines_of c.args.self.now.image.now) start t c.advance.new.self.run in
+    let T : Turn → Type 0 = λ t. AdvanceTells (program_of c.args.self.now.image.now) start t c.advance.new.self.run in
     let over = subst T c.in-Ok-Ended.field-0-is (c.in-Ok-Ended.ensures.told start c.requires.own.run) in
     ran_at ans c.args.self.now.image.now c.args.claim.now c.advance.new.self c.args.answerer.now c.args.halted stops.Ended at over
 
@@ -35,7 +35,7 @@ returns-then-halted-clause-ran g c =
     let ans = g.A.Answerer.answering in
     let start = start_in c.args.claim.now.job c.args.claim.now.start in
     let at = goes_at ans c.args.self.now.image.now c.args.claim.now c.args.job.now c.args.answerer.now c.args.halted c.advance.new.self c.requires c.advance.ensures.run c.advance.ensures.log in
-    let T : Turn → Type 0 = λ t. AdvanceTells (routines_of c.args.self.now.image.now) start t c.advance.new.self.run in
+    let T : Turn → Type 0 = λ t. AdvanceTells (program_of c.args.self.now.image.now) start t c.advance.new.self.run in
     let asks = subst T c.in-Ok-Asks.field-0-is (c.in-Ok-Asks.ensures.told start c.requires.own.run) in
     ran_at ans c.args.self.now.image.now c.args.claim.now c.advance.new.self c.args.answerer.now c.args.halted stops.Refused at (asks.0, (asks.2.0, _, _, asks.2.1))
 
@@ -51,7 +51,7 @@ returns-else-halted-clause-on g c =
     let at = goes_at ans c.args.self.now.image.now c.args.claim.now c.args.job.now c.args.answerer.now c.args.halted c.advance.new.self c.requires c.advance.ensures.run c.advance.ensures.log in
     let P : Bool → Type 0 = λ b. IsAt ans c.args.self.now.image.now c.args.claim.now b c.advance.new.self c.args.answerer.now in
     let free = subst P c.if-halted.false at in
-    let T : Turn → Type 0 = λ t. AdvanceTells (routines_of c.args.self.now.image.now) start t c.advance.new.self.run in
+    let T : Turn → Type 0 = λ t. AdvanceTells (program_of c.args.self.now.image.now) start t c.advance.new.self.run in
     let asks = subst T c.in-Ok-Asks.field-0-is (c.in-Ok-Asks.ensures.told start c.requires.own.run) in
     answered_at ans c.args.self.now.image.now c.args.claim.now c.advance.new.self c.args.answerer.now g.O.Opening.opening c.answer.new.claim c.answer.new.job c.answer.new.answerer asks.0 c.answer.result
     free (c.answer.ensures.answered asks.0 asks.1) (c.answer.ensures.halts asks.0 asks.1)
@@ -63,7 +63,7 @@ returns-else-halted-clause-ran g c =
     let at = goes_at ans c.args.self.now.image.now c.args.claim.now c.args.job.now c.args.answerer.now c.args.halted c.advance.new.self c.requires c.advance.ensures.run c.advance.ensures.log in
     let P : Bool → Type 0 = λ b. IsAt ans c.args.self.now.image.now c.args.claim.now b c.advance.new.self c.args.answerer.now in
     let free = subst P c.if-halted.false at in
-    let T : Turn → Type 0 = λ t. AdvanceTells (routines_of c.args.self.now.image.now) start t c.advance.new.self.run in
+    let T : Turn → Type 0 = λ t. AdvanceTells (program_of c.args.self.now.image.now) start t c.advance.new.self.run in
     let asks = subst T c.in-Ok-Asks.field-0-is (c.in-Ok-Asks.ensures.told start c.requires.own.run) in
     answered_ran ans c.args.self.now.image.now c.args.claim.now c.advance.new.self c.args.answerer.now g.O.Opening.opening c.answer.new.claim c.answer.new.job c.answer.new.answerer asks.0 c.answer.result
     (asks.2.0, _, _, asks.2.1) free (c.answer.ensures.answered asks.0 asks.1)
@@ -73,7 +73,7 @@ returns-then-halted-clause-why g c =
     let ans = g.A.Answerer.answering in
     let start = start_in c.args.claim.now.job c.args.claim.now.start in
     let at = goes_at ans c.args.self.now.image.now c.args.claim.now c.args.job.now c.args.answerer.now c.args.halted c.advance.new.self c.requires c.advance.ensures.run c.advance.ensures.log in
-    let T : Turn → Type 0 = λ t. AdvanceTells (routines_of c.args.self.now.image.now) start t c.advance.new.self.run in
+    let T : Turn → Type 0 = λ t. AdvanceTells (program_of c.args.self.now.image.now) start t c.advance.new.self.run in
     let asks = subst T c.in-Ok-Asks.field-0-is (c.in-Ok-Asks.ensures.told start c.requires.own.run) in
     λ is. halted_why ans c.args.self.now.image.now c.args.claim.now c.advance.new.self c.args.answerer.now g.O.Opening.opening asks.0 c.args.halted c.if-halted.true asks.1 at
 
@@ -84,7 +84,7 @@ returns-else-halted-clause-why g c =
     let at = goes_at ans c.args.self.now.image.now c.args.claim.now c.args.job.now c.args.answerer.now c.args.halted c.advance.new.self c.requires c.advance.ensures.run c.advance.ensures.log in
     let P : Bool → Type 0 = λ b. IsAt ans c.args.self.now.image.now c.args.claim.now b c.advance.new.self c.args.answerer.now in
     let free = subst P c.if-halted.false at in
-    let T : Turn → Type 0 = λ t. AdvanceTells (routines_of c.args.self.now.image.now) start t c.advance.new.self.run in
+    let T : Turn → Type 0 = λ t. AdvanceTells (program_of c.args.self.now.image.now) start t c.advance.new.self.run in
     let asks = subst T c.in-Ok-Asks.field-0-is (c.in-Ok-Asks.ensures.told start c.requires.own.run) in
     answered_why ans c.args.self.now.image.now c.args.claim.now c.advance.new.self c.args.answerer.now g.O.Opening.opening c.answer.new.claim c.answer.new.job c.answer.new.answerer
     asks.0 c.answer.result asks.1 free (c.answer.ensures.answered asks.0 asks.1)

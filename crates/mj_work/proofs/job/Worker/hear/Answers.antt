@@ -25,7 +25,7 @@ returns-in_err-reply g c = λ a is.
     let P : Ask → Type 0 = λ b. needs_no_place b ≡ true in
     let shared = placeless_shared a (subst P (same_Some c.requires.asks.0 a (sym c.requires.asks.1 ∙ is)) c.requires.asks.2) in
     let stop = c.in_err-reply.field-0.0 in
-    let may = may_hear opening c.args.claim.now ans a shared c.args.job.now c.args.answerer.now c.args.answerer.now stop c.in_err-reply.ensures.stop in
+    let may = may_hear g.J.Work.events opening c.args.claim.now ans a shared c.args.job.now c.args.answerer.now c.args.answerer.now stop c.in_err-reply.ensures.stop in
     unserved ans opening a c.args.claim.now c.args.job.now c.args.answerer.now (Unit {0}) stop c.from_residual.result c.tell.new.claim c.args.job.now
     c.args.answerer.now (err_is c.from_residual.result stop c.from_residual.ensures.1) may c.in_err-reply.ensures.err refl (stays_same ans c.args.answerer.now)
 

@@ -9,4 +9,4 @@ pub new-requires-in_default : goal.new-requires-in_default
 new-requires-in_default g c =
     let P : Log → Type 0 = λ l. IsRan c.args.self.now.image.now c.args.claim l stops.Memory in
     subst P (sym c.new.ensures.items)
-    (not_begun c.args.self.now.image.now c.args.claim c.requires)
+    (not_begun c.args.self.now.image.now c.args.claim c.requires.none)

@@ -25,9 +25,9 @@ pub returns-in-Ok-None-clause-stop : goal.returns-in-Ok-None-clause-stop
 returns-in-Ok-None-clause-stop g c =
     let S : Option (Served Heard) → Type 0 = λ o. WasServedAt g.O.Opening.opening c.loop.claim c.args.ask.now c.args.place.now c.is_late-late.result o c.try_once.new.claim in
     let was = subst S c.in-Ok-None.field-0-is c.in-Ok-None.ensures.ok in
-    taken_at g.O.Opening.opening c.args.claim.now c.args.ask.now c.args.place.now c.is_late-late.result c.loop.claim c.try_once.new.claim was
+    taken_at g.J.Work.events g.O.Opening.opening c.args.claim.now c.args.ask.now c.args.place.now c.is_late-late.result c.loop.claim c.try_once.new.claim was
 
 pub returns-in-Err-clause-stop : goal.returns-in-Err-clause-stop
 returns-in-Err-clause-stop g c =
-    stops_unserved g.O.Opening.opening c.args.claim.now c.loop.claim c.loop.invariant.2 c.in-Err.why c.stop_by.result c.stop_by.ensures c.in-Err.ensures.refused
+    stops_unserved g.J.Work.events g.O.Opening.opening c.args.claim.now c.loop.claim c.loop.invariant.2 c.in-Err.why c.stop_by.result c.stop_by.ensures c.in-Err.ensures.refused
     c.args.ask.now c.args.place.now

@@ -35,7 +35,7 @@ returns-in_err-served g c = λ a is.
     let M : Ask → Type 0 = λ b. MayStop ans opening b c.args.claim.now c.args.job.now c.args.answerer.now stop c.make_place.new.answerer in
     let ask = c.in-Some.ask.now in
     let same : a ≡ ask = same_Some a ask (sym is ∙ sym c.in-Some.ensures) in
-    let may = may_share opening c.args.claim.now ans ask (subst P same shared) c.args.job.now c.args.answerer.now c.make_place.new.answerer c.in-Ok.place stop
+    let may = may_share g.J.Work.events opening c.args.claim.now ans ask (subst P same shared) c.args.job.now c.args.answerer.now c.make_place.new.answerer c.in-Ok.place stop
     c.in-Ok.ensures.place c.in_err-served.ensures.stop in
     unserved ans opening a c.args.claim.now c.args.job.now c.args.answerer.now (Unit {0}) stop c.from_residual.result c.serve.new.claim c.args.job.now
     c.make_place.new.answerer (err_is c.from_residual.result stop c.from_residual.ensures.1) (subst M (sym same) may) c.in_err-served.ensures.err refl

@@ -21,4 +21,4 @@ returns-in-Ok-Some-clause-ok g c =
 
 pub returns-in-Err-clause-stop : goal.returns-in-Err-clause-stop
 returns-in-Err-clause-stop g c =
-    stops_untold g.O.Opening.opening c.args.claim.now c.loop.claim c.loop.invariant.2 c.in-Err.why c.stop_by.result c.stop_by.ensures c.in-Err.ensures.refused
+    stops_untold g.J.Work.events g.O.Opening.opening c.args.claim.now c.loop.claim c.loop.invariant.2 c.in-Err.why c.stop_by.result c.stop_by.ensures c.in-Err.ensures.refused

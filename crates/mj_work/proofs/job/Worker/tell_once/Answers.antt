@@ -20,4 +20,4 @@ returns-clause-ok g c =
 
 pub returns-in_err-told-clause-refused : goal.returns-in_err-told-clause-refused
 returns-in_err-told-clause-refused g c =
-    refused_by g.O.Opening.opening c.args.claim.now c.from_residual.result c.in_err-told.field-0.0 c.from_residual.ensures.1 c.in_err-told.ensures.was_refused
+    refused_by g.J.Work.events g.O.Opening.opening c.args.claim.now c.from_residual.result c.in_err-told.field-0.0 c.from_residual.ensures.1 c.in_err-told.ensures.was_refused
