@@ -13,6 +13,7 @@ use Rattle.mj_jobs.specs.Rows.{rows_limit}
 use Rattle.mj_ast.specs.declared.routine.Routine.{Routine}
 use Rattle.mj_ast.specs.Routines.{IsName}
 use Rattle.mj_ast.specs.Trees.{routine_of}
+use Rattle.mj_load.specs.Image.{Loaded}
 use Rattle.mj_rou.specs.Read.{IsRoutineRead}
 use Rattle.mj_store.specs.Questions.{Content}
 use Rattle.mj_text.specs.declared.limit.Limit.{Limit}
@@ -79,10 +80,12 @@ AreOrdered (Some file) (Some steps) = (bytes : List ℕ) × AreSpelled bytes ste
 abbrev pub WereSteps : Option (Bor (List ℕ)) → Option (Vec Step Global) → Type 0
 WereSteps file steps = AreOrdered file (option_map (λ (steps : Vec Step Global). steps.items) steps)
 
--- what a run begins with is what the words ask for: the starts of its first jobs, its devices, its routines, its globals and its steps
-pub record WereGiven (order : Run) (starts : List Started) (pool : List Shelf) (routines : List Routine) (globals : Content) (steps : Option (Vec Step Global)) : Type 0 where
+-- what a run begins with is what the words ask for: the starts of its first jobs, its devices, its routines, how many events it may have, its globals and its
+-- steps
+pub record WereGiven (order : Run) (starts : List Started) (pool : List Shelf) (image : Loaded) (globals : Content) (steps : Option (Vec Step Global)) : Type 0 where
   pub begun : WereBegun order.starts.items order.files.items starts
   pub devices : IsPoolOf order.devices.items pool
-  pub read : WereRead order.files.items routines
+  pub read : WereRead order.files.items image.routines
+  pub events : image.bounds.events ≡ order.events
   pub listed : WereListed V2 order.globals globals
   pub ordered : WereSteps order.steps steps

@@ -40,6 +40,20 @@ pub fn page_apart<'a, R: Files + AllocGlobal>(
     apart_from_streams(rt, page)
 }
 
+/// Sees that a trace that is brought to today's form goes to no file that is read for it but that of the trace, whose place it may take: not to that of a routine
+/// or of the globals; and not to that of a standard stream.
+pub fn migrated_apart<'a, R: Files + AllocGlobal>(
+    rt: &R,
+    out: &'a str,
+    record: &Replay<'_>,
+) -> Result<(), ProgramError<'a>> {
+    for file in &record.files {
+        apart_from(rt, out, Some(*file))?;
+    }
+    apart_from(rt, out, record.globals)?;
+    apart_from_streams(rt, out)
+}
+
 // Sees that a file isn't one of a routine, of the steps, of a device or of a standard stream.
 fn apart_from_read<'a, R: Files + AllocGlobal>(
     rt: &R,

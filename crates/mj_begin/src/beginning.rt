@@ -4,7 +4,6 @@ ghost use Rattle.std.specs.Prelude.{◌≡◌, ◌≤◌, ◌∷◌, [], true, l
 ghost use Rattle.std.specs.List.{list_all};
 ghost use Rattle.mj_text.specs.declared.limit.Limit.TheVariants.{V2};
 ghost use Rattle.mj_ask.specs.Fitting.{is_content};
-ghost use Rattle.mj_ask.specs.declared.bounds.TheConstants.{EVENTS_LIMIT};
 ghost use Rattle.mj_rou.specs.Words.{Each, IsRoutineWorded};
 ghost use Rattle.mj_load.specs.Image.{routines_of};
 ghost use Rattle.mj_dev.specs.Shelves.{AreRising, count_of, principal, left_of};
@@ -41,7 +40,7 @@ use std::alloc::Global;
 use std::io::Read;
 use std::rt::Files;
 
-/// What a run begins with. Its texts have the greater limit, and it has 1,000,000 events at most.
+/// What a run begins with. Its texts have the greater limit.
 #[derive(Drop)]
 pub struct Beginning<D: Device> {
     pub steps: Option<Vec<Step>>,
@@ -50,7 +49,6 @@ pub struct Beginning<D: Device> {
     pub pool: Pool<D>,
     pub starts: Vec<Start>,
     ghost long: { image.bounds.limit ≡ V2 },
-    ghost events: { image.bounds.events ≡ EVENTS_LIMIT },
     ghost global: { are_global globals.content ≡ true },
     ghost content: { is_content globals.content ≡ true },
     ghost bare: { are_bare starts.items ≡ true },
@@ -79,7 +77,7 @@ pub fn begin<'a, R: Files + AllocGlobal + Copy + Drop, I: Read>(
 ) -> Result<Begun<'a, R>, ProgramError<'a>>
 where
     R::File: Lockable,
-    ensures given { IfOk result (λ b. WereGiven order.now b.0.starts.items b.0.pool b.0.image.routines b.0.globals.content b.0.steps) }
+    ensures given { IfOk result (λ b. WereGiven order.now b.0.starts.items b.0.pool b.0.image b.0.globals.content b.0.steps) }
     ensures worded { IfOk result (λ b. Each IsRoutineWorded (routines_of b.0.image)) }
     ensures whole { IfOk result (λ b. AreWhole b.0.pool) }
     ensures text { IfOk result (λ b. IfSome b.1.trace (λ t. t.opening.items ≡ opening_text (Second V2) (map count_of b.0.pool) (entries_of b.0.starts.items))) }
@@ -116,14 +114,14 @@ fn begun<'a, R: Files + AllocGlobal + Copy + Drop>(
     requires routines { WereRead order.now.files.items rest.1.0.routines }
     requires worded { Each IsRoutineWorded (routines_of rest.1.0) }
     requires long { rest.1.0.bounds.limit ≡ V2 }
-    requires events { rest.1.0.bounds.events ≡ EVENTS_LIMIT }
+    requires events { rest.1.0.bounds.events ≡ order.now.events }
     requires listed { WereListed V2 order.now.globals rest.1.1.content }
     requires global { are_global rest.1.1.content ≡ true }
     requires content { is_content rest.1.1.content ≡ true }
     requires steps { WereSteps order.now.steps rest.0 }
     requires pool { IsPoolOf order.now.devices.items rest.1.2 }
     requires whole { AreWhole rest.1.2 }
-    ensures given { IfOk result (λ b. WereGiven order.now b.0.starts.items b.0.pool b.0.image.routines b.0.globals.content b.0.steps) }
+    ensures given { IfOk result (λ b. WereGiven order.now b.0.starts.items b.0.pool b.0.image b.0.globals.content b.0.steps) }
     ensures worded { IfOk result (λ b. Each IsRoutineWorded (routines_of b.0.image)) }
     ensures whole { IfOk result (λ b. AreWhole b.0.pool) }
     ensures text { IfOk result (λ b. IfSome b.1.trace (λ t. t.opening.items ≡ opening_text (Second V2) (map count_of b.0.pool) (entries_of b.0.starts.items))) }
@@ -165,7 +163,7 @@ where
     ensures routines { IfOk result (λ x. WereRead order.now.files.items x.1.0.routines) }
     ensures worded { IfOk result (λ x. Each IsRoutineWorded (routines_of x.1.0)) }
     ensures long { IfOk result (λ x. x.1.0.bounds.limit ≡ V2) }
-    ensures events { IfOk result (λ x. x.1.0.bounds.events ≡ EVENTS_LIMIT) }
+    ensures events { IfOk result (λ x. x.1.0.bounds.events ≡ order.now.events) }
     ensures globals { IfOk result (λ x. WereListed V2 order.now.globals x.1.1.content) }
     ensures global { IfOk result (λ x. are_global x.1.1.content ≡ true) }
     ensures content { IfOk result (λ x. is_content x.1.1.content ≡ true) }
@@ -205,14 +203,14 @@ where
     ensures routines { IfOk result (λ x. WereRead order.now.files.items x.0.routines) }
     ensures worded { IfOk result (λ x. Each IsRoutineWorded (routines_of x.0)) }
     ensures long { IfOk result (λ x. x.0.bounds.limit ≡ V2) }
-    ensures events { IfOk result (λ x. x.0.bounds.events ≡ EVENTS_LIMIT) }
+    ensures events { IfOk result (λ x. x.0.bounds.events ≡ order.now.events) }
     ensures globals { IfOk result (λ x. WereListed V2 order.now.globals x.1.content) }
     ensures global { IfOk result (λ x. are_global x.1.content ≡ true) }
     ensures content { IfOk result (λ x. is_content x.1.content ≡ true) }
     ensures pool { IfOk result (λ x. x.2 ≡ with_devices (names_of devices.now) (with_principals rows_limit)) }
     ensures whole { IfOk result (λ x. AreWhole x.2) }
 {
-    let image = loaded(&rt, &order.files, Limit::V2)?;
+    let image = loaded(&rt, &order.files, Limit::V2, order.events)?;
     let (lock, globals) = match kept(&rt, order) {
         Ok(kept) => kept,
         Err(stop) => {

@@ -13,7 +13,7 @@ mod refusing;
 mod routines;
 mod traces;
 
-pub use apart::page_apart;
+pub use apart::{migrated_apart, page_apart};
 pub use beginning::{Beginning, Begun, Outlet, begin};
 pub use files::{file_bytes, routine_bytes, routine_name};
 pub use listings::{listed, save};

@@ -3,6 +3,7 @@
 ghost use Rattle.std.specs.Prelude.{◌≡◌, true, IfOk};
 ghost use Rattle.std.specs.Io.KnownBytes.{Appends};
 ghost use Rattle.mj_ask.specs.Fitting.{is_content};
+ghost use Rattle.mj_globs.specs.Within.{is_content_within};
 ghost use Rattle.mj_text.specs.declared.limit.Limit.TheVariants.{V2};
 ghost use Rattle.mj_gfile.specs.Spelling.{listing_of};
 ghost use Rattle.mj_sys.specs.Shared.{are_global};
@@ -18,7 +19,7 @@ use std::io::Write;
 use std::rt::Files;
 
 /// Reads the globals that a file lists, where texts have this limit: none where no file is named.
-#[tactic(auto, using(crate::proofs::Content::can_be_written))]
+#[tactic(auto, using(crate::proofs::Content::can_be_written, crate::proofs::Content::none_within, crate::proofs::Content::texts_within))]
 pub fn listed<'a, R: Files + AllocGlobal>(
     rt: &R,
     file: Option<&'a str>,
@@ -27,6 +28,7 @@ pub fn listed<'a, R: Files + AllocGlobal>(
     ensures listed { IfOk result (λ globals. WereListed limit file.entry globals.content) }
     ensures global { IfOk result (λ globals. are_global globals.content ≡ true) }
     ensures content { IfOk result (λ globals. is_content globals.content ≡ true) }
+    ensures within { IfOk result (λ globals. is_content_within limit globals.content ≡ true) }
 {
     let Some(file) = file else {
         return Ok(Globals::new(rt.alloc()));

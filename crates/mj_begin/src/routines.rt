@@ -1,7 +1,6 @@
 // The routines of the command line.
 
-ghost use Rattle.std.specs.Prelude.{◌≡◌, IfOk};
-ghost use Rattle.mj_ask.specs.declared.bounds.TheConstants.{EVENTS_LIMIT};
+ghost use Rattle.std.specs.Prelude.{◌≡◌, ◌<◌, IfOk};
 ghost use Rattle.mj_rou.specs.Words.{Each, IsRoutineWorded};
 ghost use Rattle.mj_load.specs.Image.{IsWithinLimits, routines_of};
 ghost use Rattle.mj_begin.specs.Names.{name_at};
@@ -15,16 +14,18 @@ use mj_rou::has_words;
 use mj_text::Limit;
 use std::rt::Files;
 
-/// Reads the routines of these files in order, and loads them, where texts have this limit, and runs 1,000,000 events. The first that is refused ends it.
+/// Reads the routines of these files in order, and loads them, where texts have this limit, and runs so many events at most. The first that is refused ends it.
 pub fn loaded<'a, R: Files + AllocGlobal>(
     rt: &R,
     files: &[&'a str],
     limit: Limit,
+    events: u32,
 ) -> Result<Image, ProgramError<'a>>
+    requires some { 0 < events }
     ensures read { IfOk result (λ image. WereRead files.now image.routines) }
     ensures worded { IfOk result (λ image. Each IsRoutineWorded (routines_of image)) }
     ensures limit { IfOk result (λ image. image.bounds.limit ≡ limit) }
-    ensures events { IfOk result (λ image. image.bounds.events ≡ EVENTS_LIMIT) }
+    ensures events { IfOk result (λ image. image.bounds.events ≡ events) }
 {
     has_words();
     let mut routines = Vec::new(rt.alloc());
@@ -35,7 +36,7 @@ pub fn loaded<'a, R: Files + AllocGlobal>(
         }
     }
     match load(rt.alloc(), routines, limit) {
-        Ok(image) => Ok(image),
+        Ok(image) => Ok(image.with_events(events)),
         Err(mj_load::LoadError::Memory { .. }) => Err(ProgramError::Memory),
         Err(mj_load::LoadError::Twice { name }) => Err(ProgramError::Twice(Word { name })),
     }

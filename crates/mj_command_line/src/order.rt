@@ -1,5 +1,7 @@
 // What the words ask for, or why they ask for nothing.
 
+ghost use Rattle.std.specs.Prelude.{◌<◌};
+
 use std::alloc::AllocError;
 
 /// The most workers that the words may ask for: as many as `mj_work` runs.
@@ -12,6 +14,8 @@ pub const RUNS_LIMIT: u32 = 1_000_000;
 pub const RUNS: u32 = 1000;
 /// What chance comes from, where the words don't say.
 pub const SEED: u32 = 1;
+/// How many events a run may have, where the words don't say.
+pub const EVENTS: u32 = 1_000_000;
 
 /// What the words ask for.
 #[derive(Drop)]
@@ -28,6 +32,8 @@ pub enum Order<'a> {
     Check { files: Vec<&'a str> },
     /// to say whether a trace is that of a run
     Replay(Replay<'a>),
+    /// to bring a trace to today's form
+    Migrate(Migrate<'a>),
 }
 
 /// Jobs that are to run.
@@ -53,6 +59,9 @@ pub struct Run<'a> {
     pub why: bool,
     /// whether to tell, where routines are refused, what else is, and what helps
     pub hints: bool,
+    /// how many events there may be, and how often a job may ask
+    pub events: u32,
+    pub ghost some: { 0 < events },
 }
 
 /// Jobs that are to run by chance, again and again.
@@ -90,6 +99,18 @@ pub struct Replay<'a> {
     pub files: Vec<&'a str>,
     /// the file that lists the globals that were there at first
     pub globals: Option<&'a str>,
+    /// how many events there may be, and how often a job may ask
+    pub events: u32,
+    pub ghost some: { 0 < events },
+}
+
+/// A trace that is to be brought to today's form.
+#[derive(Drop)]
+pub struct Migrate<'a> {
+    /// the trace, and what it is replayed over
+    pub record: Replay<'a>,
+    /// the file to which the trace goes
+    pub out: &'a str,
 }
 
 /// Why words are no order.

@@ -1,6 +1,10 @@
 // The words of the command line.
 
-use crate::order::{Debug, Explore, NoOrder, Order, RUNS, Replay, Run, SEED, WORKERS};
+ghost use Rattle.std.specs.Prelude.{◌<◌};
+
+use crate::order::{
+    Debug, EVENTS, Explore, Migrate, NoOrder, Order, RUNS, Replay, Run, SEED, WORKERS,
+};
 use crate::words::command;
 use clap::error::ErrorKind;
 use clap::{ArgMatches, Command, Error};
@@ -47,6 +51,7 @@ fn order_of<'a>(
         "debug" => debug_order(alloc, found),
         "check" => check_order(alloc, found),
         "replay" => replay_order(alloc, found),
+        "migrate" => migrate_order(alloc, found),
         _ => no_order(command),
     }
 }
@@ -79,6 +84,7 @@ fn run_of<'a>(alloc: Global, found: &ArgMatches<'a>) -> Result<Run<'a>, AllocErr
         steps: found.get_str("steps"),
         why: found.get_flag("why"),
         hints: found.get_flag("hints"),
+        events: events_given(found),
     })
 }
 
@@ -104,6 +110,7 @@ fn explore_order<'a>(alloc: Global, found: &ArgMatches<'a>) -> Result<Order<'a>,
             steps: None,
             why: false,
             hints: found.get_flag("hints"),
+            events: EVENTS,
         },
         stdin: found.get_flag("stdin"),
         runs: number_given(found, "runs", RUNS),
@@ -130,17 +137,32 @@ fn check_order<'a>(alloc: Global, found: &ArgMatches<'a>) -> Result<Order<'a>, E
     })
 }
 
-// The trace is required, so that it is given.
-fn replay_order<'a>(alloc: Global, found: &ArgMatches<'a>) -> Result<Order<'a>, Error> {
-    let trace = match found.get_str("trace") {
-        Some(trace) => trace,
-        None => "",
-    };
-    Ok(Order::Replay(Replay {
-        trace,
+fn record_of<'a>(alloc: Global, found: &ArgMatches<'a>) -> Result<Replay<'a>, AllocError> {
+    Ok(Replay {
+        trace: required(found, "trace"),
         files: value_given(alloc, found, "routines")?,
         globals: found.get_str("globals"),
+        events: events_given(found),
+    })
+}
+
+fn replay_order<'a>(alloc: Global, found: &ArgMatches<'a>) -> Result<Order<'a>, Error> {
+    Ok(Order::Replay(record_of(alloc, found)?))
+}
+
+fn migrate_order<'a>(alloc: Global, found: &ArgMatches<'a>) -> Result<Order<'a>, Error> {
+    Ok(Order::Migrate(Migrate {
+        record: record_of(alloc, found)?,
+        out: required(found, "out"),
     }))
+}
+
+// What was given for an argument that is required, so that it is given.
+fn required<'a>(found: &ArgMatches<'a>, name: &str) -> &'a str {
+    match found.get_str(name) {
+        Some(text) => text,
+        None => "",
+    }
 }
 
 // The number that was given for the argument of this name, or else this one.
@@ -149,6 +171,13 @@ fn number_given(found: &ArgMatches<'_>, name: &str, other: u32) -> u32 {
         Some(number) => number,
         None => other,
     }
+}
+
+// How many events there may be. No number that is given is 0; it is looked at once more, so that it is known.
+fn events_given(found: &ArgMatches<'_>) -> u32
+    ensures { 0 < result }
+{
+    number_given(found, "events", EVENTS).max(1)
 }
 
 // What was given for the argument of this name. One that the command hasn't counts as one that isn't given.

@@ -16,6 +16,7 @@ Examples:
   mj debug --start ^R R.m
   mj check R.m _TOOL.m
   mj replay --trace TRACE R.m
+  mj migrate --trace TRACE --out TRACE R.m
 
 Exit statuses:
   0  all is done
@@ -73,3 +74,8 @@ Example, which prints `ok 2`, or up to 20 lines of each file that are refused, w
 pub const REPLAY_EXAMPLE: &str = "\
 Example, which prints `same`, or `differs at line 6` where the event in line 6 of the trace isn't made, over the globals that were there at first:
   mj replay --trace TRACE --globals DATA R.m";
+
+/// What stands below the help of `migrate`.
+pub const MIGRATE_EXAMPLE: &str = "\
+Example, which prints `migrated 7`, the number of the events, or `differs at line 6` where the event in line 6 of the trace isn't made:
+  mj migrate --trace TRACE --out TRACE --globals DATA R.m";

@@ -2,8 +2,8 @@
 
 use crate::order::{RUNS_LIMIT, WORKERS_LIMIT};
 use crate::texts::{
-    CHECK_EXAMPLE, DEBUG_EXAMPLE, EXAMPLES, EXPLORE_EXAMPLE, REPLAY_EXAMPLE, RUN_EXAMPLE,
-    STEP_EXAMPLE, VERSION,
+    CHECK_EXAMPLE, DEBUG_EXAMPLE, EXAMPLES, EXPLORE_EXAMPLE, MIGRATE_EXAMPLE, REPLAY_EXAMPLE,
+    RUN_EXAMPLE, STEP_EXAMPLE, VERSION,
 };
 use clap::{Arg, ArgAction, Command, value_parser};
 use std::alloc::{AllocError, Global};
@@ -28,19 +28,21 @@ struct Choice {
     most: Option<u32>,
 }
 
-const COMMANDS: [Row; 6] = [
+const COMMANDS: [Row; 7] = [
     Row {
         name: "run",
         about: "Runs jobs at the same time, by threads, and prints what they write",
         example: RUN_EXAMPLE,
-        options: &[WORKERS, HINTS, START, GLOBALS, SAVE, TRACE, STDIN, DEVICE],
+        options: &[
+            WORKERS, EVENTS, HINTS, START, GLOBALS, SAVE, TRACE, STDIN, DEVICE,
+        ],
     },
     Row {
         name: "step",
         about: "Runs jobs by single steps, in turn or as a file says, and prints what they write",
         example: STEP_EXAMPLE,
         options: &[
-            STEPS, WHY, HINTS, START, GLOBALS, SAVE, TRACE, STDIN, DEVICE,
+            STEPS, WHY, EVENTS, HINTS, START, GLOBALS, SAVE, TRACE, STDIN, DEVICE,
         ],
     },
     Row {
@@ -55,7 +57,7 @@ const COMMANDS: [Row; 6] = [
         name: "debug",
         about: "Steps jobs by the commands that standard input has, and prints what is answered to them",
         example: DEBUG_EXAMPLE,
-        options: &[PROMPT, HINTS, START, GLOBALS, SAVE, TRACE, DEVICE],
+        options: &[PROMPT, EVENTS, HINTS, START, GLOBALS, SAVE, TRACE, DEVICE],
     },
     Row {
         name: "check",
@@ -67,7 +69,13 @@ const COMMANDS: [Row; 6] = [
         name: "replay",
         about: "Says whether a trace is that of a run of these routines, or which line isn't",
         example: REPLAY_EXAMPLE,
-        options: &[RECORDED, GLOBALS],
+        options: &[RECORDED, GLOBALS, EVENTS],
+    },
+    Row {
+        name: "migrate",
+        about: "Brings a trace to today's form, in which each event has the line of its command, if it is that of a run of these routines",
+        example: MIGRATE_EXAMPLE,
+        options: &[RECORDED, OUT, GLOBALS, EVENTS],
     },
 ];
 
@@ -120,6 +128,15 @@ const SEED: Choice = Choice {
     name: "seed",
     value: Some("N"),
     help: "What chance comes from: 1 to 4294967295, or 1 where it isn't said; the same runs come of the same number",
+    action: ArgAction::Set,
+    required: false,
+    most: Some(u32::MAX),
+};
+
+const EVENTS: Choice = Choice {
+    name: "events",
+    value: Some("N"),
+    help: "How many events a run may have: 1 to 4294967295, or 1000000 where it isn't said",
     action: ArgAction::Set,
     required: false,
     most: Some(u32::MAX),
@@ -192,6 +209,15 @@ const RECORDED: Choice = Choice {
     name: "trace",
     value: Some("FILE"),
     help: "The trace, as `mj run --trace` or `mj step --trace` writes it",
+    action: ArgAction::Set,
+    required: true,
+    most: None,
+};
+
+const OUT: Choice = Choice {
+    name: "out",
+    value: Some("FILE"),
+    help: "Where the trace is written; it may take the place of the one that is read",
     action: ArgAction::Set,
     required: true,
     most: None,

@@ -23,7 +23,7 @@ use Rattle.mj_sys.proofs.Replays.{left, no_events}
 use Rattle.mj_sys.proofs.Rows.{rows_kept, state_of_append, log_of_append, events_of_append}
 use Rattle.mj_core.specs.declared.happened.Happened.{Happened}
 use Rattle.mj_core.specs.Happen.{AllHappen, Happens, shared_of}
-use Rattle.mj_core.specs.Woven.{Logs, woven, AreThere}
+use Rattle.mj_core.specs.Woven.{Logs, woven, AreThere, AreInOrder}
 use Rattle.mj_core.proofs.Happen.{shared_append, happen_more}
 use Rattle.mj_core.proofs.Weave.{woven_on, there_on, woven_still, there_still, jobs_stay}
 use Rattle.mj_core.proofs.Logs.{log_own, log_other, same_job, other_job, shared_silent}
@@ -34,6 +34,8 @@ use Rattle.mj_core.specs.Answering.{Answering, HasAll, HasStill, AreBehind}
 use Rattle.mj_core.specs.Ties.{Placed, IsTied, IsPlaced, IsStanding, shared_in}
 use Rattle.mj_core.specs.Kept.{AreKept, IsSlotOf, IsClaimed, logs_of}
 use Rattle.mj_core.proofs.Histories.{same_state, none_past}
+use Rattle.mj_core.proofs.Views.{as_many}
+use Rattle.mj_core.proofs.Ordered.{one_in_order}
 
 -- an element of a list with one that was changed
 get_set : {X : Type 0} (xs : List X) (k j : ℕ) (x y : X) → slice_get (slice_set xs k x) j ≡ Some y → ((j ≡ k) × (y ≡ x)) ⊎ ((j ≡ k → ⊥) × (slice_get xs j ≡ Some y))
@@ -248,6 +250,11 @@ module _ {A : Type 0} (ans : Answering A) (image : Loaded) (opening : Shared) (s
           there =
               let P : Logs → Type 0 = λ l. AreThere l order' in
               subst P (sym logs_on) (there_on (logs_of slots) k slot.job.run.log (a, reply) order log_here kept.there);
+          ordered =
+              let P : History → Type 0 = λ h. AreInOrder [] order' h in
+              subst P (sym history_on)
+              (one_in_order order history (record { job = suc k; at = length slot.job.run.log }) e (sym (as_many (logs_of slots) order kept.there)) kept.ordered
+              (ap (λ (l : Log). length l) (sym at.logged)));
           claimed = claimed_on opening system system' (shared_of (e ∷ [])) system_on claimed_same (length slots) (length slots') (length-set slots k slot') waiting kept.claimed;
           within = let long = length-append order (record { job = suc k; at = length slot.job.run.log } ∷ []) in omega (arith, long, room);
           most = kept.most;
@@ -302,6 +309,7 @@ module _ {A : Type 0} (ans : Answering A) (image : Loaded) (opening : Shared) (s
         tied = λ j s there. (let P : History → Type 0 = λ h. IsSlotOf ans image opening system h (suc j) s in subst P (sym shows_still) (tied_still j s there));
         happen = (let P : History → Type 0 = λ h. AllHappen opening h in subst P (sym shows_still) kept.happen);
         there = (let P : Logs → Type 0 = λ l. AreThere l order in subst P (sym logs_same) kept.there);
+        ordered = (let P : History → Type 0 = λ h. AreInOrder [] order h in subst P (sym shows_still) kept.ordered);
         claimed = subst (λ n. IsClaimed opening system n waiting) (sym (length-set slots k slot')) kept.claimed;
         within = kept.within;
         most = kept.most;
@@ -372,6 +380,7 @@ module _ {A : Type 0} (ans : Answering A) (image : Loaded) (opening : Shared) (s
       there =
           (let P : Logs → Type 0 = λ l. AreThere l order in
           subst P (sym logs_more) (there_still (logs_of slots) (logs_of slots ++ [] ∷ []) order (jobs_stay (logs_of slots)) kept.there));
+      ordered = (let P : History → Type 0 = λ h. AreInOrder [] order h in subst P (sym shows_slot) kept.ordered);
       claimed = kept.claimed.0 ∙ (let long = length-append slots (slot ∷ []) in omega (arith, long));
       within = kept.within;
       most = kept.most;
@@ -398,6 +407,7 @@ keeps_claim ans image opening old new slots order claim kept same claimed job ev
           });
       happen = kept.happen;
       there = kept.there;
+      ordered = kept.ordered;
       claimed =
           (let n = kept.claimed in
           (omega (arith, n, claimed), omega (arith, n, job), events, row_later opening old.history new.history [] claim on row));
@@ -414,6 +424,7 @@ keeps_new ans image opening long most = record {
   tied = λ k slot here. absurd (let no : None ≡ Some slot = here in cc);
   happen = tt;
   there = tt;
+  ordered = tt;
   claimed = refl;
   within = omega arith;
   most = most;

@@ -10,8 +10,10 @@ pub mod Owned
 mod Serving
 mod Hearing
 mod Histories
-mod Keeping
 pub mod Views
+pub mod Ordered
+pub mod Asked
+mod Keeping
 mod Giving
 mod Going
 mod Admitting
@@ -22,3 +24,4 @@ mod Readied
 mod Ended
 mod Showing
 mod Plain
+pub mod Placed

@@ -13,7 +13,7 @@ use Rattle.mj_sys.specs.History.{History, state_of, log_of}
 use Rattle.mj_sys.specs.System.{Recorded, Claimed, history_limit}
 use Rattle.mj_core.specs.declared.happened.Happened.{Happened}
 use Rattle.mj_core.specs.Happen.{AllHappen, shared_of}
-use Rattle.mj_core.specs.Woven.{Logs, woven, AreThere}
+use Rattle.mj_core.specs.Woven.{Logs, woven, AreThere, AreInOrder}
 use Rattle.mj_core.specs.Having.{has_session}
 use Rattle.mj_core.specs.Shown.{AtAsk, Shown, stand_at}
 use Rattle.mj_core.specs.Runs.{start_in}
@@ -68,15 +68,16 @@ pub record IsSlotOf {A : Type 0} (by : Answering A) (image : Loaded) (opening : 
   pub logged : log_of job history ≡ slot.job.run.log
   pub held : AreHeld by opening job history slot.answerer
 
--- The history that is woven of the jobs' logs has what the system served; each slot is that of the job at its place; each event of it came where it
--- could; the jobs of the first rows, which were claimed, have a slot, but for one that may wait for it; there are no more events than the image's bounds
--- say; and its limit is the greater one.
+-- The history that is woven of the jobs' logs, each in its order, has what the system served; each slot is that of the job at its place; each event of it
+-- came where it could; the jobs of the first rows, which were claimed, have a slot, but for one that may wait for it; there are no more events than the
+-- image's bounds say; and its limit is the greater one.
 pub record AreKept {A : Type 0} (by : Answering A) (image : Loaded) (opening : Shared) (system : Recorded) (slots : List (Placed A)) (waiting : Option Claimed)
     (order : List Happened) : Type 0 where
   pub history : shared_of (woven (logs_of slots) order) ≡ system.history
   pub tied : (k : ℕ) (slot : Placed A) → slice_get slots k ≡ Some slot → IsSlotOf by image opening system (woven (logs_of slots) order) (suc k) slot
   pub happen : AllHappen opening (woven (logs_of slots) order)
   pub there : AreThere (logs_of slots) order
+  pub ordered : AreInOrder [] order (woven (logs_of slots) order)
   pub claimed : IsClaimed opening system (length slots) waiting
   pub within : length order ≤ image.bounds.events
   pub most : image.bounds.events ≤ history_limit

@@ -1,8 +1,8 @@
 -- A history that is woven of the logs of jobs.
-use Rattle.std.specs.Prelude.{◌≡◌, ℕ, zero, suc, List, [], ◌∷◌, Option, Some, None, ⊤, slice_get}
+use Rattle.std.specs.Prelude.{◌≡◌, ℕ, zero, suc, List, [], ◌∷◌, ◌++◌, length, Option, Some, None, ⊤, slice_get}
 use Rattle.mj_ask.specs.declared.ask.Ask.{Ask}
 use Rattle.mj_ask.specs.declared.ask.Reply.{Reply}
-use Rattle.mj_sys.specs.History.{History}
+use Rattle.mj_sys.specs.History.{History, log_of}
 use Rattle.mj_core.specs.declared.happened.Happened.{Happened}
 
 -- what each job asked and was told, the first job first
@@ -26,3 +26,9 @@ woven logs (h ∷ order) = elim (entry_at logs h.job h.at) [
 abbrev pub AreThere : Logs → List Happened → Type 0
 AreThere logs [] = ⊤
 AreThere logs (h ∷ order) = ((e : Ask × Reply) × (entry_at logs h.job h.at ≡ Some e)) × AreThere logs order
+
+-- each of them is the next entry of its job's log, behind those of the events before it
+abbrev pub AreInOrder : History → List Happened → History → Type 0
+AreInOrder front [] history = ⊤
+AreInOrder front (h ∷ order) [] = ⊤
+AreInOrder front (h ∷ order) (e ∷ history) = (h.at ≡ length (log_of h.job front)) × AreInOrder (front ++ e ∷ []) order history

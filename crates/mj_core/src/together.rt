@@ -5,15 +5,18 @@ ghost use Rattle.std.specs.Prelude.{vec_capacity, IfOk, IfErr, OnOk, OnErr, IfSo
 ghost use Rattle.mj_load.specs.Image.{program_of};
 ghost use Rattle.mj_text.specs.declared.limit.Limit.TheVariants.{V2};
 ghost use Rattle.mj_dev.specs.Shelves.{principal, left_of};
+ghost use Rattle.mj_frames.specs.Frames.{place_at};
 ghost use Rattle.mj_jobs.specs.Rows.{Row, row_at, rows_limit, IsLive};
 ghost use Rattle.mj_jobvm.specs.Jobs.{IsRunOf};
+ghost use Rattle.mj_jobvm.specs.Places.{ArePlaces};
+ghost use Rattle.mj_jobvm.specs.Run.{replies_of};
 ghost use Rattle.mj_locktab.specs.Locks.{LocksApart};
 ghost use Rattle.mj_sys.specs.History.{state_of, log_of};
 ghost use Rattle.mj_sys.specs.Opening.{opening_of, are_bare, NoneIsOpen};
 ghost use Rattle.mj_sys.specs.Shared.{are_global};
 ghost use Rattle.mj_sys.specs.System.{Claimed, history_limit};
 ghost use Rattle.mj_core.specs.Woven.{woven};
-ghost use Rattle.mj_core.specs.Runs.{IsRun, start_in, out_of};
+ghost use Rattle.mj_core.specs.Runs.{IsRun, IsAskedFrom, ArePlacedIn, places_lent, places_at, start_in, out_of};
 ghost use Rattle.mj_core.specs.Gives.{StepGivesBy, JobStepGives, Readies, GivesReady, StandsAt};
 ghost use Rattle.mj_core.specs.Asking.{turn_of, IfAsks, IsAtAsk, IsSeenAt};
 ghost use Rattle.mj_core.specs.Shown.{AtAsk, begun, stand_at};
@@ -29,7 +32,7 @@ use mj_ask::{Ask, Reply, Start};
 use mj_dev::{Device, Pool};
 use mj_globs::Globals;
 use mj_jobs::ROWS_LIMIT;
-use mj_jobvm::{Job, Turn};
+use mj_jobvm::{Job, Places, Turn};
 use mj_load::Image;
 use mj_locktab::LockTable;
 use mj_sessions::output;
@@ -315,6 +318,37 @@ impl<D: Device, A: Answerer<Fresh<D>>, O: Opening> Core<D, A, O> {
                 Some(slot) => Some(slot),
             },
         }
+    }
+
+    /// Where the ask of the event at a place of the history came from, from 0: the routine and the line of its command, if it has one.
+    pub fn place_of(&self, at: usize) -> Option<(&Text, u32)>
+        ensures { IsAskedFrom (program_of self.now.image) O.opening self.now.history at (place_at result) }
+    {
+        let happened = self.order.get(at)?;
+        let slot = self.slots.get(happened.job as usize - 1)?;
+        slot.job.places().place(happened.at)
+    }
+
+    /// Where what a job asked in the history came from, each of it in order: none for a job that asked nothing.
+    pub fn places(&self, job: u32) -> Option<&Places>
+        ensures none { IfNone result (log_of job self.now.history ≡ []) }
+        ensures some { IfSome result (λ places. (row : Row) × (row_at (state_of O.opening self.now.history).rows job ≡ Some row)
+            × ArePlaces (program_of self.now.image) (start_in job row.start) (replies_of (log_of job self.now.history)) places.now.places) }
+    {
+        let slot = self.slot_of(job)?;
+        Some(slot.job.places())
+    }
+
+    /// Those of each job, the first job first.
+    pub fn all_places(&self) -> Result<Vec<Option<&Places>>, AllocError>
+        ensures { IfOk result
+            (λ list. ArePlacedIn (program_of self.now.image) O.opening self.now.history (places_at (places_lent list.items))) }
+    {
+        let mut list = Vec::new(self.alloc);
+        for at in 0..self.jobs() {
+            list.push(self.places(at as u32 + 1))?;
+        }
+        Ok(list)
     }
 
     /// The bytes that a session of a job took which it had under this name: the first is 1.

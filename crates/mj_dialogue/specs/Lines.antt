@@ -6,11 +6,15 @@ use Rattle.mj_subs.specs.Name.{Name}
 use Rattle.mj_locktab.specs.Locks.{Locks, job_of, name_of}
 use Rattle.mj_text.specs.declared.limit.Limit.TheVariants.{V2}
 use Rattle.mj_trace.specs.declared.form.Form.TheVariants.{Second}
-use Rattle.mj_trace.specs.Spelling.{placeless, event_text}
+use Rattle.mj_trace.specs.Spelling.{event_text}
 use Rattle.mj_sys.specs.declared.event.Event.{Event}
 use Rattle.mj_sys.specs.declared.served.Held.{Held}
 use Rattle.mj_sys.specs.declared.served.Held.TheVariants as helds
-use Rattle.mj_sys.specs.History.{History}
+use Rattle.mj_sys.specs.Shared.{Shared}
+use Rattle.mj_load.specs.Image.{program_of}
+use Rattle.mj_core.specs.Shown.{Shown}
+use Rattle.mj_core.specs.Runs.{IsAskedFrom}
+use Rattle.mj_replica.specs.Placed.{spot_for}
 use Rattle.mj_core.specs.declared.seen.Seen.{Seen}
 use Rattle.mj_core.specs.declared.seen.Seen.TheVariants as seen
 use Rattle.mj_steps.specs.declared.step.Refusal.{Refusal}
@@ -20,14 +24,15 @@ use Rattle.mj_steps.specs.declared.step.Refusal.TheVariants as refusals
 abbrev pub lined : List ℕ → List ℕ
 lined bytes = bytes ++ 10 ∷ []
 
--- the line of an event, as a trace of today's form has it; none where there is no event
-abbrev pub line_of_event : Option Event → List ℕ
-line_of_event None = []
-line_of_event (Some e) = lined (event_text (Second V2) (placeless e.job e.ask e.reply))
+-- the line of an event, as a trace of today's form has it, with the place of its ask; none where there is no event
+abbrev pub line_of_event : Option Event → Option Place → List ℕ
+line_of_event None place = []
+line_of_event (Some e) place = lined (event_text (Second V2) (record { job = e.job; spot = spot_for place; ask = e.ask; reply = e.reply }))
 
--- the line of the event at a place of the record, from 0
-abbrev pub event_line : History → ℕ → List ℕ
-event_line history at = line_of_event (slice_get history at)
+-- the line of the event at a place of the record, from 0, with the place where its ask came from
+abbrev pub IsEventLine : Shared → Shown → ℕ → List ℕ → Type 0
+IsEventLine opening core at bytes =
+    (place : Option Place) × IsAskedFrom (program_of core.image) opening core.history at place × (bytes ≡ line_of_event (slice_get core.history at) place)
 
 -- what another job has: a name as a listing has it, or a device's name in listing quotes
 abbrev pub held_text : Held → List ℕ
@@ -61,13 +66,13 @@ held_lines [] = []
 held_lines (held ∷ locks) = held_line (job_of held.0) (name_of held.0) held.1 ++ held_lines locks
 
 -- what came of a step that was made
-abbrev pub seen_line : History → Seen → List ℕ
-seen_line history (seen.Event at) = event_line history at
-seen_line history (seen.Busy holder held) = busy_line holder held
-seen_line history seen.NotYet = lined (codes "notyet")
-seen_line history seen.Unfit = lined (codes "unfit")
-seen_line history seen.Ran = lined (codes "ran")
-seen_line history seen.Ended = lined (codes "C3")
+abbrev pub TellsSeen : Shared → Shown → Seen → List ℕ → Type 0
+TellsSeen opening core (seen.Event at) bytes = IsEventLine opening core at bytes
+TellsSeen opening core (seen.Busy holder held) bytes = bytes ≡ busy_line holder held
+TellsSeen opening core seen.NotYet bytes = bytes ≡ lined (codes "notyet")
+TellsSeen opening core seen.Unfit bytes = bytes ≡ lined (codes "unfit")
+TellsSeen opening core seen.Ran bytes = bytes ≡ lined (codes "ran")
+TellsSeen opening core seen.Ended bytes = bytes ≡ lined (codes "C3")
 
 -- why a step isn't made; want of memory has no line
 abbrev pub TellsRefusal : Refusal → List ℕ → Type 0

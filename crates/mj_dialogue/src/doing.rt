@@ -3,7 +3,7 @@
 ghost use Rattle.std.specs.Prelude.{◌≡◌, IfOk, IfErr, OnErr, false};
 ghost use Rattle.mj_dialogue.specs.declared.command.Command.TheVariants as commands;
 ghost use Rattle.mj_dialogue.specs.Fails.{IsDone, IsHidden};
-ghost use Rattle.mj_dialogue.specs.Says.{Says, walked_line};
+ghost use Rattle.mj_dialogue.specs.Says.{Says, TellsWalk};
 
 use crate::shows::{frames_at, globals_at, locals_at, locks_at};
 use crate::tell::{event, line};
@@ -73,7 +73,7 @@ fn walked<D: Device, O: Opening>(
     debugger: &Debugger<D, Sessions<D>, O>,
     at: Option<usize>,
 ) -> Result<Vec<u8>, AllocError>
-    ensures { IfOk result (λ bytes. bytes.items ≡ walked_line debugger.now.core.history at) }
+    ensures { IfOk result (λ bytes. TellsWalk O.opening debugger.now.core at bytes.items) }
 {
     match at {
         Some(at) => event(alloc, debugger.core(), at),

@@ -8,7 +8,7 @@ ghost use Rattle.mj_debug.specs.declared.debugger.Gone.{Gone as GoneOf};
 ghost use Rattle.mj_debug.specs.Walks.{StepGives, walk_answer as as_told};
 ghost use Rattle.mj_dialogue.specs.declared.command.Command.TheVariants as commands;
 ghost use Rattle.mj_dialogue.specs.Fails.{unanswered_of, IsDone, IsCut};
-ghost use Rattle.mj_dialogue.specs.Lines.{seen_line, TellsRefusal};
+ghost use Rattle.mj_dialogue.specs.Lines.{TellsSeen, TellsRefusal};
 ghost use Rattle.mj_dialogue.specs.Says.{is_full, is_full_at, is_made, TellsStep, TellsGone, GoTells};
 
 use crate::tell::{busy, event, line, refusal, stop};
@@ -35,7 +35,7 @@ pub fn step<D: Device, O: Opening>(
     step: Step,
 ) -> Result<Told, AllocError>
     ensures ok { IfOk result (λ told. (answer : Result SeenOf RefusedOf) × StepGives O.opening debugger.old step answer debugger.new
-        × TellsStep debugger.new.core.history answer told.bytes.items × (told.full ≡ is_full answer)) }
+        × TellsStep O.opening debugger.new.core answer told.bytes.items × (told.full ≡ is_full answer)) }
     ensures err { OnErr result (IsDone O.opening debugger.old (commands.Step step) debugger.new) }
 {
     let answer = debugger.step(step);
@@ -48,7 +48,7 @@ pub fn tell<D: Device, O: Opening>(
     core: &Core<D, Sessions<D>, O>,
     answer: &Result<Seen, WalkRefusal>,
 ) -> Result<Told, AllocError>
-    ensures { IfOk result (λ told. TellsStep core.now.history answer.now told.bytes.items × (told.full ≡ is_full answer.now)) }
+    ensures { IfOk result (λ told. TellsStep O.opening core.now answer.now told.bytes.items × (told.full ≡ is_full answer.now)) }
 {
     match answer {
         Ok(seen) => tell_seen(alloc, core, seen),
@@ -66,7 +66,7 @@ fn tell_seen<D: Device, O: Opening>(
     core: &Core<D, Sessions<D>, O>,
     seen: &Seen,
 ) -> Result<Told, AllocError>
-    ensures { IfOk result (λ told. (told.bytes.items ≡ seen_line core.now.history seen.now) × (told.full ≡ false)) }
+    ensures { IfOk result (λ told. TellsSeen O.opening core.now seen.now told.bytes.items × (told.full ≡ false)) }
 {
     let bytes = match seen {
         Seen::Event(at) => event(alloc, core, *at)?,
@@ -120,7 +120,7 @@ pub fn tell_gone<D: Device, O: Opening>(
     core: &Core<D, Sessions<D>, O>,
     gone: &Gone,
 ) -> Result<Passed, AllocError>
-    ensures { IfOk result (λ passed. TellsGone core.now.history gone.now passed.told.bytes.items
+    ensures { IfOk result (λ passed. TellsGone O.opening core.now gone.now passed.told.bytes.items
         × (passed.told.full ≡ is_full_at gone.now) × (passed.made ≡ is_made gone.now)) }
 {
     match gone {
@@ -143,7 +143,7 @@ fn tell_made<D: Device, O: Opening>(
     core: &Core<D, Sessions<D>, O>,
     answer: &Result<Seen, Refusal>,
 ) -> Result<Told, AllocError>
-    ensures { IfOk result (λ told. TellsStep core.now.history (as_told answer.now) told.bytes.items × (told.full ≡ is_full (as_told answer.now))) }
+    ensures { IfOk result (λ told. TellsStep O.opening core.now (as_told answer.now) told.bytes.items × (told.full ≡ is_full (as_told answer.now))) }
 {
     match answer {
         Ok(seen) => tell_seen(alloc, core, seen),

@@ -1,12 +1,13 @@
 // Lines.
 
 ghost use Rattle.std.specs.Prelude.{◌≡◌, ◌++◌, ◌∷◌, [], IfOk, OnOk, decimal};
-ghost use Rattle.mj_dialogue.specs.Lines.{event_line, held_text, busy_line, spot_line, stop_line, TellsRefusal};
+ghost use Rattle.mj_dialogue.specs.Lines.{IsEventLine, held_text, busy_line, spot_line, stop_line, TellsRefusal};
 
 use itoa::Buffer;
 use mj_core::{Core, Refusal};
 use mj_dev::Device;
 use mj_gfile::{put_name, put_text};
+use mj_replica::spot_for;
 use mj_sessions::Sessions;
 use mj_sys::{Held, Opening};
 use mj_text::{Digits, Limit, Text};
@@ -23,18 +24,20 @@ pub fn line(alloc: Global, words: &[u8]) -> Result<Vec<u8>, AllocError>
     Ok(bytes)
 }
 
-// Writes the line of the event at a place of the record, from 0, as a trace of today's form has it.
+// Writes the line of the event at a place of the record, from 0, as a trace of today's form has it, with the place where its ask came from.
 pub fn event<D: Device, O: Opening>(
     alloc: Global,
     core: &Core<D, Sessions<D>, O>,
     at: usize,
 ) -> Result<Vec<u8>, AllocError>
-    ensures { IfOk result (λ bytes. bytes.items ≡ event_line core.now.history at) }
+    ensures { IfOk result (λ bytes. IsEventLine O.opening core.now at bytes.items) }
 {
+    let spot = spot_for(core.place_of(at))?;
     let Some((job, ask, reply)) = core.event(at) else {
         return Ok(Vec::new(alloc));
     };
-    let mut bytes = event_line(alloc, Form::Second(Limit::V2), job, None, ask, reply)?;
+    let form = Form::Second(Limit::V2);
+    let mut bytes = event_line(alloc, form, job, spot.as_ref(), ask, reply)?;
     bytes.push(b'\n')?;
     Ok(bytes)
 }

@@ -11,3 +11,4 @@ pub mod Starting
 pub mod Whole
 pub mod Shown
 pub mod Putting
+pub mod Placed

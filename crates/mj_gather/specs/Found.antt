@@ -6,14 +6,15 @@ use Rattle.mj_sys.specs.declared.event.Event.{Event}
 use Rattle.mj_sys.specs.History.{History}
 use Rattle.mj_core.specs.declared.happened.Happened.{Happened}
 use Rattle.mj_core.specs.Woven.{Logs, woven}
-use Rattle.mj_gather.specs.Rans.{Kept, IsRan}
+use Rattle.mj_gather.specs.Rans.{Kept, IsRan, ArePlacesIn}
 use Rattle.mj_gather.specs.Merged.{Left, own, behind, made, heard}
 use Rattle.mj_gather.specs.Lent.{left_at}
 
--- a job starts as its row says, and its log is as its type says
+-- a job starts as its row says, and its log and its places are as its type says
 pub record IsSound (rows : List Row) (r : Kept) : Type 0 where
   pub starts : HasStart rows r.claim.job r.claim.start
   pub ran : IsRan r.image r.claim r.log r.stop
+  pub placed : ArePlacesIn r.image r.claim r.log r.places
 
 -- how many rows are made, where this is the job whose row is made, and so many are made behind
 abbrev pub more_if : Option ℕ → ℕ → ℕ

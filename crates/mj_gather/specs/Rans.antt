@@ -1,13 +1,15 @@
 -- What is seen of a job that a worker ran.
-use Rattle.std.specs.Prelude.{◌≡◌, ℕ, ◌+◌, ◌==◌, List, [], ◌∷◌, Bool, true, false, ⊤, if◌then◌else◌}
+use Rattle.std.specs.Prelude.{◌≡◌, ℕ, ◌+◌, ◌==◌, List, [], ◌∷◌, Option, Bool, true, false, ⊤, if◌then◌else◌}
 use Rattle.mj_ask.specs.declared.ask.Ask.{Ask}
 use Rattle.mj_ask.specs.declared.ask.Ask.TheVariants as asks
 use Rattle.mj_ask.specs.declared.ask.SharedAsk.TheVariants as shared_asks
 use Rattle.mj_ask.specs.Fits.{is_shared}
+use Rattle.mj_semantics.specs.State.{Place}
 use Rattle.mj_semantics.specs.Program.{Program}
 use Rattle.mj_semantics.specs.Job.{Start}
 use Rattle.mj_load.specs.Image.{Loaded, program_of}
-use Rattle.mj_jobvm.specs.Run.{Log, IsTrace, HasEnded}
+use Rattle.mj_jobvm.specs.Run.{Log, replies_of, IsTrace, HasEnded}
+use Rattle.mj_jobvm.specs.Places.{ArePlaces}
 use Rattle.mj_sessions.specs.Follow.{AreTalks}
 use Rattle.mj_sys.specs.System.{Claimed}
 use Rattle.mj_core.specs.Gives.{Makes}
@@ -16,11 +18,12 @@ use Rattle.mj_core.specs.Ties.{shared_in}
 use Rattle.mj_gather.specs.declared.ran.Stop.{Stop}
 use Rattle.mj_gather.specs.declared.ran.Stop.TheVariants as stops
 
--- the claim of its row, the image that it ran in, what it asked and was told, and how it stopped
+-- the claim of its row, the image that it ran in, what it asked and was told, where its asks came from, and how it stopped
 pub record Kept : Type 0 where
   pub claim : Claimed
   pub image : Loaded
   pub log : Log
+  pub places : List (Option Place)
   pub stop : Stop
 
 -- what is asked is the job's end
@@ -49,6 +52,15 @@ pub record IsRan (image : Loaded) (claim : Claimed) (log : Log) (stop : Stop) : 
   pub counted : claim.events ≡ shared_in log
   pub ends : EndsAtHalt log
   pub stands : StopsAt (program_of image) (start_in claim.job claim.start) log stop
+
+-- these are the places of what it asked, as the image's routines run from its row's start
+abbrev pub ArePlacesIn : Loaded → Claimed → Log → List (Option Place) → Type 0
+ArePlacesIn image claim log places = ArePlaces (program_of image) (start_in claim.job claim.start) (replies_of log) places
+
+-- where what a job asked came from: nothing, where it wasn't run
+abbrev pub places_in : List Kept → ℕ → List (Option Place)
+places_in [] job = []
+places_in (r ∷ rans) job = if r.claim.job == job then r.places else places_in rans job
 
 -- what a job asked and was told: nothing, where it wasn't run
 abbrev pub log_in : List Kept → ℕ → Log

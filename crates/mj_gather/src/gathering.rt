@@ -6,18 +6,19 @@
 ghost use Rattle.std.specs.Prelude.{◌≡◌, ◌<◌, ◌≤◌, ◌-◌, ◌+◌, ◌++◌, ◌∷◌, [], ℕ, List, length, drop, slice_get, true, false, Some, None};
 ghost use Rattle.std.specs.Prelude.{IfOk, OnOk, IfErr, IfSome, IfNone, IsTrue, ◌↔◌};
 ghost use Rattle.std.specs.List.{All};
+ghost use Rattle.std.specs.Option.{option_map, unwrap_or};
 ghost use Rattle.mj_jobs.specs.Rows.{rows_limit, HasStart};
 ghost use Rattle.mj_jobvm.specs.Run.{Log};
 ghost use Rattle.mj_load.specs.Image.{Loaded, program_of};
 ghost use Rattle.mj_locktab.specs.Locks.{LocksApart};
 ghost use Rattle.mj_sys.specs.History.{state_of, log_of, events_of, AreServed};
 ghost use Rattle.mj_core.specs.Happen.{shared_of};
-ghost use Rattle.mj_core.specs.Runs.{IsRun};
+ghost use Rattle.mj_core.specs.Runs.{IsRun, ArePlacedIn, places_lent, places_at};
 ghost use Rattle.mj_core.specs.Woven.{woven, AreThere};
 ghost use Rattle.mj_serial.specs.Laws.{IsAsAlone, AllMustClash};
-ghost use Rattle.mj_gather.specs.Rans.{IsRan, log_in, counted};
+ghost use Rattle.mj_gather.specs.Rans.{IsRan, ArePlacesIn, log_in, places_in, counted};
 ghost use Rattle.mj_gather.specs.Merged.{shared_log, own, onward, said, made, passed, told_with, left_behind, firsts, left_by_firsts, merged, merged_from};
-ghost use Rattle.mj_gather.specs.Lent.{lent, log_at, left_at, logs_from};
+ghost use Rattle.mj_gather.specs.Lent.{lent, log_at, left_at, logs_from, places_from};
 ghost use Rattle.mj_gather.specs.Gathered.{HeadsDiffer, DifferAt, StartDiffers, times_run, IsUngathered};
 ghost use Rattle.mj_gather.specs.Found.{IsSound, IsLeftAt, made_in, IsFirst};
 
@@ -26,6 +27,7 @@ use crate::run::Run;
 use mj_ask::{Ask, Reply, SharedAsk, is_same_ask, is_same_reply, is_same_start};
 use mj_core::Happened;
 use mj_dev::Device;
+use mj_jobvm::Places;
 use mj_sys::{Event, Opening, System};
 use std::alloc::{AllocError, Global};
 
@@ -76,6 +78,34 @@ fn logs_of<'b, 'a>(
     Ok(logs)
 }
 
+// Where the asks of a job came from, if it was run.
+fn places_in<'b, 'a>(rans: &'b [Ran<'a>], job: u32) -> Option<&'b Places>
+    ensures { unwrap_or (option_map (λ b. b.now.places) result) [] ≡ places_in rans.now job }
+{
+    for ran in rans {
+        if ran.claim().job() == job {
+            return Some(ran.places());
+        }
+    }
+    None
+}
+
+// Where the asks of so many jobs came from, the first job first.
+fn places_of<'b, 'a>(
+    alloc: Global,
+    rans: &'b [Ran<'a>],
+    jobs: usize,
+) -> Result<Vec<Option<&'b Places>>, AllocError>
+    requires { jobs ≤ rows_limit }
+    ensures { IfOk result (λ places. places_lent places.items ≡ places_from rans.now 1 jobs) }
+{
+    let mut places = Vec::new(alloc);
+    for at in 0..jobs {
+        places.push(places_in(rans, at as u32 + 1))?;
+    }
+    Ok(places)
+}
+
 // Whether a job was run.
 fn was_run(rans: &[Ran<'_>], job: u32) -> bool
     ensures { IsTrue result ↔ (1 ≤ times_run rans.now job) }
@@ -106,9 +136,11 @@ fn twice(rans: &[Ran<'_>]) -> Option<u32>
 fn starts_so<D: Device, O: Opening>(system: &System<D, O>, ran: &Ran<'_>) -> bool
     ensures starts { IsTrue result ↔ HasStart (state_of O.opening system.now.history).rows ran.now.claim.job ran.now.claim.start }
     ensures ran { IsRan ran.now.image ran.now.claim ran.now.log ran.now.stop }
+    ensures places { ArePlacesIn ran.now.image ran.now.claim ran.now.log ran.now.places }
 {
     // what is kept of it comes with its log
     let _log = ran.log(); // for the proof
+    let _places = ran.places(); // for the proof
     match system.start(ran.claim().job()) {
         Some(start) => is_same_start(start, ran.claim().start()),
         None => false,
@@ -410,24 +442,27 @@ fn merge<O: Opening>(
 /// Gathers what workers ran over a system into one run: the history of the system, with what stands in the logs alone. It leaves what the system has. A job
 /// that isn't among the `rans` counts with an empty log. Each of the `rans` has a row and starts as that says, and no two of them are of one job.
 ///
-/// Where all were run in one image, it is a run of that image's routines from the system's opening. So it has all that every run has: no two jobs hold
+/// Where all were run in one image, it is a run of that image's routines from the system's opening, and the places of its asks are those where they were made.
+/// So it has all that every run has: no two jobs hold
 /// overlapping names; what the jobs did is as their committed transactions run alone, one after the other; and each commit that clashed had to.
 pub fn gather<'b, 'a, D: Device, O: Opening>(
     alloc: Global,
     system: &System<D, O>,
     rans: &'b [Ran<'a>],
 ) -> Result<Run<'b>, Ungathered>
-    ensures merged { IfOk result (λ run. run ≡ merged_from (length O.opening.rows) (log_in rans.now) system.now.history) }
-    ensures shared { IfOk result (λ run. shared_of run ≡ system.now.history) }
-    ensures state { IfOk result (λ run. state_of O.opening run ≡ state_of O.opening system.now.history) }
-    ensures logs { IfOk result (λ run. (job : ℕ) → log_of job run ≡ log_in rans.now job) }
+    ensures merged { IfOk result (λ run. run.history ≡ merged_from (length O.opening.rows) (log_in rans.now) system.now.history) }
+    ensures shared { IfOk result (λ run. shared_of run.history ≡ system.now.history) }
+    ensures state { IfOk result (λ run. state_of O.opening run.history ≡ state_of O.opening system.now.history) }
+    ensures logs { IfOk result (λ run. (job : ℕ) → log_of job run.history ≡ log_in rans.now job) }
     ensures once { OnOk result ((job : ℕ) → times_run rans.now job ≤ 1) }
     ensures sound { OnOk result (All (λ r. IsSound (state_of O.opening system.now.history).rows r) rans.now) }
     ensures counted { OnOk result (length system.now.history ≡ counted rans.now) }
-    ensures run { (image : Loaded) → All (λ r. r.image ≡ image) rans.now → IfOk result (λ run. IsRun (program_of image) O.opening run) }
-    ensures apart { IfOk result (λ run. LocksApart (state_of O.opening run).locks) }
-    ensures serial { (image : Loaded) → All (λ r. r.image ≡ image) rans.now → IfOk result (λ run. IsAsAlone (program_of image) O.opening run) }
-    ensures clashes { (image : Loaded) → All (λ r. r.image ≡ image) rans.now → IfOk result (λ run. AllMustClash (program_of image) O.opening run) }
+    ensures run { (image : Loaded) → All (λ r. r.image ≡ image) rans.now → IfOk result (λ run. IsRun (program_of image) O.opening run.history) }
+    ensures placed { (image : Loaded) → All (λ r. r.image ≡ image) rans.now
+        → IfOk result (λ run. ArePlacedIn (program_of image) O.opening run.history (places_at run.places)) }
+    ensures apart { IfOk result (λ run. LocksApart (state_of O.opening run.history).locks) }
+    ensures serial { (image : Loaded) → All (λ r. r.image ≡ image) rans.now → IfOk result (λ run. IsAsAlone (program_of image) O.opening run.history) }
+    ensures clashes { (image : Loaded) → All (λ r. r.image ≡ image) rans.now → IfOk result (λ run. AllMustClash (program_of image) O.opening run.history) }
     ensures err { IfErr result (λ why. IsUngathered O.opening system.now.history rans.now why) }
 {
     if let Some(job) = start_differs(system, rans) {
@@ -441,12 +476,15 @@ pub fn gather<'b, 'a, D: Device, O: Opening>(
     let Ok(logs) = logs_of(alloc, rans, jobs) else {
         return Err(Ungathered::Memory);
     };
+    let Ok(places) = places_of(alloc, rans, jobs) else {
+        return Err(Ungathered::Memory);
+    };
     let first = jobs - count_made(history);
     match merge::<O>(alloc, history, &logs, first) {
         Ok(Ok(order)) => {
             // no two jobs hold overlapping names
             let _locks = system.locks(); // for the proof
-            Ok(Run::new(logs, order))
+            Ok(Run::new(logs, places, order))
         }
         Ok(Err((job, before))) => Err(Ungathered::Differs {
             job,

@@ -14,6 +14,7 @@ use Rattle.mj_semantics.specs.State.{State, principal}
 use Rattle.mj_semantics.specs.Outcome.{Needs, More, fault_bytes}
 use Rattle.mj_semantics.specs.Program.{Program}
 use Rattle.mj_semantics.specs.Job.{Start, next}
+use Rattle.mj_jobvm.specs.Places.{spot_in}
 use Rattle.mj_jobvm.specs.Limit.{IsAllowed}
 use Rattle.mj_jobvm.specs.Run.{Log, replies_of}
 
@@ -73,3 +74,13 @@ goes_on_for_five = refl
 
 asks_in_the_sixth : next program start 6 (replies_of log) ≡ Needs (asks.Device principal device_asks.End) [] (record { routine = codes "R"; line = 1 } ∷ [])
 asks_in_the_sixth = refl
+
+-- a place is that of the first name, or there is none
+fourth_line : spot_in (codes "R" ∷ codes "%TOOL" ∷ []) (1, 4) ≡ Some (record { routine = codes "R"; line = 4 })
+fourth_line = refl
+
+other_routine : spot_in (codes "R" ∷ codes "%TOOL" ∷ []) (2, 4) ≡ Some (record { routine = codes "%TOOL"; line = 4 })
+other_routine = refl
+
+nowhere : spot_in (codes "R" ∷ codes "%TOOL" ∷ []) (0, 4) ≡ None
+nowhere = refl

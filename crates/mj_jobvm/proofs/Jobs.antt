@@ -7,7 +7,7 @@ use Rattle.mj_ask.specs.declared.ask.Ask.{Ask}
 use Rattle.mj_ask.specs.declared.ask.Reply.{Reply}
 use Rattle.mj_ask.specs.Fits.{fits}
 use Rattle.mj_ask.specs.Within.{is_reply_within}
-use Rattle.mj_semantics.specs.State.{State, Locals, Place, places, ending_order}
+use Rattle.mj_semantics.specs.State.{State, Locals, Place, places, place_of, ending_order}
 use Rattle.mj_semantics.specs.Outcome.{Outcome, Needs, More, Handler, ends}
 use Rattle.mj_semantics.specs.Outcome as outcomes
 use Rattle.mj_semantics.specs.Program.{Program}
@@ -24,9 +24,11 @@ use Rattle.mj_machine.specs.Standing as turns_are
 use Rattle.mj_turn.specs.Sound.{IsSound}
 use Rattle.mj_jobvm.specs.Run.{Log, Run, replies_of, TurnsBefore, begins, goes_on, IsJobRun, IsRunAfter}
 use Rattle.mj_jobvm.specs.Told.{AdvanceTells}
+use Rattle.mj_jobvm.specs.Places.{IsPlaceOf, ArePlaces}
+use Rattle.mj_jobvm.proofs.Placed.{stands_innermost, one_place, one_more}
 
-abbrev pub run : Log → Option Ask → ℕ → Standing → Run
-run log pending spent at = record { log = log; pending = pending; spent = spent; at = at }
+abbrev pub run : Log → List (Option Place) → Option Ask → ℕ → Standing → Run
+run log kept pending spent at = record { log = log; places = kept; pending = pending; spent = spent; at = at }
 
 -- without a turn nothing is done
 idle_ends : (names : List (List ℕ)) (f : Option Fault) (back : Handler) (s : State) (replies : List Reply) → ends names f 0 back s replies ≡ More
@@ -106,16 +108,17 @@ more_before now later (inr e) more = sym e ∙ more
 
 module _ (program : Program) (start : Start) (code : Code) where
   -- what the program does with the log
-  now : (log : Log) (pending : Option Ask) (spent turns n : ℕ) (at : Standing) (r : IsRunAfter program start code turns (run log pending spent at))
+  now : (log : Log) (kept : List (Option Place)) (pending : Option Ask) (spent turns n : ℕ) (at : Standing) (r : IsRunAfter program start code turns (run log kept pending spent at))
       → onward code n at [] ≡ next program start (r.before + turns + n) (replies_of log)
-  now log pending spent turns n at r = r.rest n [] ∙ ap (next program start (r.before + turns + n)) (append-nil (replies_of log))
+  now log kept pending spent turns n at r = r.rest n [] ∙ ap (next program start (r.before + turns + n)) (append-nil (replies_of log))
 
   pub started : (at : Standing) → IsSound code.units at → ((n : ℕ) (replies : List Reply) → onward code n at replies ≡ next program start n replies)
-      → IsRunAfter program start code 0 (run [] None 0 at)
+      → IsRunAfter program start code 0 (run [] [] None 0 at)
   started at sound h = record {
     before = 0;
     counted = inl (refl, refl);
     trace = begins;
+    placed = tt;
     within = omega arith;
     going = λ n le replies. ap (λ k. next program start k replies) (let e : n ≡ 0 = omega (arith, le) in e);
     rest = λ n replies. h n replies ∙ ap (λ k. next program start k replies) (let e : n ≡ 0 + 0 + n = omega arith in e);
@@ -124,12 +127,13 @@ module _ (program : Program) (start : Start) (code : Code) where
   }
 
   -- fewer turns may be counted than are over
-  pub fewer : (log : Log) (pending : Option Ask) (counted spent turns : ℕ) (at : Standing) → counted ≤ spent
-      → IsRunAfter program start code turns (run log pending spent at) → IsRunAfter program start code turns (run log pending counted at)
-  fewer log pending counted spent turns at le r = record {
+  pub fewer : (log : Log) (kept : List (Option Place)) (pending : Option Ask) (counted spent turns : ℕ) (at : Standing) → counted ≤ spent
+      → IsRunAfter program start code turns (run log kept pending spent at) → IsRunAfter program start code turns (run log kept pending counted at)
+  fewer log kept pending counted spent turns at le r = record {
     before = r.before;
     counted = r.counted;
     trace = r.trace;
+    placed = r.placed;
     within = let w = r.within in omega (arith, w, le);
     going = r.going;
     rest = r.rest;
@@ -138,12 +142,13 @@ module _ (program : Program) (start : Start) (code : Code) where
   }
 
   -- a turn
-  pub turned : (log : Log) (spent turns : ℕ) (old new : Standing) → Steps code old turns_are.Over new → IsSound code.units new
-      → IsRunAfter program start code turns (run log None spent old) → IsRunAfter program start code (turns + 1) (run log None (spent + 1) new)
-  turned log spent turns old new h sound r = record {
+  pub turned : (log : Log) (kept : List (Option Place)) (spent turns : ℕ) (old new : Standing) → Steps code old turns_are.Over new → IsSound code.units new
+      → IsRunAfter program start code turns (run log kept None spent old) → IsRunAfter program start code (turns + 1) (run log kept None (spent + 1) new)
+  turned log kept spent turns old new h sound r = record {
     before = r.before;
     counted = r.counted;
     trace = r.trace;
+    placed = r.placed;
     within = let w = r.within in omega (arith, w);
     going = λ n le. one_further (λ k. (replies : List Reply) → next program start k (replies_of log ++ replies) ≡ More) (r.before + turns) r.going
         (λ replies. sym (r.rest 1 replies) ∙ h 0 replies ∙ idle code new replies) n (let l : n ≤ r.before + turns + 1 = omega (arith, le) in l);
@@ -154,12 +159,13 @@ module _ (program : Program) (start : Start) (code : Code) where
   }
 
   -- several turns
-  pub turned_by : (log : Log) (spent turns k : ℕ) (old new : Standing) → StepsBy code k old new → IsSound code.units new
-      → IsRunAfter program start code turns (run log None spent old) → IsRunAfter program start code (turns + k) (run log None (spent + k) new)
-  turned_by log spent turns k old new h sound r = record {
+  pub turned_by : (log : Log) (kept : List (Option Place)) (spent turns k : ℕ) (old new : Standing) → StepsBy code k old new → IsSound code.units new
+      → IsRunAfter program start code turns (run log kept None spent old) → IsRunAfter program start code (turns + k) (run log kept None (spent + k) new)
+  turned_by log kept spent turns k old new h sound r = record {
     before = r.before;
     counted = r.counted;
     trace = r.trace;
+    placed = r.placed;
     within = let w = r.within in omega (arith, w);
     going = λ n le replies.
         let rs : List Reply = replies_of log ++ replies in
@@ -177,13 +183,14 @@ module _ (program : Program) (start : Start) (code : Code) where
   }
 
   -- an ask
-  pub asking : (log : Log) (spent turns : ℕ) (a : Ask) (old : Standing) → old.given ≡ None
+  pub asking : (log : Log) (kept : List (Option Place)) (spent turns : ℕ) (a : Ask) (old : Standing) → old.given ≡ None
       → ((n : ℕ) → onward code (suc n) old [] ≡ Needs a old.state.locals (places old.state))
-      → IsRunAfter program start code turns (run log None spent old) → IsRunAfter program start code turns (run log (Some a) spent old)
-  asking log spent turns a old g h r = record {
+      → IsRunAfter program start code turns (run log kept None spent old) → IsRunAfter program start code turns (run log kept (Some a) spent old)
+  asking log kept spent turns a old g h r = record {
     before = r.before;
     counted = r.counted;
     trace = r.trace;
+    placed = r.placed;
     within = r.within;
     going = r.going;
     rest = r.rest;
@@ -192,49 +199,52 @@ module _ (program : Program) (start : Start) (code : Code) where
   }
 
   -- a run asks in the turn that it asks in, and in each later one
-  pub needs : (log : Log) (spent turns : ℕ) (a : Ask) (at : Standing) (r : IsRunAfter program start code turns (run log (Some a) spent at))
+  pub needs : (log : Log) (kept : List (Option Place)) (spent turns : ℕ) (a : Ask) (at : Standing) (r : IsRunAfter program start code turns (run log kept (Some a) spent at))
       → (n : ℕ) → next program start (r.before + turns + suc n) (replies_of log) ≡ Needs a at.state.locals (places at.state)
-  needs log spent turns a at r n = sym (now log (Some a) spent turns (suc n) at r) ∙ r.asks.1 n
+  needs log kept spent turns a at r n = sym (now log kept (Some a) spent turns (suc n) at r) ∙ r.asks.1 n
 
   -- and is still going in each before
-  still : (log : Log) (pending : Option Ask) (spent turns : ℕ) (at : Standing) (r : IsRunAfter program start code turns (run log pending spent at))
+  still : (log : Log) (kept : List (Option Place)) (pending : Option Ask) (spent turns : ℕ) (at : Standing) (r : IsRunAfter program start code turns (run log kept pending spent at))
       → (n : ℕ) → n ≤ r.before + turns → next program start n (replies_of log) ≡ More
-  still log pending spent turns at r n le = ap (next program start n) (sym (append-nil (replies_of log))) ∙ r.going n le []
+  still log kept pending spent turns at r n le = ap (next program start n) (sym (append-nil (replies_of log))) ∙ r.going n le []
 
-  pub told_asks : (log : Log) (spent : ℕ) (a : Ask) (at : Standing) → IsJobRun program start code (run log (Some a) spent at)
-      → AdvanceTells program start reports.Asks (run log (Some a) spent at)
-  told_asks log spent a at (turns, r) = (a, refl, (r.before + turns + 1, needs log spent turns a at r 0))
+  pub told_asks : (log : Log) (kept : List (Option Place)) (spent : ℕ) (a : Ask) (at : Standing) → IsJobRun program start code (run log kept (Some a) spent at)
+      → AdvanceTells program start reports.Asks (run log kept (Some a) spent at)
+  told_asks log kept spent a at (turns, r) = (a, refl, (r.before + turns + 1, needs log kept spent turns a at r 0))
 
   -- what is told again while an ask is pending
   pub told_again : (job : Run) (a : Ask) → job.pending ≡ Some a → IsJobRun program start code job → AdvanceTells program start reports.Asks job
   told_again job a e (turns, r) =
-      let P : Option Ask → Type 0 = λ p. IsRunAfter program start code turns (run job.log p job.spent job.at) in
-      let pending : IsRunAfter program start code turns (run job.log (Some a) job.spent job.at) = subst P e r in
-      (a, e, (pending.before + turns + 1, needs job.log job.spent turns a job.at pending 0))
+      let P : Option Ask → Type 0 = λ p. IsRunAfter program start code turns (run job.log job.places p job.spent job.at) in
+      let pending : IsRunAfter program start code turns (run job.log job.places (Some a) job.spent job.at) = subst P e r in
+      (a, e, (pending.before + turns + 1, needs job.log job.places job.spent turns a job.at pending 0))
 
-  pub told_ran : (log : Log) (pending : Option Ask) (spent : ℕ) (at : Standing) → IsJobRun program start code (run log pending spent at)
-      → AdvanceTells program start reports.Ran (run log pending spent at)
-  told_ran log pending spent at (turns, r) = (
+  pub told_ran : (log : Log) (kept : List (Option Place)) (pending : Option Ask) (spent : ℕ) (at : Standing) → IsJobRun program start code (run log kept pending spent at)
+      → AdvanceTells program start reports.Ran (run log kept pending spent at)
+  told_ran log kept pending spent at (turns, r) = (
     r.before,
     r.counted,
     (λ k c. only_one program start log k r.before c r.counted),
-    λ n le. still log pending spent turns at r n (let w = r.within in omega (arith, le, w)),
+    λ n le. still log kept pending spent turns at r n (let w = r.within in omega (arith, le, w)),
   )
 
-  pub told_ended : (log : Log) (pending : Option Ask) (spent : ℕ) (at : Standing)
+  pub told_ended : (log : Log) (kept : List (Option Place)) (pending : Option Ask) (spent : ℕ) (at : Standing)
       → ((n : ℕ) (replies : List Reply) → onward code (suc n) at replies ≡ outcomes.Ended)
-      → IsJobRun program start code (run log pending spent at) → AdvanceTells program start reports.Ended (run log pending spent at)
-  told_ended log pending spent at h (turns, r) = (r.before + turns + 1, sym (now log pending spent turns 1 at r) ∙ h 0 [])
+      → IsJobRun program start code (run log kept pending spent at) → AdvanceTells program start reports.Ended (run log kept pending spent at)
+  told_ended log kept pending spent at h (turns, r) = (r.before + turns + 1, sym (now log kept pending spent turns 1 at r) ∙ h 0 [])
 
   replies_more : (log : Log) (a : Ask) (r : Reply) (replies : List Reply) → replies_of log ++ r ∷ replies ≡ replies_of (log ++ (a, r) ∷ []) ++ replies
   replies_more [] a r replies = refl
   replies_more (e ∷ log) a r replies = ap (λ rs. e.1 ∷ rs) (replies_more log a r replies)
 
+  replies_one : (log : Log) (a : Ask) (r : Reply) → replies_of log ++ r ∷ [] ≡ replies_of (log ++ (a, r) ∷ [])
+  replies_one log a r = replies_more log a r [] ∙ append-nil (replies_of (log ++ (a, r) ∷ []))
+
   -- a reply
-  pub answered : (log : Log) (spent turns : ℕ) (a : Ask) (r : Reply) (at : Standing)
-      → IsTrue (fits a r) → is_reply_within program.bounds.limit r ≡ true → IsRunAfter program start code turns (run log (Some a) spent at)
-      → IsRunAfter program start code 0 (run (log ++ (a, r) ∷ []) None 0 (record at { given = Some r }))
-  answered log spent turns a r at fit small is =
+  pub answered : (log : Log) (kept : List (Option Place)) (spent turns : ℕ) (a : Ask) (r : Reply) (at : Standing)
+      → IsTrue (fits a r) → is_reply_within program.bounds.limit r ≡ true → IsRunAfter program start code turns (run log kept (Some a) spent at)
+      → IsRunAfter program start code 0 (run (log ++ (a, r) ∷ []) (kept ++ place_of at.state ∷ []) None 0 (record at { given = Some r }))
+  answered log kept spent turns a r at fit small is =
       let back : Handler = handler code.units at.restart in
       let after : (n : ℕ) (replies : List Reply)
       → left code at.control at.context at.stack n back at.state (r ∷ replies) ≡ next program start (is.before + turns + n) (replies_of (log ++ (a, r) ∷ []) ++ replies) =
@@ -250,10 +260,15 @@ module _ (program : Program) (start : Start) (code : Code) where
           at.state.locals,
           places at.state,
           refl,
-          still log (Some a) spent turns at is,
-          needs log spent turns a at is,
+          still log kept (Some a) spent turns at is,
+          needs log kept spent turns a at is,
         );
-        trace = goes_on log a r (is.before + turns + 1) at.state.locals (places at.state) is.trace (needs log spent turns a at is 0) fit small;
+        trace = goes_on log a r (is.before + turns + 1) at.state.locals (places at.state) is.trace (needs log kept spent turns a at is 0) fit small;
+        placed = subst (λ l. ArePlaces program start l (kept ++ place_of at.state ∷ [])) (replies_one log a r)
+            (one_more program start (replies_of log) kept r (place_of at.state) is.placed
+            (subst (IsPlaceOf program start (replies_of log)) (sym (stands_innermost at.state))
+            (one_place program start (replies_of log) (is.before + turns) a at.state.locals (places at.state)
+            (still log kept (Some a) spent turns at is) (needs log kept spent turns a at is))));
         within = omega arith;
         going = λ n le replies. ap (next program start n) (sym (replies_more log a r replies))
             ∙ is.going n (let l : n ≤ is.before + turns = omega (arith, le) in l) (r ∷ replies);

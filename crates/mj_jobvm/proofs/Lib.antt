@@ -1,3 +1,5 @@
+pub mod Spots
+pub mod Placed
 pub mod Jobs
 pub mod Opening
 pub mod Advance

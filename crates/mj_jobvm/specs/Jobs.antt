@@ -1,10 +1,11 @@
 -- What a caller sees of a job.
-use Rattle.std.specs.Prelude.{◌≡◌, ℕ, ◌+◌, [], ◌∷◌, Option, Some, None, Bool, true, false, IsTrue, Result, reverse}
+use Rattle.std.specs.Prelude.{◌≡◌, ℕ, ◌+◌, List, [], ◌∷◌, Option, Some, None, Bool, true, false, IsTrue, Result, reverse}
 use Rattle.mj_ask.specs.declared.ask.Ask.{Ask}
 use Rattle.mj_ask.specs.declared.ask.Reply.{Reply}
 use Rattle.mj_ask.specs.Fits.{fits}
 use Rattle.mj_ask.specs.declared.bounds.Bounds.{Bounds}
 use Rattle.mj_pcode.specs.Context.{at_unit}
+use Rattle.mj_semantics.specs.State.{Place}
 use Rattle.mj_semantics.specs.Job.{Start, opening}
 use Rattle.mj_load.specs.Image.{Loaded, program_of}
 use Rattle.mj_machine.specs.declared.machine.Machine.{Machine}
@@ -29,10 +30,10 @@ abbrev pub given_of : Bool → Log → Option Reply
 given_of false log = None
 given_of true log = last_reply log
 
-abbrev pub running : Start → Machine → Log → Bool → Option Ask → ℕ → Running
-running start machine log given pending spent = record {
+abbrev pub running : Start → Machine → Log → List (Option Place) → Bool → Option Ask → ℕ → Running
+running start machine log places given pending spent = record {
   start = start;
-  run = record { log = log; pending = pending; spent = spent; at = standing machine (given_of given log) };
+  run = record { log = log; places = places; pending = pending; spent = spent; at = standing machine (given_of given log) };
 }
 
 -- where a job stands before its first turn
@@ -41,7 +42,7 @@ opening_at bounds job = record { control = Begin; context = at_unit 0 []; stack 
 
 -- a job before its first turn, in an image with these bounds
 abbrev pub opened : Bounds → Start → Running
-opened bounds start = record { start = start; run = record { log = []; pending = None; spent = 0; at = opening_at bounds start.job } }
+opened bounds start = record { start = start; run = record { log = []; places = []; pending = None; spent = 0; at = opening_at bounds start.job } }
 
 -- the reply fits what the job asks
 abbrev pub FitsPending : Option Ask → Reply → Type 0

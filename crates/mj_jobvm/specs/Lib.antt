@@ -1,3 +1,4 @@
+pub mod Places
 pub mod Run
 pub mod Limit
 pub mod Halted

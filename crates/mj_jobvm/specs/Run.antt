@@ -10,6 +10,7 @@ use Rattle.mj_semantics.specs.Program.{Program}
 use Rattle.mj_semantics.specs.Job.{Start, next}
 use Rattle.mj_machine.specs.Standing.{Standing, Code, onward}
 use Rattle.mj_turn.specs.Sound.{IsSound}
+use Rattle.mj_jobvm.specs.Places.{ArePlaces}
 
 -- the asks of a job and their replies, in order
 abbrev pub Log : Type 0
@@ -47,10 +48,11 @@ pub data IsTrace (program : Program) (start : Start) : Log → Type 0 where
 abbrev pub HasEnded : Program → Start → Log → Type 0
 HasEnded program start log = (n : ℕ) × (next program start n (replies_of log) ≡ Ended)
 
--- what a caller may know of a job: its log, what it asks, the turns that it counted since the last reply, and where it
--- stands
+-- what a caller may know of a job: its log, where the asks in it came from, what it asks, the turns that it counted since the last
+-- reply, and where it stands
 pub record Run : Type 0 where
   pub log : Log
+  pub places : List (Option Place)
   pub pending : Option Ask
   pub spent : ℕ
   pub at : Standing
@@ -61,6 +63,8 @@ pub record IsRunAfter (program : Program) (start : Start) (code : Code) (turns :
   pub before : ℕ
   pub counted : TurnsBefore program start job.log before
   pub trace : IsTrace program start job.log
+  -- and each ask in it came from the place that is kept for it
+  pub placed : ArePlaces program start (replies_of job.log) job.places
   -- the turns that are over since the last reply are at least those that it counted
   pub within : job.spent ≤ turns
   -- at none of all turns the run was over, or asked for more than the log's replies, whatever is told next

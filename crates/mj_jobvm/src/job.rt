@@ -1,6 +1,6 @@
 // A job.
 
-ghost use Rattle.std.specs.Prelude.{◌≡◌, ◌++◌, ◌∷◌, [], Some, None, true, IsSome, Ok, IfOk, OnErr, option_copied};
+ghost use Rattle.std.specs.Prelude.{◌≡◌, ◌++◌, ◌∷◌, [], Some, None, true, IsSome, Ok, IfOk, OnOk, OnErr, option_copied};
 ghost use Rattle.mj_ask.specs.declared.ask.Ask as asks;
 ghost use Rattle.mj_ask.specs.Within.{is_reply_within};
 ghost use Rattle.mj_semantics.specs.State.{place_of};
@@ -12,12 +12,14 @@ ghost use Rattle.mj_jobvm.specs.Jobs.{FitsPending, IsRunOf, IsRunOfAfter, GoesFo
 ghost use Rattle.mj_pcode.specs.Sound.{AreChecked};
 ghost use Rattle.mj_turn.specs.Sound.{IsSound};
 ghost use Rattle.mj_machine.specs.Standing.{Steps};
-ghost use Rattle.mj_machine.specs.Kept.{standing, replied};
-ghost use Rattle.mj_jobvm.specs.Run.{IsTrace};
+ghost use Rattle.mj_machine.specs.Kept.{standing, replied, state_of};
+ghost use Rattle.mj_jobvm.specs.Places.{ArePlaces};
+ghost use Rattle.mj_jobvm.specs.Run.{IsTrace, replies_of};
 ghost use Rattle.mj_jobvm.specs.Limit.{IsLimited};
 ghost use Rattle.mj_jobvm.specs.Told.{AdvanceTells, IsWaitingAt, told_of, spent_after};
 ghost use Rattle.mj_turn.specs.Units.{AreSmall};
 
+use crate::places::Places;
 use mj_ask::{Ask, Bounds, Entry, Reply};
 use mj_frames::{Frame, Frames};
 use mj_load::Image;
@@ -61,23 +63,28 @@ pub struct Job {
     start: Start,
     machine: Machine,
     log: Vec<(Ask, Reply)>,
+    // where the asks in it came from
+    places: Places,
     // whether the log's last reply is still to be taken
     given: bool,
-    // with room for it in the log
+    // with room for it in the log, and for its place, which is noted
     pending: Option<Ask>,
     spent: u64,
 }
 
 impl Model for Job {
-    ghost use Rattle.std.specs.Prelude.{◌<◌, IsSome};
+    ghost use Rattle.std.specs.Prelude.{◌≡◌, ◌<◌, IsSome, true};
     ghost use Rattle.mj_turn.specs.Starts.{start_of};
+    ghost use Rattle.mj_semantics.specs.State.{place_of};
+    ghost use Rattle.mj_machine.specs.Kept.{state_of};
     ghost use Rattle.mj_jobvm.specs.Jobs.{Running, running};
 
     ghost Value = { Running };
 
-    ghost view = { λ j. running (start_of j.start) j.machine j.log.items j.given j.pending j.spent };
+    ghost view = { λ j. running (start_of j.start) j.machine j.log.items j.places.places j.given j.pending j.spent };
 
-    ghost invariant = { λ j. IsSome j.pending → j.log.len < j.log.cap };
+    ghost invariant = { λ j. IsSome j.pending
+        → (j.log.len < j.log.cap) × (j.places.room ≡ true) × (j.places.next ≡ place_of (state_of j.machine)) };
 }
 
 impl Job {
@@ -106,6 +113,7 @@ impl Job {
             start,
             machine,
             log: Vec::new(alloc),
+            places: Places::new(alloc),
             given: false,
             pending: None,
             spent: 0,
@@ -124,6 +132,7 @@ impl Job {
         ensures told { (start : Starts) → IsRunOf image.now start self.old
             → IfOk result (λ turn. AdvanceTells (program_of image.now) start turn self.new.run) }
         ensures log { self.new.run.log ≡ self.old.run.log }
+        ensures places { self.new.run.places ≡ self.old.run.places }
         ensures spent { self.new.run.spent ≡ spent_after result fuel self.old.run.spent }
         ensures err { OnErr result (self.new.run.pending ≡ self.old.run.pending) }
     {
@@ -153,6 +162,7 @@ impl Job {
             match went {
                 Went::On => done += 1,
                 Went::Asks(ask) => {
+                    note_place(&mut self.places, &self.machine)?;
                     wait(&mut self.pending, ask);
                     return Ok(Turn::Asks);
                 }
@@ -177,6 +187,7 @@ impl Job {
             → IsRunOf image start self.old → IsRunOf image start self.new }
         ensures state { self.new.run.at.state ≡ self.old.run.at.state }
         ensures log { (a : asks.Ask) → self.old.run.pending ≡ Some a → self.new.run.log ≡ self.old.run.log ++ (a, reply) ∷ [] }
+        ensures places { self.new.run.places ≡ self.old.run.places ++ place_of self.old.run.at.state ∷ [] }
         ensures pending { self.new.run.pending ≡ None }
         ensures spent { self.new.run.spent ≡ 0 }
     {
@@ -184,6 +195,7 @@ impl Job {
             if let Err(_) = self.log.push((ask, reply)) {
                 unreachable!();
             }
+            self.places.keep();
             self.given = true;
             self.spent = 0;
         }
@@ -198,11 +210,21 @@ impl Job {
         self.log.as_slice()
     }
 
-    /// Gives up a job for its log.
-    pub fn into_log(self) -> Vec<(Ask, Reply)>
-        ensures { result.items ≡ self.run.log }
+    /// Where the asks in its log came from, in order: as many places as the log has entries, each that of the command that asked, or none.
+    pub fn places(&self) -> &Places
+        ensures which { result.now.places ≡ self.now.run.places }
+        ensures are { (image : Loaded) (start : Starts) → IsRunOf image start self.now
+            → ArePlaces (program_of image) start (replies_of self.now.run.log) result.now.places }
     {
-        self.log
+        &self.places
+    }
+
+    /// Gives up a job for its log, and where the asks in it came from.
+    pub fn into_log(self) -> (Vec<(Ask, Reply)>, Places)
+        ensures log { result.0.items ≡ self.run.log }
+        ensures places { result.1.places ≡ self.run.places }
+    {
+        (self.log, self.places)
     }
 
     /// Its locals, which can be asked as every store can.
@@ -275,6 +297,14 @@ fn opening(alloc: Global, job: u32, bounds: Bounds) -> Machine
         replied: 0,
         held: Nodes::new(alloc),
     }
+}
+
+// Notes where the ask comes from that a job makes as it stands here.
+fn note_place(places: &mut Places, machine: &Machine) -> Result<(), AllocError>
+    ensures places { places.new.places ≡ places.old.places }
+    ensures ok { OnOk result ((places.new.room ≡ true) × (places.new.next ≡ place_of (state_of machine.now))) }
+{
+    places.note(machine.unit, machine.frames.place())
 }
 
 // Keeps an ask until its reply comes. What waited before, which is nothing, goes to `drop`: an assignment would drop an ask with all its parts here.

@@ -146,7 +146,7 @@ fn put_back(table: &mut Table, trail: &mut Trail)
     ensures trail { trail.new ≡ rest trail.old }
 {
     while let Some((place, tree)) = trail.pop() {
-        let _gone = table.exchange(place, tree);
+        drop(table.exchange(place, tree));
     }
     trail.end();
 }

@@ -10,7 +10,7 @@ use Rattle.mj_subs.specs.Name.{Name}
 use Rattle.mj_ask.specs.declared.ask.Ask.TheVariants as asks
 use Rattle.mj_ask.specs.declared.ask.SharedAsk.TheVariants as shared_asks
 use Rattle.mj_ask.specs.declared.ask.Reply.{Reply}
-use Rattle.mj_semantics.specs.State.{State}
+use Rattle.mj_semantics.specs.State.{State, counted}
 use Rattle.mj_semantics.specs.Outcome.{Handler, Timed, ask, given, fault}
 use Rattle.mj_semantics.specs.Sharing.{served, in_time, out_of_transaction, take_names, give_names}
 use Rattle.mj_pcode.specs.declared.instr.Reference.{Reference}
@@ -18,7 +18,8 @@ use Rattle.mj_pcode.specs.declared.instr.Wait.{Wait}
 use Rattle.mj_pcode.specs.declared.instr.Wait.TheVariants.{Ever, Timed as Limited}
 use Rattle.mj_semantics.specs.Evaluation.{name_of}
 use Rattle.mj_pcode.specs.Machine.{Stack, top, wait_size, waits, counts, names_on, operands}
-use Rattle.mj_lock_ops.specs.Wanted.{timeout_in, test_after, listed, wanted_in}
+use Rattle.mj_machine.proofs.Asks.{one_more}
+use Rattle.mj_lock_ops.specs.Wanted.{timeout_in, test_after, listed, refused, wanted_in}
 
 -- how long an ask may wait is known before the rest
 pub waits_known : (w : Wait) (stack : Stack) (f : Option ℤ → Timed) (n : ℕ) → waits w stack f n ≡ given (timeout_in w stack) f n
@@ -100,3 +101,58 @@ in_it rest n back s replies h = ap (λ b. (if b then fault InTransaction else re
 
 pub outside_it : (rest : Timed) (n : ℕ) (back : Handler) (s : State) (replies : List Reply) → s.level ≡ 0 → out_of_transaction rest n back s replies ≡ rest n back s replies
 outside_it rest n back s replies e = ap (λ k. (if nat_lt 0 k then fault InTransaction else rest) n back s replies) e
+
+-- the names of variables, where all have names
+abbrev pub names_told : Result (List Name) Fault → List Name
+names_told (Ok xs) = xs
+names_told (Err f) = []
+
+pub all_named : (r : Result (List Name) Fault) → refused r ≡ None → r ≡ Ok (names_told r)
+all_named (Ok xs) e = refl
+all_named (Err f) e = absurd cc
+
+pub not_all_named : (r : Result (List Name) Fault) (f : Fault) → refused r ≡ Some f → r ≡ Err f
+not_all_named (Ok xs) f e = absurd cc
+not_all_named (Err g) f e = cc
+
+-- where one name more is one, the others tell whether one of them is none
+pub refused_step : (r : Reference) (rs : List Reference) (stack : Stack) (x : Name) → first_of r rs stack ≡ Ok x → refused (names_on (r ∷ rs) stack) ≡ refused (names_on rs stack)
+refused_step r rs stack x e = ap refused (names_step r rs stack x e) ∙ by (names_on rs stack)
+  where
+    by : (q : Result (List Name) Fault) → refused (then_value q (λ xs. Ok (x ∷ xs))) ≡ refused q
+    by (Ok xs) = refl
+    by (Err f) = refl
+
+-- variables of which there is one at least have a name
+pub some_named : (rs : List Reference) (stack : Stack) → 0 < length rs → refused (names_on rs stack) ≡ None → 0 < length (names_told (names_on rs stack))
+some_named [] stack some none = absurd (omega (arith, some))
+some_named (r ∷ rs) stack some none = by (first_of r rs stack) (names_on rs stack) none
+  where
+    by : (a : Result Name Fault) (b : Result (List Name) Fault) → refused (then_value a (λ x. then_value b (λ xs. Ok (x ∷ xs)))) ≡ None
+        → 0 < length (names_told (then_value a (λ x. then_value b (λ xs. Ok (x ∷ xs)))))
+    by (Ok x) (Ok xs) h = omega arith
+    by (Ok x) (Err f) h = absurd cc
+    by (Err f) b h = absurd cc
+
+-- what LOCK is to take or give up, by how long that may take and by its names
+pub wanted_of : (rs : List Reference) (w : Wait) (stack : Stack) (y : Option ℤ) (r : Result (List Name) Fault)
+    → timeout_in w stack ≡ Ok y → names_on rs (drop (wait_size w) stack) ≡ r → wanted_in rs w stack ≡ then_value r (λ xs. Ok (y, xs))
+wanted_of rs w stack y r t e =
+    let named : Result (List Name) Fault → Option ℤ → Result (Option ℤ × List Name) Fault = λ q z. then_value q (λ xs. Ok (z, xs)) in
+    ap (λ q. then_value q (named (names_on rs (drop (wait_size w) stack)))) t ∙ ap (λ q. named q y) e
+
+pub wanted_late : (rs : List Reference) (w : Wait) (stack : Stack) (f : Fault) → timeout_in w stack ≡ Err f → wanted_in rs w stack ≡ Err f
+wanted_late rs w stack f t =
+    let named : Option ℤ → Result (Option ℤ × List Name) Fault = λ z. then_value (names_on rs (drop (wait_size w) stack)) (λ xs. Ok (z, xs)) in
+    ap (λ q. then_value q named) t
+
+-- one at least is taken, or given up, by the reply
+pub taken_told : (xs : List Name) (y : Option ℤ) (rest : Timed) (n : ℕ) (back : Handler) (s : State) (r : Reply) (replies : List Reply) → 0 < length xs
+    → s.replied < s.bounds.events → take_names xs y rest n back s (r ∷ replies) ≡ served y r rest n back (counted s) replies
+taken_told xs y rest n back s r replies some few =
+    ap (λ q. q n back s (r ∷ replies)) (some_taken xs y rest some) ∙ one_more (asks.Shared (shared_asks.Try xs y)) (λ p. served y p rest) n back s (r ∷ replies) few
+
+pub given_told : (xs : List Name) (y : Option ℤ) (rest : Timed) (n : ℕ) (back : Handler) (s : State) (r : Reply) (replies : List Reply) → 0 < length xs
+    → s.replied < s.bounds.events → give_names xs y rest n back s (r ∷ replies) ≡ served y r rest n back (counted s) replies
+given_told xs y rest n back s r replies some few =
+    ap (λ q. q n back s (r ∷ replies)) (some_given xs y rest some) ∙ one_more (asks.Shared (shared_asks.Unlock xs)) (λ p. served y p rest) n back s (r ∷ replies) few

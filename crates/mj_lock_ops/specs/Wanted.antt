@@ -28,3 +28,8 @@ listed (Some xs) = xs
 abbrev pub wanted_in : List Reference → Wait → Stack → Result (Option ℤ × List Name) Fault
 wanted_in references w stack =
     then_value (timeout_in w stack) (λ timeout. then_value (names_on references (drop (wait_size w) stack)) (λ xs. Ok (timeout, xs)))
+
+-- why variables have no names, if one of them has none
+abbrev pub refused : Result (List Name) Fault → Option Fault
+refused (Ok xs) = None
+refused (Err f) = Some f

@@ -1,21 +1,21 @@
 // LOCK.
 
-ghost use Rattle.std.specs.Prelude.{◌≡◌, ◌+◌, ◌<◌, ◌≤◌, ◌^◌, ◌∷◌, [], ◌++◌, Ok, IfOk, IfSome, OnErr, length, drop};
+ghost use Rattle.std.specs.Prelude.{◌≡◌, ◌+◌, ◌<◌, ◌≤◌, ◌^◌, ◌∷◌, [], ◌++◌, Some, Ok, IfOk, IfSome, OnErr, length, drop};
 ghost use Rattle.mj_text.specs.Failing.{then_value};
 ghost use Rattle.mj_pcode.specs.Machine as machines;
 ghost use Rattle.mj_pcode.specs.declared.instr.Instr.TheVariants as instrs;
 ghost use Rattle.mj_machine.specs.Kept.{stack_of, Obeys, Stays, replied};
-ghost use Rattle.mj_lock_ops.specs.Wanted.{listed, wanted_in};
+ghost use Rattle.mj_lock_ops.specs.Wanted.{listed, refused, wanted_in};
 
-use crate::timed::{ask_in_time, timeout_of, wait_size};
+use crate::timed::{ask_in_time, take, timeout_of, wait_size};
 use mj_ask::{Ask, Names, Reply, SharedAsk};
 use mj_machine::quiet::{discard, fail};
-use mj_machine::{Machine, TurnOutcome};
+use mj_machine::{Machine, TurnOutcome, stack};
 use mj_num::Num;
 use mj_pcode::{Reference, References, Wait};
 use mj_subs::Name;
 use mj_text::Fault;
-use mj_variable_ops::names::name_below;
+use mj_variable_ops::names::{name_below, refusal};
 use std::alloc::{AllocError, Global};
 
 /// Gives up all names that the job holds. In a transaction it is a fault.
@@ -59,6 +59,11 @@ pub fn lock(
     ensures ok { IfOk result (λ step. Obeys (instrs.Lock references.now wait) pc machine.old (replied given.entry) step machine.new) }
     ensures err { OnErr result (Stays machine.old machine.new) }
 {
+    if let Some(reply) = given {
+        if machine.replied < machine.bounds.events as u64 {
+            return Ok(take_wanted(pc, references, wait, reply, machine));
+        }
+    }
     let wanted = match read_wanted(alloc, references, wait, machine)? {
         Ok(wanted) => wanted,
         Err(fault) => return Ok(fail(fault, machine)),
@@ -91,6 +96,11 @@ pub fn unlock(
     ensures ok { IfOk result (λ step. Obeys (instrs.Unlock references.now wait) pc machine.old (replied given.entry) step machine.new) }
     ensures err { OnErr result (Stays machine.old machine.new) }
 {
+    if let Some(reply) = given {
+        if machine.replied < machine.bounds.events as u64 {
+            return Ok(take_wanted(pc, references, wait, reply, machine));
+        }
+    }
     let wanted = match read_wanted(alloc, references, wait, machine)? {
         Ok(wanted) => wanted,
         Err(fault) => return Ok(fail(fault, machine)),
@@ -105,6 +115,52 @@ pub fn unlock(
             ask_in_time(alloc, pc, count, ask, timeout, machine, given)
         }
     }
+}
+
+// Takes the reply to what LOCK asked, which the operands say. Makes no name of it, but faults where one can't be made.
+fn take_wanted(
+    pc: usize,
+    references: &References,
+    wait: Wait,
+    reply: &Reply,
+    machine: &mut Machine,
+) -> TurnOutcome
+    requires next { pc + 1 < 2 ^ 64 }
+    requires enough { machines.counts references.now + machines.wait_size wait ≤ length machine.old.stack.items }
+    requires more { machine.old.replied < machine.old.bounds.events }
+    ensures lock { Obeys (instrs.Lock references.now wait) pc machine.old (Some reply.now) result machine.new }
+    ensures unlock { Obeys (instrs.Unlock references.now wait) pc machine.old (Some reply.now) result machine.new }
+{
+    let timeout = match timeout_of(wait, &machine.stack) {
+        Ok(timeout) => timeout,
+        Err(fault) => return fail(fault, machine),
+    };
+    let above = wait_size(wait);
+    let variables = references.as_slice();
+    if let Some(fault) = refusal_below(variables, machine, above) {
+        return fail(fault, machine);
+    }
+    let count = counts(variables) + above;
+    if variables.is_empty() {
+        return discard(pc, count, machine);
+    }
+    take(pc, count, timeout, reply, machine)
+}
+
+// Tells why variables, whose subscripts lie below `above` other operands, have no names, if one has none. It takes no memory.
+fn refusal_below(references: &[Reference], machine: &Machine, above: usize) -> Option<Fault>
+    requires { above + machines.counts references.now ≤ length machine.now.stack.items }
+    ensures { result ≡ refused (machines.names_on references.now (drop above (stack_of machine.now))) }
+{
+    let mut more = counts(references);
+    for reference in references {
+        more -= reference.count;
+        let subscripts = stack::below_both(&machine.stack, above, more, reference.count);
+        if let Some(fault) = refusal(subscripts) {
+            return Some(fault);
+        }
+    }
+    None
 }
 
 // What the operands of LOCK say.

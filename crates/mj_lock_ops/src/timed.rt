@@ -71,8 +71,8 @@ pub fn ask_in_time(
     }
 }
 
-// Counts a reply and takes it.
-fn take(
+/// Counts a reply and takes it.
+pub fn take(
     pc: usize,
     count: usize,
     timeout: Option<Num>,

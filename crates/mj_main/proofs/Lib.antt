@@ -1,3 +1,4 @@
 mod Joined
 mod Heads
+mod Migrations
 mod Waiting

@@ -1,2 +1,3 @@
+pub mod Migrations
 pub mod Printed
 pub mod Statuses

@@ -33,6 +33,10 @@ abbrev pub verdict_text : Traced → Verdict → List ℕ
 verdict_text trace verdicts.Same = codes "same" ++ 10 ∷ []
 verdict_text trace (verdicts.Differs at) = codes "differs at line " ++ decimal (event_line trace at) ++ 10 ∷ []
 
+-- the line on a trace that was migrated, which has so many events
+abbrev pub migrated_line : ℕ → List ℕ
+migrated_line count = codes "migrated " ++ decimal count ++ 10 ∷ []
+
 -- a word that says what is looked for, and isn't an expression
 abbrev pub is_kind : List ℕ → Bool
 is_kind word = bytes_eq word (codes "fault") || bytes_eq word (codes "stuck") || bytes_eq word (codes "clash")

@@ -10,6 +10,7 @@
 
 mod explores;
 mod jobs;
+mod migrates;
 mod program;
 mod replays;
 mod telling;

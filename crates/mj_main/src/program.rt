@@ -17,11 +17,13 @@ ghost use Rattle.mj_begin.specs.Words.{WereGiven};
 
 use crate::explores::explore;
 use crate::jobs::waits;
+use crate::migrates::migrated;
 use crate::replays::replayed;
-use crate::telling::tell_run;
+use crate::telling::{tell_run, tell_trace};
 use crate::workers::with_workers;
+use mj_ask::EVENTS_LIMIT;
 use mj_begin::{Beginning, Outlet, begin, loaded, refused};
-use mj_command_line::{NoOrder, Order, Replay, Run, read_words};
+use mj_command_line::{Migrate, NoOrder, Order, Replay, Run, read_words};
 use mj_core::Core;
 use mj_dev::Device;
 use mj_drafts::{Lockable, ProgramError, WORDS, print, stopped};
@@ -74,6 +76,10 @@ where
             Ok(status) => status,
             Err(stop) => stopped(&stop, err),
         },
+        Ok(Order::Migrate(order)) => match migrate(rt, &order, out) {
+            Ok(status) => status,
+            Err(stop) => stopped(&stop, err),
+        },
         Err(refusal) => match tell(&refusal, out, err) {
             Ok(status) => status,
             Err(stop) => stopped(&stop, err),
@@ -121,7 +127,7 @@ where
     R::Dir: Send,
     O: Write,
     E: Write,
-    requires given { WereGiven order.now beginning.starts.items beginning.pool beginning.image.routines beginning.globals.content beginning.steps }
+    requires given { WereGiven order.now beginning.starts.items beginning.pool beginning.image beginning.globals.content beginning.steps }
     requires worded { Each IsRoutineWorded (routines_of beginning.image) }
     requires whole { AreWhole beginning.pool }
     requires text { IfSome outlet.trace (λ t. t.opening.items ≡ opening_text (Second V2) (map count_of beginning.pool) (entries_of beginning.starts.items)) }
@@ -156,7 +162,7 @@ where
     D: Device,
     G: Opening,
     requires opening { opening_of beginning.globals.content beginning.pool beginning.starts.items ≡ G.opening }
-    requires given { WereGiven order.now beginning.starts.items beginning.pool beginning.image.routines beginning.globals.content beginning.steps }
+    requires given { WereGiven order.now beginning.starts.items beginning.pool beginning.image beginning.globals.content beginning.steps }
     requires worded { Each IsRoutineWorded (routines_of beginning.image) }
     requires whole { AreWhole beginning.pool }
     requires text { IfSome outlet.now.trace
@@ -242,22 +248,42 @@ where
     requires { IfSome outlet.now.trace (λ t. IsHead core.now.image G.opening t.opening.items) }
     ensures { IfSome result (λ status. status ≤ 4) }
 {
-    // its history is a run
-    let _run = core.len(); // for the proof
     let jobs = core.jobs() as u32;
     let stop = ProgramError::of_ending(ending);
-    tell_run::<R, O, E, Core<D, Sessions<D>, G>, G>(
-        rt,
-        order,
-        outlet,
-        core.image(),
-        core,
-        jobs,
-        core.globals(),
-        stop,
-        out,
-        err,
-    )
+    let globals = core.globals();
+    match tell_run(rt, order, outlet, core, jobs, globals, stop, out, err) {
+        Some((status, true)) => Some(status.max(trace_core(rt, core, outlet, err))),
+        Some((status, false)) => Some(status),
+        None => None,
+    }
+}
+
+// Writes the trace of a core, if there is to be one, and gives the exit status of that. Only then its places take memory.
+fn trace_core<R, E, D, G>(
+    rt: &R,
+    core: &Core<D, Sessions<D>, G>,
+    outlet: &Outlet<'_, R::File>,
+    err: &mut E,
+) -> u8
+where
+    R: Files + AllocGlobal,
+    R::File: Lockable,
+    E: Write,
+    D: Device,
+    G: Opening,
+    requires { IfSome outlet.now.trace (λ t. IsHead core.now.image G.opening t.opening.items) }
+    ensures { result ≤ 4 }
+{
+    if outlet.trace.is_none() {
+        return 0;
+    }
+    // its history is a run
+    let _run = core.len(); // for the proof
+    let Ok(places) = core.all_places() else {
+        return stopped(&ProgramError::Memory, err);
+    };
+    let image = core.image();
+    tell_trace::<R, E, Core<D, Sessions<D>, G>, G>(rt, outlet, image, core, &places, err)
 }
 
 // Says what each job waits for.
@@ -283,7 +309,7 @@ fn check<'a, R: Files + AllocGlobal, O: Write, E: Write>(
 ) -> Result<u8, ProgramError<'a>>
     ensures { IfOk result (λ status. status ≤ 1) }
 {
-    let image = loaded(rt, files, Limit::V2)?;
+    let image = loaded(rt, files, Limit::V2, EVENTS_LIMIT)?;
     let count = files.len();
     let told = format!(in rt.alloc(); "ok {count}\n")?;
     print(told.as_bytes(), out)?;
@@ -309,6 +335,21 @@ fn replay<'a, R: Files + AllocGlobal, O: Write>(
     ensures { IfOk result (λ status. status ≤ 1) }
 {
     let (told, status) = replayed(rt, order)?;
+    print(told.as_bytes(), out)?;
+    Ok(status)
+}
+
+// Brings a trace to today's form, and says how many events it has.
+fn migrate<'a, R: Files + AllocGlobal, O: Write>(
+    rt: &R,
+    order: &Migrate<'a>,
+    out: &mut O,
+) -> Result<u8, ProgramError<'a>>
+where
+    R::File: Lockable,
+    ensures { IfOk result (λ status. status ≤ 1) }
+{
+    let (told, status) = migrated(rt, order)?;
     print(told.as_bytes(), out)?;
     Ok(status)
 }

@@ -2,6 +2,7 @@
 
 ghost use Rattle.std.specs.Prelude.{◌≡◌, ◌≤◌, IfOk, true};
 ghost use Rattle.std.specs.String.{string_bytes};
+ghost use Rattle.mj_globs.specs.Within.{is_content_within};
 ghost use Rattle.mj_sys.specs.Shared.{are_global};
 ghost use Rattle.mj_trace.specs.Lines.{IsTrace};
 ghost use Rattle.mj_trace.specs.Trace.{limit_of};
@@ -27,7 +28,7 @@ pub fn replayed<'a, R: Files + AllocGlobal>(
 ) -> Result<(String, u8), ProgramError<'a>>
     ensures { IfOk result (λ told. told.1 ≤ 1) }
 {
-    let trace = recorded(rt, order.trace)?;
+    let trace = recorded(rt, order.trace, order.events)?;
     match verdict(rt, order, &trace) {
         Ok(verdict) => {
             let told = verdict_text(rt.alloc(), &trace, verdict);
@@ -41,12 +42,16 @@ pub fn replayed<'a, R: Files + AllocGlobal>(
     }
 }
 
-// Reads the trace in a file.
-fn recorded<'a, R: Files + AllocGlobal>(rt: &R, file: &'a str) -> Result<Trace, ProgramError<'a>>
+/// Reads the trace in a file, where it may have so many events.
+pub fn recorded<'a, R: Files + AllocGlobal>(
+    rt: &R,
+    file: &'a str,
+    events: u32,
+) -> Result<Trace, ProgramError<'a>>
     ensures { IfOk result IsTrace }
 {
     let bytes = file_bytes(rt, file)?;
-    match read_trace(rt.alloc(), &bytes) {
+    match read_trace(rt.alloc(), &bytes, events) {
         Ok(trace) => Ok(trace),
         Err(TraceError::Memory) => Err(ProgramError::Memory),
         Err(refusal) => Err(ProgramError::Trace(refusal)),
@@ -62,7 +67,7 @@ fn verdict<'a, R: Files + AllocGlobal>(
     requires { IsTrace trace.now }
 {
     let limit = trace.limit();
-    let image = loaded(rt, &order.files, limit)?;
+    let image = loaded(rt, &order.files, limit, order.events)?;
     let verdict = match listed(rt, order.globals, limit) {
         Ok(globals) => replay_verdict(rt.alloc(), &image, globals, trace),
         Err(stop) => Err(stop),
@@ -81,13 +86,18 @@ fn replay_verdict<'a>(
     requires global { are_global globals.content ≡ true }
     requires written { IsTrace trace.now }
     requires limit { image.now.bounds.limit ≡ limit_of trace.now.form }
+    requires within { is_content_within image.now.bounds.limit globals.content ≡ true }
 {
     Ok(replay_trace(alloc, image, globals, trace)?)
 }
 
-// What is printed of a verdict, and the exit status. Lines count from 1: before the events stand those that tell the form, and one for each device
-// and each start.
-fn verdict_text(alloc: Global, trace: &Trace, verdict: Verdict) -> Result<(String, u8), AllocError>
+/// What is printed of a verdict, and the exit status. Lines count from 1: before the events stand those that tell the form, and one for each device
+/// and each start.
+pub fn verdict_text(
+    alloc: Global,
+    trace: &Trace,
+    verdict: Verdict,
+) -> Result<(String, u8), AllocError>
     ensures text { IfOk result (λ told. string_bytes told.0 ≡ verdict_text trace.now verdict) }
     ensures which { IfOk result (λ told. told.1 ≡ verdict_status verdict) }
     ensures bound { IfOk result (λ told. told.1 ≤ 1) }

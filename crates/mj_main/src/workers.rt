@@ -16,7 +16,7 @@ ghost use Rattle.mj_report.specs.Traced.{IsHead};
 ghost use Rattle.mj_begin.specs.Words.{WereGiven};
 ghost use Rattle.mj_main.specs.Statuses.{cut_stop, ungathered_stop};
 
-use crate::telling::tell_run;
+use crate::telling::{tell_run, tell_trace};
 use mj_begin::{Beginning, Outlet, save};
 use mj_command_line::Run;
 use mj_dev::Device;
@@ -50,7 +50,7 @@ where
     D: Device + Send,
     G: Opening + Send,
     requires opening { opening_of beginning.globals.content beginning.pool beginning.starts.items ≡ G.opening }
-    requires given { WereGiven order.now beginning.starts.items beginning.pool beginning.image.routines beginning.globals.content beginning.steps }
+    requires given { WereGiven order.now beginning.starts.items beginning.pool beginning.image beginning.globals.content beginning.steps }
     requires worded { Each IsRoutineWorded (routines_of beginning.image) }
     requires whole { AreWhole beginning.pool }
     requires text { IfSome outlet.now.trace
@@ -110,9 +110,19 @@ where
         Ok(run) => {
             let stop = cut_stop(cut_of(&ended.rans, ended.short));
             let jobs = ended.system.rows() as u32;
-            let status = tell_run::<R, O, E, mj_gather::Run<'_>, G>(
-                rt, order, outlet, image, &run, jobs, globals, stop, out, err,
-            );
+            let told = tell_run(rt, order, outlet, &run, jobs, globals, stop, out, err);
+            let status = match told {
+                Some((status, true)) => Some(status.max(tell_trace::<R, E, mj_gather::Run<'_>, G>(
+                    rt,
+                    outlet,
+                    image,
+                    &run,
+                    run.places(),
+                    err,
+                ))),
+                Some((status, false)) => Some(status),
+                None => None,
+            };
             forget(run);
             status
         }

@@ -28,7 +28,7 @@ use Rattle.mj_recorded.proofs.Traces.{makes}
 use Rattle.mj_recorded.proofs.Serving.{Tells, one_of, joined, serves, leaves, unshared}
 
 -- a job's replies in a history that can be written
-replies_written : (job : ℕ) (history : History) → Each CanBeWritten history → list_all is_reply (replies_of (log_of job history)) ≡ true
+pub replies_written : (job : ℕ) (history : History) → Each CanBeWritten history → list_all is_reply (replies_of (log_of job history)) ≡ true
 replies_written job [] h = refl
 replies_written job (e ∷ history) h = by (e.job == job) (replies_written job history h.1)
   where
@@ -45,14 +45,14 @@ same_job : (job : ℕ) → (job == job) ≡ true
 same_job job = eq-eqb job job refl
 
 -- its own event is in its log
-own : (e : Event) (history : History) → log_of e.job (e ∷ history) ≡ (e.ask, e.reply) ∷ log_of e.job history
+pub own : (e : Event) (history : History) → log_of e.job (e ∷ history) ≡ (e.ask, e.reply) ∷ log_of e.job history
 own e history = by (e.job == e.job) (same_job e.job)
   where
     by : (b : Bool) → b ≡ true → (if b then (e.ask, e.reply) ∷ log_of e.job history else log_of e.job history) ≡ (e.ask, e.reply) ∷ log_of e.job history
     by true p = refl
     by false p = absurd cc
 
-row_started : (rows : List Row) (job : ℕ) (row : Row) → Each IsStarted rows → row_at rows job ≡ Some row → IsStarted row
+pub row_started : (rows : List Row) (job : ℕ) (row : Row) → Each IsStarted rows → row_at rows job ≡ Some row → IsStarted row
 row_started rows zero row h e = absurd cc
 row_started rows (suc k) row h e = one_of IsStarted rows k row h e
 

@@ -1,6 +1,6 @@
 -- The trace of a run: it can be written, what is written is read back as this trace, and a replay of it finds the run again.
-use Rattle.std.specs.Prelude.{◌≡◌, ℕ, ◌≤◌, true, ◌&&◌, List, map, length, Ok, ⊤}
-use Rattle.std.specs.List.{list_all}
+use Rattle.std.specs.Prelude.{◌≡◌, ◌≤◌, ℕ, true, ◌&&◌, List, [], ◌∷◌, ◌++◌, Option, None, map, length, Ok, ⊤}
+use Rattle.std.specs.List.{list_all, slice_index_or}
 use Rattle.mj_store.specs.Questions.{Content}
 use Rattle.mj_ask.specs.Fitting.{is_content}
 use Rattle.mj_ask.specs.Started.{Started}
@@ -8,6 +8,7 @@ use Rattle.mj_ask.specs.Written.{is_entry}
 use Rattle.mj_ask.specs.Within.{is_ask_within, is_reply_within}
 use Rattle.mj_ask.specs.declared.entry.Entry.{Entry}
 use Rattle.mj_ask.specs.declared.noted.Noted.{Noted}
+use Rattle.mj_semantics.specs.State.{Place}
 use Rattle.mj_text.specs.Limit.{is_within}
 use Rattle.mj_text.specs.declared.limit.Limit.{Limit}
 use Rattle.mj_text.specs.declared.limit.Limit.TheVariants.{V1, V2}
@@ -17,18 +18,19 @@ use Rattle.mj_dev.specs.Shelves.{Shelf, AreRising, count_of, principal, left_of}
 use Rattle.mj_jobs.specs.Rows.{rows_limit}
 use Rattle.mj_sys.specs.Opening.{opening_of}
 use Rattle.mj_sys.specs.Shared.{Shared}
-use Rattle.mj_sys.specs.History.{History}
-use Rattle.mj_core.specs.Runs.{IsRun}
-use Rattle.mj_replica.specs.Replays.{history_of, Says}
+use Rattle.mj_sys.specs.declared.event.Event.{Event}
+use Rattle.mj_sys.specs.History.{History, log_of}
+use Rattle.mj_core.specs.Runs.{IsRun, ArePlacedIn}
+use Rattle.mj_replica.specs.Replays.{history_of}
+use Rattle.mj_replica.specs.Placed.{spot_for, AllCameFrom, SaysPlaced}
 use Rattle.mj_replica.specs.Replicas.{AreWhole, IsLongAt}
 use Rattle.mj_replica.specs.declared.replaying.Verdict.{Verdict}
 use Rattle.mj_replica.specs.declared.replaying.Verdict.TheVariants as verdicts
 use Rattle.mj_trace.specs.declared.form.Form.TheVariants.{Second}
-use Rattle.mj_trace.specs.Spelling.{placeless}
 use Rattle.mj_trace.specs.Trace.{Traced, trace_text}
 use Rattle.mj_trace.specs.Lines.{reading_of, events_limit, IsTrace}
 use Rattle.mj_trace.specs.Sized.{IsSized}
-use Rattle.mj_replay.specs.Traces.{bare_start, opening_in}
+use Rattle.mj_replay.specs.Traces.{bare_start, opening_in, IsMigrated}
 
 -- ---- what is written
 
@@ -36,13 +38,23 @@ use Rattle.mj_replay.specs.Traces.{bare_start, opening_in}
 abbrev pub entries_of : List Started → List Entry
 entries_of starts = map (λ s. s.entry) starts
 
--- of each event its job, what that asked, and what it was told
-abbrev pub told_of : History → List Noted
-told_of history = map (λ e. placeless e.job e.ask e.reply) history
+-- an event that comes behind a history: its job, the place of its ask, which is as far among the job's as there are events of that before, what was asked, and
+-- what the job was told
+abbrev pub noted_at : (ℕ → List (Option Place)) → History → Event → Noted
+noted_at places front e =
+    record { job = e.job; spot = spot_for (slice_index_or (places e.job) (length (log_of e.job front)) None); ask = e.ask; reply = e.reply }
+
+-- so with each event of a history that goes on behind another, and with each of a whole one
+abbrev pub noted_behind : (ℕ → List (Option Place)) → History → History → List Noted
+noted_behind places front [] = []
+noted_behind places front (e ∷ history) = noted_at places front e ∷ noted_behind places (front ++ e ∷ []) history
+
+abbrev pub noted_of : (ℕ → List (Option Place)) → History → List Noted
+noted_of places history = noted_behind places [] history
 
 -- the trace of a run that began with these devices and starts, where texts have this limit
-abbrev pub trace_of : Limit → List Shelf → List Started → History → Traced
-trace_of limit pool starts history = record { form = Second limit; pool = map count_of pool; starts = entries_of starts; events = told_of history }
+abbrev pub trace_of : Limit → List Shelf → List Started → List Noted → Traced
+trace_of limit pool starts events = record { form = Second limit; pool = map count_of pool; starts = entries_of starts; events = events }
 
 -- each text of a trace is one of this limit. None is above the greater one
 abbrev pub IsWithin : Limit → Traced → Type 0
@@ -71,23 +83,43 @@ abbrev pub SaysSame : Loaded → Shared → History → Verdict → Type 0
 SaysSame image opening history verdicts.Same = ⊤
 SaysSame image opening history (verdicts.Differs at) = IsLongAt image opening history at
 
--- These bytes are the trace of a run: one that can be written, and is within the sizes of its values. They are read as this trace, over the globals it
--- has the opening of the run, its events are those of the run, and a replay says so.
-pub record IsReadBack (image : Loaded) (opening : Shared) (history : History) (bytes : List ℕ) : Type 0 where
+-- These bytes are the trace of a run: one that can be written, and is within the sizes of its values. They are read as this trace where there may be so
+-- many events, over the globals it has the opening of the run, its events are those of the run, each from the place where its ask came from, and a replay
+-- says so.
+pub record IsReadBack (most : ℕ) (image : Loaded) (opening : Shared) (history : History) (bytes : List ℕ) : Type 0 where
   pub trace : Traced
   pub formed : IsTrace trace
   pub sized : IsSized trace
   pub text : bytes ≡ trace_text trace
-  pub read : reading_of bytes ≡ Ok trace
+  pub read : reading_of most bytes ≡ Ok trace
   pub opens : opening_in opening.globals trace ≡ opening
   pub events : history_of trace.events ≡ history
-  pub same : (verdict : Verdict) → Says (program_of image) (opening_in opening.globals trace) (history_of trace.events) verdict → SaysSame image opening history verdict
+  pub places : AllCameFrom (program_of image) opening [] trace.events
+  pub same : (verdict : Verdict) → SaysPlaced (program_of image) (opening_in opening.globals trace) trace.events verdict → SaysSame image opening history verdict
 
--- What is written of a run is read back, where the names of its routines are words, as they are in routines that were read, it has no more events than a
--- trace may have, its values are within their sizes, as those are that lie in memory, and within the limit of the routines, as all are within the greater one.
+-- What is written of a run is read back, where the names of its routines are words, as they are in routines that were read, the places are those of its asks,
+-- it has no more events than are read, nor than a trace may have, its values are within their sizes, as those are that lie in memory, and within the limit of the routines, as
+-- all are within the greater one.
 abbrev pub AreReadBack : Type 0
 AreReadBack =
-    (image : Loaded) (globals : Content) (pool : List Shelf) (starts : List Started) (history : History) → Each IsRoutineWorded (routines_of image)
-    → IsBeginning globals pool starts → IsRun (program_of image) (opening_of globals pool starts) history → length history ≤ events_limit
-    → IsSized (trace_of image.bounds.limit pool starts history) → IsWithin image.bounds.limit (trace_of image.bounds.limit pool starts history)
-    → IsReadBack image (opening_of globals pool starts) history (trace_text (trace_of image.bounds.limit pool starts history))
+    (most : ℕ) (image : Loaded) (globals : Content) (pool : List Shelf) (starts : List Started) (history : History) (places : ℕ → List (Option Place))
+    → Each IsRoutineWorded (routines_of image) → IsBeginning globals pool starts → IsRun (program_of image) (opening_of globals pool starts) history
+    → ArePlacedIn (program_of image) (opening_of globals pool starts) history places → length history ≤ most → most ≤ events_limit
+    → IsSized (trace_of image.bounds.limit pool starts (noted_of places history))
+    → IsWithin image.bounds.limit (trace_of image.bounds.limit pool starts (noted_of places history))
+    → IsReadBack most image (opening_of globals pool starts) history (trace_text (trace_of image.bounds.limit pool starts (noted_of places history)))
+
+-- A trace can be written: what is written, within the sizes of its values, is read as this trace where there may be so many events, and a replay over these
+-- globals says that it is a run.
+pub record IsWrittenAgain (most : ℕ) (image : Loaded) (globals : Content) (new : Traced) : Type 0 where
+  pub formed : IsTrace new
+  pub read : IsSized new → reading_of most (trace_text new) ≡ Ok new
+  pub same : (verdict : Verdict) → SaysPlaced (program_of image) (opening_in globals new) new.events verdict
+      → SaysSame image (opening_in globals new) (history_of new.events) verdict
+
+-- So with a trace that was brought to today's form, where the names of the routines are words and the globals can be listed, as those are that were read, and
+-- the trace that it was made of has no more events than are read.
+abbrev pub AreMigratedReadBack : Type 0
+AreMigratedReadBack =
+    (most : ℕ) (image : Loaded) (globals : Content) (old new : Traced) → Each IsRoutineWorded (routines_of image) → is_content globals ≡ true → IsTrace old
+    → length old.events ≤ most → IsMigrated (program_of image) globals old new → IsWrittenAgain most image globals new

@@ -2,7 +2,7 @@
 
 ghost use Rattle.mj_recorded.specs.Agreeing.{AnswersAgree, AsksAreTold, LogsFollow};
 ghost use Rattle.mj_recorded.specs.Laws.{AreRecorded};
-ghost use Rattle.mj_recorded.specs.Traces.{AreReadBack};
+ghost use Rattle.mj_recorded.specs.Traces.{AreReadBack, AreMigratedReadBack};
 
 /// What calls of a job's `advance` tell with one log agrees: it is one ask, and none where the job has ended. A job shows no other ask, and its log
 /// goes on with no other.
@@ -21,4 +21,9 @@ pub fn events_are_written()
 /// and globals says that it is a run, unless a job goes on for so long that it may be taken for one that asks nothing more.
 pub fn traces_are_read_back()
     ensures { AreReadBack }
+{}
+
+/// A trace that was brought to today's form can be written, is read back as it was made, and a replay of it says that it is a run.
+pub fn migrated_traces_are_read_back()
+    ensures { AreMigratedReadBack }
 {}

@@ -7,4 +7,6 @@
 
 mod laws;
 
-pub use laws::{answers_agree, events_are_written, traces_are_read_back};
+pub use laws::{
+    answers_agree, events_are_written, migrated_traces_are_read_back, traces_are_read_back,
+};

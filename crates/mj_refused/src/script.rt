@@ -1,6 +1,6 @@
 // What jobs ask and are told, written down as the events of a trace.
 
-use mj_ask::{Ask, Noted, Reply};
+use mj_ask::{Ask, EVENTS_LIMIT, Noted, Reply};
 use mj_text::Failure;
 use mj_trace::{Form, Trace, event_line, read_trace};
 use std::alloc::{AllocError, Global};
@@ -8,7 +8,7 @@ use std::alloc::{AllocError, Global};
 /// The trace of two jobs with these events.
 pub fn script(alloc: Global, events: &str) -> Result<Trace, Failure> {
     let text = format!(in alloc; "mj-trace 1\npool \"0\" 3\nstart ^R\nstart ^R\n{events}")?;
-    let read = read_trace(alloc, text.as_bytes());
+    let read = read_trace(alloc, text.as_bytes(), EVENTS_LIMIT);
     drop(text);
     match read {
         Ok(trace) => Ok(trace),

@@ -6,6 +6,7 @@ pub mod Admitting
 pub mod Rounds
 pub mod Telling
 pub mod Standing
+pub mod Spotting
 pub mod Viewing
 pub mod Whole
 pub mod Pools

@@ -29,7 +29,7 @@ event_there : (events : List Recording) (at : ℕ) (e : Recording) → slice_get
 event_there events at e is = slice_get-map event_of events at ∙ ap (option_map event_of) is
 
 -- one event more
-take_on : (events : List Recording) (at : ℕ) (e : Recording) → slice_get events at ≡ Some e → take (at + 1) (history_of events) ≡ take at (history_of events) ++ event_of e ∷ []
+pub take_on : (events : List Recording) (at : ℕ) (e : Recording) → slice_get events at ≡ Some e → take (at + 1) (history_of events) ≡ take at (history_of events) ++ event_of e ∷ []
 take_on events at e is =
     let there = event_there events at e is in
     take_more (history_of events) at (event_of e) (slice_get_within (history_of events) at (event_of e) there)
@@ -52,7 +52,7 @@ module _ (image : Loaded) (opening : Shared) (events : List Recording) (at : ℕ
     unmade = not;
   }
 
-take_past : {X Y : Type 0} (f : X → Y) (n : ℕ) (xs : List X) → length xs ≤ n → take n (map f xs) ≡ map f xs
+pub take_past : {X Y : Type 0} (f : X → Y) (n : ℕ) (xs : List X) → length xs ≤ n → take n (map f xs) ≡ map f xs
 take_past f zero [] le = refl
 take_past f (suc n) [] le = refl
 take_past f zero (x ∷ xs) le = absurd (omega (arith, le))

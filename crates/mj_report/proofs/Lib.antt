@@ -1,3 +1,4 @@
 mod Counting
 mod Lines
 mod ReadBack
+mod Lent

@@ -1,6 +1,6 @@
 -- The trace of a run: what stands before its events.
-use Rattle.std.specs.Prelude.{◌≡◌, ℕ, true, List, map}
-use Rattle.std.specs.List.{list_all}
+use Rattle.std.specs.Prelude.{◌≡◌, ◌==◌, ◌+◌, ℕ, true, List, map, if◌then◌else◌}
+use Rattle.std.specs.List.{list_all, slice_index_or}
 use Rattle.mj_ask.specs.Started.{Started}
 use Rattle.mj_rou.specs.Words.{Each, IsRoutineWorded}
 use Rattle.mj_load.specs.Image.{Loaded, routines_of}
@@ -24,3 +24,11 @@ pub record IsHead (image : Loaded) (opening : Shared) (head : List ℕ) : Type 0
   pub opens : opening ≡ opening_of opening.globals pool starts
   pub text : head ≡ opening_text (Second V2) (map count_of pool) (entries_of starts)
   pub sized : list_all device_count_fits (map count_of pool) ≡ true
+
+-- how many events of a job were counted
+abbrev pub count_in : List ℕ → ℕ → ℕ
+count_in counts job = slice_index_or counts job 0
+
+-- one more of this job
+abbrev pub with_one : (ℕ → ℕ) → ℕ → ℕ → ℕ
+with_one counts job k = if k == job then counts k + 1 else counts k

@@ -63,7 +63,7 @@ impl<D: Device, A: Answerer<Fresh<D>>, O: Opening> Events for Core<D, A, O> {
 
 // Jobs that workers ran.
 impl<'a> Events for Run<'a> {
-    ghost history = { λ run. run };
+    ghost history = { λ run. run.history };
 
     fn count(&self) -> usize {
         self.len()

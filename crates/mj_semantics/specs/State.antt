@@ -61,8 +61,9 @@ pub record TransactionMark : Type 0 where
   pub depth : ℕ
   pub place : Option Place
 
--- the bounds of the program, which stay; the job's number, `$JOB`; the locals; what NEWs saved, the newest first; `$TEST`; the frames, the innermost first; the open
--- devices in order of opening, of which the principal one is the first; the name of the current one, `$IO`; `$TLEVEL`, `$TRESTART`
+-- the bounds of the program, which stay; the job's number, `$JOB`; the locals; what NEWs saved, the newest first; `$TEST`; the
+-- frames, the innermost first; the open devices in order of opening, of which the principal one is the first; the name of the
+-- current one, `$IO`; `$TLEVEL`, `$TRESTART`
 -- and the mark of the outermost TSTART, if a transaction is open; how many asks were replied to; and what a MERGE has read and not
 -- put yet
 pub record State : Type 0 where

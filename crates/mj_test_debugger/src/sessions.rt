@@ -65,7 +65,7 @@ fn a_session_goes_back_and_forth(rt: HostRuntime) -> Result<(), Fail> {
         "--start|^R",
         ROUTINE,
         "s 1\ns 1\nback\ng\ns 1\nfwd\ng\nx\n",
-        "1 - dev \"0\" begin done\n1 - set ^A \"20\" done\n1 - set ^A \"20\" done\nnot at end\n1 - set ^A \"20\" done\n^A=\"20\"\n?\n",
+        "1 - dev \"0\" begin done\n1 R:1 set ^A \"20\" done\n1 R:1 set ^A \"20\" done\nnot at end\n1 R:1 set ^A \"20\" done\n^A=\"20\"\n?\n",
         "",
         0,
     )
@@ -110,12 +110,12 @@ fn steps_go_up_to_the_end(rt: HostRuntime) -> Result<(), Fail> {
         "1 - dev \"0\" begin done
 C2
 C1
-1 - set ^A \"20\" done
-1 - value ^A \"20\"
-1 - dev \"0\" write \"20\" done
-1 - dev \"0\" write \"\\0a\" done
-1 - dev \"0\" end done
-1 - halt done
+1 R:1 set ^A \"20\" done
+1 R:1 value ^A \"20\"
+1 R:1 dev \"0\" write \"20\" done
+1 R:1 dev \"0\" write \"\\0a\" done
+1 R:1 dev \"0\" end done
+1 R:1 halt done
 C3
 C3
 ^A=\"20\"
@@ -136,15 +136,15 @@ fn what_stands_at_the_place_is_shown(rt: HostRuntime) -> Result<(), Fail> {
         "C1
 C1
 1 - dev \"0\" begin done
-1 - set ^G(5) \"1\" done
+1 R:2 set ^G(5) \"1\" done
 R:2
 R:1
 N=\"5\"
 X=\"1\"
 Y(\"a\",2)=\"q\"\"r\"
 ^G(5)=\"1\"
-1 - set ^G(5) \"1\" done
-1 - set ^G(5) \"1\" done
+1 R:2 set ^G(5) \"1\" done
+1 R:2 set ^G(5) \"1\" done
 R:2
 R:1
 ",
@@ -175,19 +175,19 @@ fn each_place_is_shown_back_and_forth(rt: HostRuntime) -> Result<(), Fail> {
             "fwd\nfwd\nfwd\ng\ns 1\nback\nback\nback\ng\nk\nv 1\nf 1\n",
         ),
         concat!(
-            "1 - dev \"0\" begin done\n1 - set ^A \"1\" done\n1 - try ^B got\n1 - set ^A \"5\" done\n1 - try ^B got\n1 - set ^A(5) \"q\" done\n",
+            "1 - dev \"0\" begin done\n1 R:1 set ^A \"1\" done\n1 R:1 try ^B got\n1 R:2 set ^A \"5\" done\n1 R:2 try ^B got\n1 R:2 set ^A(5) \"q\" done\n",
             "^A=\"5\"\n^A(5)=\"q\"\n1 ^B 2\nN=\"5\"\nX=\"1\"\nY=\"q\"\nR:2\nR:1\n",
-            "1 - set ^A(5) \"q\" done\n^A=\"5\"\n1 ^B 2\nN=\"5\"\nX=\"1\"\nY=\"q\"\nR:2\nR:1\n",
-            "1 - try ^B got\n^A=\"5\"\n1 ^B 1\nN=\"5\"\nX=\"1\"\nR:2\nR:1\n",
-            "1 - set ^A \"5\" done\n^A=\"1\"\n1 ^B 1\nX=\"1\"\nR:1\n",
-            "1 - try ^B got\n^A=\"1\"\nX=\"1\"\nR:1\n",
-            "1 - set ^A \"1\" done\n",
+            "1 R:2 set ^A(5) \"q\" done\n^A=\"5\"\n1 ^B 2\nN=\"5\"\nX=\"1\"\nY=\"q\"\nR:2\nR:1\n",
+            "1 R:2 try ^B got\n^A=\"5\"\n1 ^B 1\nN=\"5\"\nX=\"1\"\nR:2\nR:1\n",
+            "1 R:2 set ^A \"5\" done\n^A=\"1\"\n1 ^B 1\nX=\"1\"\nR:1\n",
+            "1 R:1 try ^B got\n^A=\"1\"\nX=\"1\"\nR:1\n",
+            "1 R:1 set ^A \"1\" done\n",
             "1 - dev \"0\" begin done\nC1\n",
             "1 - dev \"0\" begin done\n",
-            "1 - set ^A \"1\" done\n^A=\"1\"\nX=\"1\"\nR:1\n",
-            "1 - try ^B got\n^A=\"1\"\n1 ^B 1\nX=\"1\"\nR:1\n",
-            "1 - set ^A \"5\" done\n1 - try ^B got\n1 - set ^A(5) \"q\" done\n^A=\"5\"\n^A(5)=\"q\"\n",
-            "1 - dev \"0\" end done\n1 - dev \"0\" end done\n1 - set ^A(5) \"q\" done\n1 - try ^B got\n",
+            "1 R:1 set ^A \"1\" done\n^A=\"1\"\nX=\"1\"\nR:1\n",
+            "1 R:1 try ^B got\n^A=\"1\"\n1 ^B 1\nX=\"1\"\nR:1\n",
+            "1 R:2 set ^A \"5\" done\n1 R:2 try ^B got\n1 R:2 set ^A(5) \"q\" done\n^A=\"5\"\n^A(5)=\"q\"\n",
+            "1 R:1 dev \"0\" end done\n1 R:1 dev \"0\" end done\n1 R:2 set ^A(5) \"q\" done\n1 R:2 try ^B got\n",
             "^A=\"5\"\n1 ^B 1\nN=\"5\"\nX=\"1\"\nR:2\nR:1\n",
         ),
         "",
@@ -204,20 +204,20 @@ fn names_that_are_held_are_shown(rt: HostRuntime) -> Result<(), Fail> {
         "A LOCK +^B(2),+C,+C,+^B(1) HALT\nB LOCK +^B(2):5 HALT\n",
         "k\ns 1\ns 1\ns 1\ns 1\ns 2\ns 2\ns 1\nk\ns 2 late\nback\nback\nback\nback\nk\n",
         "1 - dev \"0\" begin done
-1 - try ^B(2) got
-1 - try C got
-1 - try C got
+1 R:1 try ^B(2) got
+1 R:1 try C got
+1 R:1 try C got
 2 - dev \"0\" begin done
 busy 1 ^B(2)
-1 - try ^B(1) got
+1 R:1 try ^B(1) got
 1 ^B(1) 1
 1 ^B(2) 1
 1 C 2
-2 - try ^B(2) :5 late
-2 - try ^B(2) :5 late
-1 - try ^B(1) got
+2 R:2 try ^B(2) :5 late
+2 R:2 try ^B(2) :5 late
+1 R:1 try ^B(1) got
 2 - dev \"0\" begin done
-1 - try C got
+1 R:1 try C got
 1 ^B(2) 1
 1 C 1
 ",
@@ -236,13 +236,13 @@ fn a_go_stops_at_a_breakpoint(rt: HostRuntime) -> Result<(), Fail> {
         "b R:3\ngo 10\ngo 10\n",
         "ok
 1 - dev \"0\" begin done
-1 - set ^A \"1\" done
-1 - set ^B \"2\" done
+1 R:1 set ^A \"1\" done
+1 R:2 set ^B \"2\" done
 at 1 R:3
-1 - set ^C \"3\" done
-1 - set ^D \"4\" done
-1 - dev \"0\" end done
-1 - halt done
+1 R:3 set ^C \"3\" done
+1 R:3 set ^D \"4\" done
+1 R:4 dev \"0\" end done
+1 R:4 halt done
 ",
         "",
         0,
@@ -257,7 +257,7 @@ fn a_breakpoint_is_cleared(rt: HostRuntime) -> Result<(), Fail> {
         "--start|^R",
         " SET ^A=1\n SET ^B=2\n SET ^C=3,^D=4\n HALT\n",
         "b R:3\nb %NO:4294967295\nd R:3\nd R:3\ngo 4\n",
-        "ok\nok\nok\nok\n1 - dev \"0\" begin done\n1 - set ^A \"1\" done\n1 - set ^B \"2\" done\n1 - set ^C \"3\" done\n",
+        "ok\nok\nok\nok\n1 - dev \"0\" begin done\n1 R:1 set ^A \"1\" done\n1 R:2 set ^B \"2\" done\n1 R:3 set ^C \"3\" done\n",
         "",
         0,
     )
@@ -271,7 +271,7 @@ fn a_go_stops_at_break(rt: HostRuntime) -> Result<(), Fail> {
         "--start|^R",
         " SET ^A=1\n BREAK  SET ^B=2\n HALT\n",
         "go 9\ngo 9\n",
-        "1 - dev \"0\" begin done\n1 - set ^A \"1\" done\nat 1 R:2\n1 - set ^B \"2\" done\n1 - dev \"0\" end done\n1 - halt done\n",
+        "1 - dev \"0\" begin done\n1 R:1 set ^A \"1\" done\nat 1 R:2\n1 R:2 set ^B \"2\" done\n1 R:3 dev \"0\" end done\n1 R:3 halt done\n",
         "",
         0,
     )
@@ -285,7 +285,7 @@ fn a_break_is_cleared(rt: HostRuntime) -> Result<(), Fail> {
         "--start|^R",
         " SET ^A=1\n BREAK  SET ^B=2\n HALT\n",
         "d R:2\ngo 9\n",
-        "ok\n1 - dev \"0\" begin done\n1 - set ^A \"1\" done\n1 - set ^B \"2\" done\n1 - dev \"0\" end done\n1 - halt done\n",
+        "ok\n1 - dev \"0\" begin done\n1 R:1 set ^A \"1\" done\n1 R:2 set ^B \"2\" done\n1 R:3 dev \"0\" end done\n1 R:3 halt done\n",
         "",
         0,
     )
@@ -301,12 +301,12 @@ fn jobs_go_on_in_turn(rt: HostRuntime) -> Result<(), Fail> {
         "go 3\ngo 1\ns 2\ngo 9\n",
         "1 - dev \"0\" begin done
 2 - dev \"0\" begin done
-1 - set ^A \"1\" done
-2 - set ^B \"2\" done
-2 - dev \"0\" end done
-1 - dev \"0\" end done
-2 - halt done
-1 - halt done
+1 R:1 set ^A \"1\" done
+2 R:2 set ^B \"2\" done
+2 R:2 dev \"0\" end done
+1 R:1 dev \"0\" end done
+2 R:2 halt done
+1 R:1 halt done
 ",
         "",
         0,
@@ -361,7 +361,7 @@ fn the_last_line_may_lack_its_end(rt: HostRuntime) -> Result<(), Fail> {
         "--start|^R",
         ROUTINE,
         "s 1\ns 1",
-        "1 - dev \"0\" begin done\n1 - set ^A \"20\" done\n",
+        "1 - dev \"0\" begin done\n1 R:1 set ^A \"20\" done\n",
         "",
         0,
     )
@@ -389,7 +389,7 @@ fn a_fault_is_told_by_the_status(rt: HostRuntime) -> Result<(), Fail> {
         "--start|^R",
         " TRESTART\n",
         "go 9\nq\n",
-        "1 - dev \"0\" begin done\n1 - dev \"0\" write \"F11 NOTX R:1\\0a\" done\n1 - dev \"0\" end done\n1 - halt F11 done\n",
+        "1 - dev \"0\" begin done\n1 R:1 dev \"0\" write \"F11 NOTX R:1\\0a\" done\n1 R:1 dev \"0\" end done\n1 R:1 halt F11 done\n",
         "",
         1,
     )
@@ -403,7 +403,7 @@ fn a_prompt_shows_the_line(rt: HostRuntime) -> Result<(), Fail> {
         "--prompt|--start|^R",
         ROUTINE,
         "s 1\ns 1\nback\nx\n",
-        "1 - dev \"0\" begin done\n1 - set ^A \"20\" done\n1 - set ^A \"20\" done\n?\n",
+        "1 - dev \"0\" begin done\n1 R:1 set ^A \"20\" done\n1 R:1 set ^A \"20\" done\n?\n",
         "> > job 1 at R:1: SET ^A=2+3*4 WRITE ^A,! HALT\n> > > ",
         0,
     )
@@ -415,7 +415,7 @@ fn a_refused_routine_is_told(rt: HostRuntime) -> Result<(), Fail> {
     answers(&rt, "--start|^R", " SET A=\n", "s 1\n", "", "L2 R:1:8\n", 2)
 }
 
-// The record holds 1,000,000 events: 23 bytes for the first, and 16 for each `HANG`. Behind them no step is made, whichever job that is there makes it and
+// The record holds 1,000,000 events: 23 bytes for the first, and 18 for each `HANG`. Behind them no step is made, whichever job that is there makes it and
 // also where its ask could not be late; a `go` ends there, and the place still goes back.
 #[test]
 fn a_step_behind_1000000_events_is_refused(rt: HostRuntime) -> Result<(), Fail> {
@@ -436,8 +436,8 @@ fn is_full(rt: &impl Runner, folder: &str) -> Result<(), Fail> {
 }
 
 fn judge_full(commands: &str, ran: &Ran) -> Result<(), Fail> {
-    let end = b"1 - rest 1 done\nC4\nC4\nC4\nC1\n1 - rest 1 done\n";
-    let is = ran.out.len() == 23 + 999_999 * 16 + 12 + 16 && ran.out.ends_with(end);
+    let end = b"1 R:1 rest 1 done\nC4\nC4\nC4\nC1\n1 R:1 rest 1 done\n";
+    let is = ran.out.len() == 23 + 999_999 * 18 + 12 + 18 && ran.out.ends_with(end);
     if is && ran.err.is_empty() && ran.status == 4 {
         return Ok(());
     }
@@ -465,7 +465,7 @@ fn writes(rt: &impl Runner, folder: &str) -> Result<(), Fail> {
     drop(ran);
     told?;
     let trace =
-        "mj-trace 2\nlimit 1048576\npool \"0\" 255\nstart ^R\n1 - dev \"0\" begin done\n1 - set ^A \"20\" done\n";
+        "mj-trace 2\nlimit 1048576\npool \"0\" 255\nstart ^R\n1 - dev \"0\" begin done\n1 R:1 set ^A \"20\" done\n";
     judge_file(rt, folder, "trace", Some(trace))?;
     judge_file(rt, folder, "saved", Some("mj-globals 2\n^A=\"20\"\n"))?;
     remove(rt, folder)

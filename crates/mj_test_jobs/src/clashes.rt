@@ -1,6 +1,6 @@
 // SERIAL transactions of two jobs, step by step: what they ask and are told, and the blocks of that.
 
-use mj_ask::{Ask, Reply, SharedAsk};
+use mj_ask::{Ask, EVENTS_LIMIT, Reply, SharedAsk};
 use mj_serial::{Block, serial_blocks};
 use mj_store::{Access, Answer};
 use mj_sys::Event;
@@ -101,19 +101,19 @@ pool \"0\" 255
 start ^R
 start ^R
 1 - dev \"0\" begin done
-1 - begin serial done
-1 - value ^A \"5\"
+1 R:1 begin serial done
+1 R:2 value ^A \"5\"
 2 - dev \"0\" begin done
-2 - begin serial done
-2 - value ^A \"5\"
-1 - set ^A \"6\" done
-1 - commit done
-2 - set ^A \"6\" done
-2 - commit clash 1 \"5\" \"6\"
-2 - begin serial done
-2 - value ^A \"6\"
-2 - set ^A \"7\" done
-2 - commit done
+2 R:1 begin serial done
+2 R:2 value ^A \"5\"
+1 R:3 set ^A \"6\" done
+1 R:4 commit done
+2 R:3 set ^A \"6\" done
+2 R:4 commit clash 1 \"5\" \"6\"
+2 R:4 begin serial done
+2 R:2 value ^A \"6\"
+2 R:3 set ^A \"7\" done
+2 R:4 commit done
 ",
     )
 }
@@ -133,19 +133,19 @@ pool \"0\" 255
 start A^R
 start B^R
 1 - dev \"0\" begin done
-1 - begin serial done
-1 - value ^B \"0\"
+1 R:1 begin serial done
+1 R:1 value ^B \"0\"
 2 - dev \"0\" begin done
-2 - begin serial done
-2 - value ^A \"0\"
-1 - set ^A \"1\" done
-1 - commit done
-2 - set ^B \"1\" done
-2 - commit clash 1 \"0\" \"1\"
-2 - begin serial done
-2 - value ^A \"1\"
-2 - set ^B \"2\" done
-2 - commit done
+2 R:3 begin serial done
+2 R:3 value ^A \"0\"
+1 R:1 set ^A \"1\" done
+1 R:1 commit done
+2 R:3 set ^B \"1\" done
+2 R:3 commit clash 1 \"0\" \"1\"
+2 R:3 begin serial done
+2 R:3 value ^A \"1\"
+2 R:3 set ^B \"2\" done
+2 R:3 commit done
 ",
     )
 }
@@ -165,14 +165,14 @@ pool \"0\" 255
 start A^R
 start B^R
 1 - dev \"0\" begin done
-1 - begin serial done
-1 - order ^Q(\"\") 1 -
+1 R:1 begin serial done
+1 R:1 order ^Q(\"\") 1 -
 2 - dev \"0\" begin done
-2 - set ^Q(1) \"1\" done
-1 - commit clash 1 - 1
-1 - begin serial done
-1 - order ^Q(\"\") 1 1
-1 - commit done
+2 R:3 set ^Q(1) \"1\" done
+1 R:1 commit clash 1 - 1
+1 R:1 begin serial done
+1 R:1 order ^Q(\"\") 1 1
+1 R:1 commit done
 ",
     )
 }
@@ -188,7 +188,7 @@ fn what_came_back_is_no_clash(rt: HostRuntime) -> Result<(), Fail> {
         "1\n1\n1\n2\n2\n2\n1\n1\n",
     )?;
     let end =
-        "\n1 - value ^A \"5\"\n2 - dev \"0\" begin done\n2 - set ^A \"6\" done\n2 - set ^A \"5\" done\n1 - set ^B \"5\" done\n1 - commit done\n";
+        "\n1 R:1 value ^A \"5\"\n2 - dev \"0\" begin done\n2 R:3 set ^A \"6\" done\n2 R:3 set ^A \"5\" done\n1 R:1 set ^B \"5\" done\n1 R:1 commit done\n";
     let told = judge(trace.as_str().ends_with(end), trace.as_str());
     drop(trace);
     told
@@ -218,7 +218,7 @@ B TSTART ():SERIAL SET X=^A,^A=X+1 TCOMMIT
 }
 
 fn has_blocks(alloc: Global, trace: &str) -> Result<(), Fail> {
-    let end = "\n2 - data ^N 1\n2 - dev \"0\" end done\n2 - halt done\n";
+    let end = "\n2 R:7 data ^N 1\n2 R:7 dev \"0\" end done\n2 R:7 halt done\n";
     judge(trace.ends_with(end), trace)?;
     let lines = lines(alloc, trace.as_bytes())?;
     let told = judge(
@@ -247,7 +247,7 @@ plain from 26
 
 // The blocks of a trace of these bytes.
 fn lines(alloc: Global, bytes: &[u8]) -> Result<Vec<u8>, Failure> {
-    match read_trace(alloc, bytes) {
+    match read_trace(alloc, bytes, EVENTS_LIMIT) {
         Ok(trace) => {
             let lines = blocks(alloc, &trace);
             drop(trace);

@@ -38,26 +38,31 @@ fn replays_in(
 const ROUTINE: &str = " SET ^A=2+3*4 WRITE ^A,! HALT\n";
 
 const BEFORE: &str =
-    "mj-trace 2\nlimit 1048576\npool \"0\" 255\nstart ^R\n1 - dev \"0\" begin done\n1 - set ^A \"20\" done\n";
+    "mj-trace 2\nlimit 1048576\npool \"0\" 255\nstart ^R\n1 - dev \"0\" begin done\n1 R:1 set ^A \"20\" done\n";
 
 const BEHIND: &str =
-    "1 - dev \"0\" write \"20\" done\n1 - dev \"0\" write \"\\0a\" done\n1 - dev \"0\" end done\n1 - halt done\n";
+    "1 R:1 dev \"0\" write \"20\" done\n1 R:1 dev \"0\" write \"\\0a\" done\n1 R:1 dev \"0\" end done\n1 R:1 halt done\n";
 
 // With these lines between those of the beginning and those behind them.
 #[test]
 fn a_run_is_replayed(rt: HostRuntime) -> Result<(), Fail> {
-    replays_with(&rt, "1 - value ^A \"20\"\n", "same\n", 0)?;
-    replays_with(&rt, "1 - value ^A \"21\"\n", "differs at line 7\n", 1)?;
-    replays_with(&rt, "1 - value ^B -\n", "differs at line 7\n", 1)?;
+    replays_with(&rt, "1 R:1 value ^A \"20\"\n", "same\n", 0)?;
+    replays_with(&rt, "1 R:1 value ^A \"21\"\n", "differs at line 7\n", 1)?;
+    replays_with(&rt, "1 R:1 value ^B -\n", "differs at line 7\n", 1)?;
     replays_with(&rt, "", "differs at line 7\n", 1)
 }
 
-// Where an ask is said to have come from isn't looked at.
+// An ask that came from elsewhere than it is said to isn't made.
 #[test]
-fn places_are_not_compared(rt: HostRuntime) -> Result<(), Fail> {
-    replays_with(&rt, "1 R:1 value ^A \"20\"\n", "same\n", 0)?;
-    replays_with(&rt, "1 Q:7 value ^A \"20\"\n", "same\n", 0)?;
-    replays_with(&rt, "1 R:1 value ^A \"21\"\n", "differs at line 7\n", 1)
+fn places_are_compared(rt: HostRuntime) -> Result<(), Fail> {
+    replays_with(&rt, "1 R:2 value ^A \"20\"\n", "differs at line 7\n", 1)?;
+    replays_with(&rt, "1 R:0 value ^A \"20\"\n", "differs at line 7\n", 1)?;
+    let most = "1 R:4294967295 value ^A \"20\"\n";
+    replays_with(&rt, most, "differs at line 7\n", 1)?;
+    replays_with(&rt, "1 RR:1 value ^A \"20\"\n", "differs at line 7\n", 1)?;
+    replays_with(&rt, "1 - value ^A \"20\"\n", "differs at line 7\n", 1)?;
+    let begun = "mj-trace 2\nlimit 1048576\npool \"0\" 255\nstart ^R\n1 R:1 dev \"0\" begin done\n";
+    replays(&rt, begun, ROUTINE, "differs at line 5\n", "", 1)
 }
 
 // A trace of the older form has no line of a limit, and no places.
@@ -103,7 +108,7 @@ pool \"F\" 4294967295
 pool \"G\" 4294967295
 start ^R
 1 - dev \"0\" begin done
-1 - set ^A \"20\" done
+1 R:1 set ^A \"20\" done
 ";
     replays(&rt, trace, ROUTINE, "same\n", "", 0)?;
     replays(&rt, trace, " SET ^A=21\n", "differs at line 8\n", "", 1)
@@ -120,7 +125,7 @@ fn a_run_over_globals_is_replayed(rt: HostRuntime) -> Result<(), Fail> {
 
 fn replays_over(rt: &impl Runner, folder: &str) -> Result<(), Fail> {
     let trace =
-        "mj-trace 2\nlimit 1048576\npool \"0\" 1\nstart ^R\n1 - dev \"0\" begin done\n1 - value ^A \"1\"\n1 - set ^B \"1\" done\n";
+        "mj-trace 2\nlimit 1048576\npool \"0\" 1\nstart ^R\n1 - dev \"0\" begin done\n1 R:1 value ^A \"1\"\n1 R:1 set ^B \"1\" done\n";
     write(rt, folder, "R.m", b" SET ^B=^A\n")?;
     write(rt, folder, "globals", b"mj-globals 2\n^A=\"1\"\n")?;
     write(rt, folder, "trace", trace.as_bytes())?;
@@ -138,28 +143,37 @@ fn a_run_with_the_smaller_limit_is_replayed(rt: HostRuntime) -> Result<(), Fail>
         "1 dev \"0\" write \"F5 LENGTH R:1\\0a\" done\n1 dev \"0\" end done\n1 halt F5 done\n";
     let goes_on = "1 dev \"0\" end done\n1 halt done\n";
     let older = "mj-trace 1\n";
-    replays_lengths(&rt, older, "", fails, "same\n", 0)?;
-    replays_lengths(&rt, older, "", goes_on, "differs at line 6\n", 1)
+    replays_lengths(&rt, older, "", "", fails, "same\n", 0)?;
+    replays_lengths(&rt, older, "", "", goes_on, "differs at line 6\n", 1)
 }
 
 // One of today's form says how many bytes they had at most.
 #[test]
 fn a_run_is_replayed_with_the_limit_of_its_trace(rt: HostRuntime) -> Result<(), Fail> {
     let fails =
-        "1 - dev \"0\" write \"F5 LENGTH R:1\\0a\" done\n1 - dev \"0\" end done\n1 - halt F5 done\n";
-    let goes_on = "1 - dev \"0\" end done\n1 - halt done\n";
+        "1 R:1 dev \"0\" write \"F5 LENGTH R:1\\0a\" done\n1 R:1 dev \"0\" end done\n1 R:1 halt F5 done\n";
+    let goes_on = "1 R:1 dev \"0\" end done\n1 R:1 halt done\n";
     let smaller = "mj-trace 2\nlimit 32767\n";
-    replays_lengths(&rt, smaller, "- ", fails, "same\n", 0)?;
-    replays_lengths(&rt, smaller, "- ", goes_on, "differs at line 7\n", 1)?;
+    replays_lengths(&rt, smaller, "- ", "R:1 ", fails, "same\n", 0)?;
+    replays_lengths(
+        &rt,
+        smaller,
+        "- ",
+        "R:1 ",
+        goes_on,
+        "differs at line 7\n",
+        1,
+    )?;
     let greater = "mj-trace 2\nlimit 1048576\n";
-    replays_lengths(&rt, greater, "- ", fails, "differs at line 7\n", 1)?;
-    replays_lengths(&rt, greater, "- ", goes_on, "same\n", 0)
+    replays_lengths(&rt, greater, "- ", "R:1 ", fails, "differs at line 7\n", 1)?;
+    replays_lengths(&rt, greater, "- ", "R:1 ", goes_on, "same\n", 0)
 }
 
-// Replays a trace of this head, with these lines behind two events that have this place.
+// Replays a trace of this head, with these lines behind two events that have these places.
 fn replays_lengths(
     rt: &impl Runner,
     head: &str,
+    first: &str,
     place: &str,
     lines: &str,
     out: &str,
@@ -167,7 +181,7 @@ fn replays_lengths(
 ) -> Result<(), Fail> {
     let routine = " SET X=$JUSTIFY(\"\",32767),^A=$LENGTH(X),X=X_\"a\"\n";
     let trace = format!(in rt.alloc();
-        "{head}pool \"0\" 1\nstart ^R\n1 {place}dev \"0\" begin done\n1 {place}set ^A \"32767\" done\n{lines}"
+        "{head}pool \"0\" 1\nstart ^R\n1 {first}dev \"0\" begin done\n1 {place}set ^A \"32767\" done\n{lines}"
     )?;
     let done = replays(rt, trace.as_str(), routine, out, "", status);
     drop(trace);
@@ -204,6 +218,11 @@ fn refuses_long(rt: &impl Runner, folder: &str) -> Result<(), Fail> {
         1_048_576,
         5,
     )?;
+    let head = "mj-trace 2\nlimit 32767\npool \"0\" 1\nstart ^R\n1 R:1 set ^B \"";
+    let long = repeated(rt.alloc(), head, 32_768, "x", "\" done\n")?;
+    let told = comes_to_trace(rt, folder, long.as_str(), "within", "", "X2 line 5\n", 2);
+    drop(long);
+    told?;
     remove(rt, folder)
 }
 
@@ -287,19 +306,19 @@ fn comes_to_trace(
 // What a device is said to have answered is believed where some device may have answered so. An event behind a job's halt isn't made.
 #[test]
 fn devices_are_believed(rt: HostRuntime) -> Result<(), Fail> {
-    let abc = "1 - dev \"F\" line \"abc\"\n1 - set ^A \"abc\" done\n";
+    let abc = "1 R:1 dev \"F\" line \"abc\"\n1 R:1 set ^A \"abc\" done\n";
     replays_devices(&rt, abc, "same\n", 0)?;
-    let end = "1 - dev \"F\" line end\n1 - set ^A \"\" done\n";
+    let end = "1 R:1 dev \"F\" line end\n1 R:1 set ^A \"\" done\n";
     replays_devices(&rt, end, "same\n", 0)?;
-    let abd = "1 - dev \"F\" line \"abc\"\n1 - set ^A \"abd\" done\n";
+    let abd = "1 R:1 dev \"F\" line \"abc\"\n1 R:1 set ^A \"abd\" done\n";
     replays_devices(&rt, abd, "differs at line 10\n", 1)?;
-    let write = "1 - dev \"F\" write \"abc\" done\n";
+    let write = "1 R:1 dev \"F\" write \"abc\" done\n";
     replays_devices(&rt, write, "differs at line 9\n", 1)
 }
 
 fn replays_devices(rt: &impl Runner, lines: &str, out: &str, status: u8) -> Result<(), Fail> {
     let head =
-        "mj-trace 2\nlimit 1048576\npool \"0\" 2\npool \"F\" 1\nstart ^R\n1 - dev \"0\" begin done\n1 - open \"F\" got\n1 - dev \"F\" begin done\n";
+        "mj-trace 2\nlimit 1048576\npool \"0\" 2\npool \"F\" 1\nstart ^R\n1 - dev \"0\" begin done\n1 R:1 open \"F\" got\n1 R:1 dev \"F\" begin done\n";
     let routine = " OPEN \"F\" USE \"F\" READ X SET ^A=X\n";
     let trace = format!(in rt.alloc(); "{head}{lines}")?;
     let done = replays(rt, trace.as_str(), routine, out, "", status);
@@ -309,7 +328,9 @@ fn replays_devices(rt: &impl Runner, lines: &str, out: &str, status: u8) -> Resu
 
 #[test]
 fn nothing_comes_behind_a_halt(rt: HostRuntime) -> Result<(), Fail> {
-    let behind = format!(in rt.alloc(); "{BEFORE}1 - value ^A \"20\"\n{BEHIND}1 - halt done\n")?;
+    let behind = format!(in rt.alloc();
+        "{BEFORE}1 R:1 value ^A \"20\"\n{BEHIND}1 R:1 halt done\n"
+    )?;
     let done = replays(&rt, behind.as_str(), ROUTINE, "differs at line 12\n", "", 1);
     drop(behind);
     done

@@ -51,12 +51,12 @@ limit 1048576
 pool \"0\" 255
 start ^R
 1 - dev \"0\" begin done
-1 - set ^A \"20\" done
-1 - value ^A \"20\"
-1 - dev \"0\" write \"20\" done
-1 - dev \"0\" write \"\\0a\" done
-1 - dev \"0\" end done
-1 - halt done
+1 R:1 set ^A \"20\" done
+1 R:1 value ^A \"20\"
+1 R:1 dev \"0\" write \"20\" done
+1 R:1 dev \"0\" write \"\\0a\" done
+1 R:1 dev \"0\" end done
+1 R:1 halt done
 ";
     leaves(
         &rt,
@@ -78,7 +78,7 @@ fn a_run_that_is_traced_prints(rt: HostRuntime) -> Result<(), Fail> {
         "20\n",
         "",
         0,
-        "\n1 - halt done\n",
+        "\n1 R:1 halt done\n",
     )
 }
 
@@ -94,18 +94,18 @@ start A^R
 start ^R
 1 - dev \"0\" begin done
 2 - dev \"0\" begin done
-1 - data ^A 0
-2 - data ^A 0
-1 - open \"G\" got
-1 - dev \"G\" begin failed
-1 - dev \"0\" write \"F16 DEVICE R:1\\0a\" done
-1 - dev \"G\" end done
-1 - dev \"0\" end done
-1 - halt F16 done
-2 - open \"G\" none
-2 - dev \"0\" write \"F15 NODEVICE R:1\\0a\" done
-2 - dev \"0\" end done
-2 - halt F15 done
+1 R:1 data ^A 0
+2 R:1 data ^A 0
+1 R:1 open \"G\" got
+1 R:1 dev \"G\" begin failed
+1 R:1 dev \"0\" write \"F16 DEVICE R:1\\0a\" done
+1 R:1 dev \"G\" end done
+1 R:1 dev \"0\" end done
+1 R:1 halt F16 done
+2 R:1 open \"G\" none
+2 R:1 dev \"0\" write \"F15 NODEVICE R:1\\0a\" done
+2 R:1 dev \"0\" end done
+2 R:1 halt F15 done
 ";
     leaves(
         &rt,
@@ -120,7 +120,7 @@ start ^R
 fn what_is_stuck_is_traced(rt: HostRuntime) -> Result<(), Fail> {
     let bytes = "A LOCK +^A LOCK +^B HALT\nB LOCK +^B LOCK +^A HALT\n";
     let out = "--- job 1\n--- job 2\n";
-    let tail = "\n1 - try ^A got\n2 - try ^B got\n";
+    let tail = "\n1 R:1 try ^A got\n2 R:2 try ^B got\n";
     prints(
         &rt,
         "step|--start|A^R|--start|B^R",

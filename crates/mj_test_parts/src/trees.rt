@@ -14,10 +14,12 @@ const SUBSCRIPTS: [&str; 10] = ["", "0", "1", "-1", "10", "2", "01", "a", "b", "
 
 const STEPS: u64 = 3_000;
 
-// Numbers by chance, the same in each run.
+// Numbers by chance, the same in each run. Where they are of rows, most subscripts are numbers that lie close together, and go up with each step.
 #[derive(Drop)]
 struct Chance {
     state: u64,
+    of_rows: bool,
+    step: u64,
 }
 
 impl Chance {
@@ -35,7 +37,14 @@ impl Chance {
 
 #[test]
 fn trees_answer_as_the_plain_list(rt: HostRuntime) -> Result<(), Fail> {
-    assert_eq!(rt; first_difference(rt.alloc())?, None);
+    assert_eq!(rt; first_difference(rt.alloc(), false)?, None);
+    Ok(())
+}
+
+// Rows that grow at both ends, with holes, from negative numbers on, whose ends and middles go.
+#[test]
+fn rows_answer_as_the_plain_list(rt: HostRuntime) -> Result<(), Fail> {
+    assert_eq!(rt; first_difference(rt.alloc(), true)?, None);
     Ok(())
 }
 
@@ -51,18 +60,28 @@ fn changes_are_made_whole(rt: HostRuntime) -> Result<(), Fail> {
 
 // The first step at which the answers differ. One function has the stores, and those that may fail borrow them: all that a function has is
 // dropped anew at each of its ends, and each drop is proved.
-fn first_difference(alloc: Global) -> Result<Option<u64>, Failure> {
+fn first_difference(alloc: Global, of_rows: bool) -> Result<Option<u64>, Failure> {
     let mut trees = Globals::new(alloc);
     let mut list = Flat::new(alloc);
-    let step = difference(alloc, &mut trees, &mut list);
+    let step = difference(alloc, &mut trees, &mut list, of_rows);
     drop(trees);
     drop(list);
     step
 }
 
-fn difference(alloc: Global, trees: &mut Globals, list: &mut Flat) -> Result<Option<u64>, Failure> {
-    let mut chance = Chance { state: 1 };
+fn difference(
+    alloc: Global,
+    trees: &mut Globals,
+    list: &mut Flat,
+    of_rows: bool,
+) -> Result<Option<u64>, Failure> {
+    let mut chance = Chance {
+        state: 1,
+        of_rows,
+        step: 0,
+    };
     for step in 0..STEPS {
+        chance.step = step;
         if !is_alike(alloc, trees, list, &mut chance)? {
             return Ok(Some(step));
         }
@@ -136,7 +155,11 @@ fn changes(alloc: Global, above: &Name, count: u64) -> Result<[Change; 2], Failu
 }
 
 fn put(alloc: Global, count: u64) -> Result<Change, Failure> {
-    let mut chance = Chance { state: 2 };
+    let mut chance = Chance {
+        state: 2,
+        of_rows: false,
+        step: 0,
+    };
     let first = subscripts(alloc, &mut chance, 1)?;
     let below = Name::global(Text::from(alloc, b"A")?, first);
     Ok(Change::Put(below, one_node(alloc, &mut chance, count)?))
@@ -150,6 +173,9 @@ fn one_node(alloc: Global, chance: &mut Chance, count: u64) -> Result<Nodes, Fai
 }
 
 fn access(alloc: Global, chance: &mut Chance) -> Result<Access, Failure> {
+    if chance.of_rows && chance.step % 256 < 24 {
+        return Ok(Access::Kill(in_the_middle(alloc, chance.step)?));
+    }
     let name = name(alloc, chance)?;
     Ok(match chance.below(14) {
         0 => Access::Kill(name),
@@ -160,14 +186,27 @@ fn access(alloc: Global, chance: &mut Chance) -> Result<Access, Failure> {
         6 | 7 => Access::Order(name, Direction::Backward),
         8 => Access::Query(name),
         9 => Access::Subtree(name),
+        10 | 11 if chance.of_rows => Access::Kill(name),
         _ => Access::Set(name, number(alloc, chance)),
     })
+}
+
+// A name of a row, of which each step takes the next, so that so many side by side go that they part the row.
+fn in_the_middle(alloc: Global, step: u64) -> Result<Name, Failure> {
+    let mut list = Subs::new(alloc);
+    let number = (step / 32) as i64 + (step % 256) as i64 - 20;
+    list.push(Sub::from_text(Text::from_number(alloc, number)))?;
+    Ok(Name::global(Text::from(alloc, b"%B")?, list))
 }
 
 fn name(alloc: Global, chance: &mut Chance) -> Result<Name, Failure> {
     let bytes: &[u8] = if chance.below(3) == 0 { b"A" } else { b"%B" };
     let word = Text::from(alloc, bytes)?;
-    let count = chance.below(4);
+    let count = if chance.of_rows {
+        1 + chance.below(2)
+    } else {
+        chance.below(4)
+    };
     let list = subscripts(alloc, chance, count)?;
     Ok(if chance.below(3) == 0 {
         Name::local(word, list)
@@ -179,10 +218,18 @@ fn name(alloc: Global, chance: &mut Chance) -> Result<Name, Failure> {
 fn subscripts(alloc: Global, chance: &mut Chance, count: u64) -> Result<Subs, Failure> {
     let mut list = Subs::new(alloc);
     for _ in 0..count {
-        let text = SUBSCRIPTS[chance.below(10) as usize];
-        list.push(Sub::from_text(Text::from(alloc, text.as_bytes())?))?;
+        list.push(Sub::from_text(subscript(alloc, chance)?))?;
     }
     Ok(list)
+}
+
+fn subscript(alloc: Global, chance: &mut Chance) -> Result<Text, Failure> {
+    if chance.of_rows && chance.below(12) > 0 {
+        let number = (chance.step / 32) as i64 + chance.below(40) as i64 - 30;
+        return Ok(Text::from_number(alloc, number));
+    }
+    let text = SUBSCRIPTS[chance.below(10) as usize];
+    Text::from(alloc, text.as_bytes())
 }
 
 fn nodes(alloc: Global, chance: &mut Chance) -> Result<Nodes, Failure> {

@@ -10,7 +10,7 @@ const BEFORE: &str = "mj-globals 2\n^A=\"1\"\n";
 const AFTER: &str = "mj-globals 2\n^A=\"2\"\n";
 
 const TRACE: &str =
-    "mj-trace 2\nlimit 1048576\npool \"0\" 255\nstart ^R\n1 - dev \"0\" begin done\n1 - set ^A \"2\" done\n1 - dev \"0\" end done\n1 - halt done\n";
+    "mj-trace 2\nlimit 1048576\npool \"0\" 255\nstart ^R\n1 - dev \"0\" begin done\n1 R:1 set ^A \"2\" done\n1 R:1 dev \"0\" end done\n1 R:1 halt done\n";
 
 const OVER: &str = "run|--globals|DIR/data|--save|DIR/data|--start|^R|DIR/R.m";
 

@@ -106,7 +106,7 @@ fn is_rewritten(written: &[u8], bytes: &[u8]) -> bool {
 }
 
 fn is_judged_trace(alloc: Global, bytes: &[u8]) -> Result<bool, AllocError> {
-    match read_trace(alloc, bytes) {
+    match read_trace(alloc, bytes, 1_000_000) {
         Ok(trace) => {
             let same = is_written(alloc, &trace, bytes);
             drop(trace);

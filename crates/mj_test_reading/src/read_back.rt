@@ -65,12 +65,12 @@ limit 1048576
 pool \"0\" 255
 start ^R
 1 - dev \"0\" begin done
-1 - set ^Sum \"20\" done
-1 - value ^Sum \"20\"
-1 - dev \"0\" write \"20\" done
-1 - dev \"0\" write \"\\0a\" done
-1 - dev \"0\" end done
-1 - halt done
+1 R:1 set ^Sum \"20\" done
+1 R:1 value ^Sum \"20\"
+1 R:1 dev \"0\" write \"20\" done
+1 R:1 dev \"0\" write \"\\0a\" done
+1 R:1 dev \"0\" end done
+1 R:1 halt done
 ";
 
 // A trace with places.
@@ -90,7 +90,7 @@ fn traces_are_read_and_written(rt: HostRuntime) -> Result<(), Fail> {
     let older = "mj-trace 1\npool \"0\" 1\nstart ^R\n";
     let smaller = "mj-trace 2\nlimit 32767\npool \"0\" 1\nstart ^R\n";
     for text in [FIRST, PLACED, ALL, older, smaller] {
-        let said = trace_told(rt.alloc(), text.as_bytes())?;
+        let said = trace_told(rt.alloc(), text.as_bytes(), 1_000_000)?;
         assert_eq!(rt; said.as_str(), "same");
     }
     Ok(())
@@ -139,6 +139,30 @@ pool \"1\" 1~ => X2 line 4
 1 halt done~limit 32767~ => X2 line 5
 ";
     judge(&rt, Reading::Events, rows)
+}
+
+// Behind as many events as there may be, each line is one too many, whatever it says.
+#[test]
+fn no_more_events_are_read_than_there_may_be(rt: HostRuntime) -> Result<(), Fail> {
+    let two = "1 halt done~1 halt done~ => same
+1 halt done~ => same
+1 halt done~1 halt done~1 halt done~ => X3 line 6
+1 halt done~1 halt done~no event~ => X3 line 6
+1 halt done~1 halt done~no end => X3 line 6
+1 halt done~no event~ => X2 line 5
+1 halt done~1 halt done => X2 line 5
+";
+    judge(&rt, Reading::Bounded(2), two)?;
+    judge(
+        &rt,
+        Reading::Bounded(4_294_967_295),
+        "1 halt done~1 halt done~ => same\n",
+    )?;
+    judge(
+        &rt,
+        Reading::Bounded(0),
+        " => same\n1 halt done~ => X2 line 4\n",
+    )
 }
 
 // Behind a device and a start, in today's form.

@@ -22,6 +22,8 @@ pub enum Reading {
     Events,
     /// the same, behind those of today's form
     Placed,
+    /// as a trace of so many events at most, behind a device and a start of the older form
+    Bounded(u32),
 }
 
 /// Fails with the rows of a table whose texts aren't read as they want, each with what it gives.
@@ -80,7 +82,7 @@ fn answer_text(alloc: Global, reading: Reading, text: &str) -> Result<String, Al
 fn put_text(reading: Reading, text: &str, bytes: &mut Vec<u8>) -> Result<(), AllocError> {
     match reading {
         Reading::Repeated => put_repeated(text, bytes),
-        Reading::Events => {
+        Reading::Events | Reading::Bounded(_) => {
             bytes.extend_from_slice(b"mj-trace 1\npool \"0\" 2\nstart ^R\n")?;
             put_lines(text, bytes)
         }
@@ -96,7 +98,8 @@ fn given_of(alloc: Global, reading: Reading, bytes: &[u8]) -> Result<String, All
     match reading {
         Reading::File | Reading::Repeated => outcome(alloc, bytes),
         Reading::Head => head(alloc, bytes),
-        Reading::Trace | Reading::Events | Reading::Placed => trace_told(alloc, bytes),
+        Reading::Trace | Reading::Events | Reading::Placed => trace_told(alloc, bytes, 1_000_000),
+        Reading::Bounded(events) => trace_told(alloc, bytes, events),
     }
 }
 

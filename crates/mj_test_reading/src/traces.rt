@@ -3,9 +3,9 @@
 use mj_trace::{Trace, read_trace, write_trace};
 use std::alloc::{AllocError, Global};
 
-/// `same` where the bytes are a trace, which is written as they are, else how they are refused.
-pub fn trace_told(alloc: Global, bytes: &[u8]) -> Result<String, AllocError> {
-    match read_trace(alloc, bytes) {
+/// `same` where the bytes are a trace of so many events at most, which is written as they are, else how they are refused.
+pub fn trace_told(alloc: Global, bytes: &[u8], events: u32) -> Result<String, AllocError> {
+    match read_trace(alloc, bytes, events) {
         Ok(trace) => {
             let said = compared(alloc, &trace, bytes);
             drop(trace);

@@ -108,16 +108,16 @@ piece_of form line = respelled form line (piece_in form line)
 
 -- ---- one line behind others
 
--- the most starts, and the most events
+-- the most starts, and the most events. A reader may take fewer events
 abbrev pub starts_limit : ℕ
 starts_limit = 255
 
 abbrev pub events_limit : ℕ
-events_limit = 1000000
+events_limit = 4294967295
 
--- there may be no more events
-abbrev pub is_full : Traced → Bool
-is_full t = length t.events == events_limit
+-- there are events, and no more than these may be there
+abbrev pub is_full : ℕ → Traced → Bool
+is_full most t = not (is_empty t.events) && (length t.events == most)
 
 -- a name comes after another by its bytes
 abbrev pub is_before : List ℕ → List ℕ → Bool
@@ -141,11 +141,11 @@ principal (d ∷ ds) = if bytes_eq d.0 (codes "0") then d.1 else principal ds
 abbrev pub may_start : List (List ℕ × ℕ) → ℕ → Bool
 may_start pool count = nat_lt count starts_limit && nat_lt count (principal pool)
 
--- a line may follow: devices come first, by their names, then the starts, of which there is one at least, then the events
-abbrev pub may_follow : Traced → Piece → Bool
-may_follow t (pieces.Device name count) = is_empty t.starts && is_empty t.events && stands_behind (last_device t.pool) name
-may_follow t (pieces.Start entry) = is_empty t.events && may_start t.pool (length t.starts)
-may_follow t (pieces.Event e) = not (is_empty t.starts)
+-- a line may follow: devices come first, by their names, then the starts, of which there is one at least, then the events, where there may be so many
+abbrev pub may_follow : ℕ → Traced → Piece → Bool
+may_follow most t (pieces.Device name count) = is_empty t.starts && is_empty t.events && stands_behind (last_device t.pool) name
+may_follow most t (pieces.Start entry) = is_empty t.events && may_start t.pool (length t.starts)
+may_follow most t (pieces.Event e) = not (is_empty t.starts) && nat_lt (length t.events) most
 
 -- the trace with one line more
 abbrev pub with_piece : Traced → Piece → Traced
@@ -153,52 +153,52 @@ with_piece t (pieces.Device name count) = record t { pool = t.pool ++ (name, cou
 with_piece t (pieces.Start entry) = record t { starts = t.starts ++ entry ∷ [] }
 with_piece t (pieces.Event e) = record t { events = t.events ++ e ∷ [] }
 
-abbrev pub followed_by : Traced → ℕ → Option Piece → Result Traced TraceError
-followed_by t k None = Err (errors.Line k)
-followed_by t k (Some p) = if may_follow t p then Ok (with_piece t p) else Err (errors.Line k)
+abbrev pub followed_by : ℕ → Traced → ℕ → Option Piece → Result Traced TraceError
+followed_by most t k None = Err (errors.Line k)
+followed_by most t k (Some p) = if may_follow most t p then Ok (with_piece t p) else Err (errors.Line k)
 
--- the trace with line k, which byte 10 ends. One more than there may be is too many, whatever it says
-abbrev pub lined : Traced → ℕ → List ℕ → Result Traced TraceError
-lined t k line = if is_full t then Err (errors.Long k) else followed_by t k (piece_of t.form line)
+-- the trace with line k, which byte 10 ends, where there may be so many events. One more than that is too many, whatever it says
+abbrev pub lined : ℕ → Traced → ℕ → List ℕ → Result Traced TraceError
+lined most t k line = if is_full most t then Err (errors.Long k) else followed_by most t k (piece_of t.form line)
 
 -- ---- all lines
 
 -- why line k is refused that no byte 10 ends
-abbrev pub unfinished : Traced → ℕ → TraceError
-unfinished t k = if is_full t then errors.Long k else errors.Line k
+abbrev pub unfinished : ℕ → Traced → ℕ → TraceError
+unfinished most t k = if is_full most t then errors.Long k else errors.Line k
 
-abbrev pub line_added : Traced → ℕ → List ℕ × Bool → Result Traced TraceError
-line_added t k l = if l.1 then lined t k l.0 else Err (unfinished t k)
+abbrev pub line_added : ℕ → Traced → ℕ → List ℕ × Bool → Result Traced TraceError
+line_added most t k l = if l.1 then lined most t k l.0 else Err (unfinished most t k)
 
 abbrev pub then_more : (Traced → Result Traced TraceError) → Result Traced TraceError → Result Traced TraceError
 then_more more (Ok t) = more t
 then_more more (Err e) = Err e
 
 -- the trace with the lines from k on: the first that is refused decides. Where no start stood, it is missing at the end
-abbrev pub lines_from : Traced → ℕ → List (List ℕ × Bool) → Result Traced TraceError
-lines_from t k [] = if is_empty t.starts then Err (errors.Line k) else Ok t
-lines_from t k (l ∷ ls) = then_more (λ u. lines_from u (suc k) ls) (line_added t k l)
+abbrev pub lines_from : ℕ → Traced → ℕ → List (List ℕ × Bool) → Result Traced TraceError
+lines_from most t k [] = if is_empty t.starts then Err (errors.Line k) else Ok t
+lines_from most t k (l ∷ ls) = then_more (λ u. lines_from most u (suc k) ls) (line_added most t k l)
 
 abbrev pub no_lines : Form → Traced
 no_lines form = record { form = form; pool = []; starts = []; events = [] }
 
 -- the lines behind the header of today's form: the first is that of a limit
-abbrev pub limited : List (List ℕ × Bool) → Result Traced TraceError
-limited [] = Err (errors.Line 2)
-limited (l ∷ ls) =
-    if l.1 && bytes_eq l.0 (limit_line V2) then lines_from (no_lines (Second V2)) 3 ls
-    else (if l.1 && bytes_eq l.0 (limit_line V1) then lines_from (no_lines (Second V1)) 3 ls else Err (errors.Line 2))
+abbrev pub limited : ℕ → List (List ℕ × Bool) → Result Traced TraceError
+limited most [] = Err (errors.Line 2)
+limited most (l ∷ ls) =
+    if l.1 && bytes_eq l.0 (limit_line V2) then lines_from most (no_lines (Second V2)) 3 ls
+    else (if l.1 && bytes_eq l.0 (limit_line V1) then lines_from most (no_lines (Second V1)) 3 ls else Err (errors.Line 2))
 
 -- the lines of a file: the first is the header of a form
-abbrev pub headed : List (List ℕ × Bool) → Result Traced TraceError
-headed [] = Err errors.Header
-headed (l ∷ ls) =
-    if l.1 && bytes_eq l.0 (header (Second V2)) then limited ls
-    else (if l.1 && bytes_eq l.0 (header First) then lines_from (no_lines First) 2 ls else Err errors.Header)
+abbrev pub headed : ℕ → List (List ℕ × Bool) → Result Traced TraceError
+headed most [] = Err errors.Header
+headed most (l ∷ ls) =
+    if l.1 && bytes_eq l.0 (header (Second V2)) then limited most ls
+    else (if l.1 && bytes_eq l.0 (header First) then lines_from most (no_lines First) 2 ls else Err errors.Header)
 
--- the trace that some bytes are, or their refusal
-abbrev pub reading_of : List ℕ → Result Traced TraceError
-reading_of bs = headed (lines_of bs)
+-- the trace that some bytes are, or their refusal, where there may be so many events
+abbrev pub reading_of : ℕ → List ℕ → Result Traced TraceError
+reading_of most bs = headed most (lines_of bs)
 
 -- ---- traces
 

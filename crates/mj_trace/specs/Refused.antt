@@ -1,5 +1,5 @@
 -- Why bytes are refused as a trace, said by the spelling alone: up to the line that is refused the bytes are a trace as far as it goes.
-use Rattle.std.specs.Prelude.{◌≡◌, ◌⊎◌, ℕ, ◌+◌, Bool, true, false, ◌&&◌, List, [], ◌∷◌, ◌++◌, length}
+use Rattle.std.specs.Prelude.{◌≡◌, ◌⊎◌, ℕ, ◌+◌, ◌≤◌, Bool, true, false, ◌&&◌, List, [], ◌∷◌, ◌++◌, length}
 use Rattle.std.specs.List.{list_all}
 use Rattle.mj_gfile.specs.Listing.{is_text}
 use Rattle.mj_gfile.specs.Refused.{HasLine}
@@ -42,28 +42,29 @@ is_sized (pieces.Device name count) = is_text V2 name && is_count count
 is_sized (pieces.Start entry) = true
 is_sized (pieces.Event e) = event_fits e
 
--- Behind these lines, which aren't full, there are bytes or the first start is missing. The bytes don't begin with a line that may follow: none is spelled so,
--- or byte 10 doesn't end it, or it can't stand there.
-pub record IsNoLine (before : Traced) (rest : List ℕ) : Type 0 where
+-- Behind these lines, which aren't full where there may be so many events, there are bytes or the first start is missing. The bytes don't begin with a line that
+-- may follow: none is spelled so, or byte 10 doesn't end it, or it can't stand there.
+pub record IsNoLine (most : ℕ) (before : Traced) (rest : List ℕ) : Type 0 where
   pub missing : (rest ≡ []) → before.starts ≡ []
-  pub room : is_full before ≡ false
-  pub none : (p : Piece) → is_piece before.form p ≡ true → is_sized p ≡ true → may_follow before p ≡ true → ¬ HasLine (piece_text before.form p) rest
+  pub room : is_full most before ≡ false
+  pub none : (p : Piece) → is_piece before.form p ≡ true → is_sized p ≡ true → may_follow most before p ≡ true → ¬ HasLine (piece_text before.form p) rest
 
 -- there are bytes behind as many events as there may be
-pub record IsOneTooMany (before : Traced) (rest : List ℕ) : Type 0 where
+pub record IsOneTooMany (most : ℕ) (before : Traced) (rest : List ℕ) : Type 0 where
   pub some : ¬ (rest ≡ [])
-  pub full : is_full before ≡ true
+  pub full : is_full most before ≡ true
 
--- The line of this number is the first that is refused, and this is why: up to it the bytes are a trace as far as it goes. Lines count from 1, the header
--- among them.
-pub record IsFirst (bytes : List ℕ) (number : ℕ) (IsWhy : Traced → List ℕ → Type 0) : Type 0 where
+-- The line of this number is the first that is refused, and this is why: up to it the bytes are a trace as far as it goes, of no more events than there may be.
+-- Lines count from 1, the header among them.
+pub record IsFirst (most : ℕ) (bytes : List ℕ) (number : ℕ) (IsWhy : ℕ → Traced → List ℕ → Type 0) : Type 0 where
   pub before : Traced
   pub rest : List ℕ
   pub cut : bytes ≡ trace_text before ++ rest
   pub begun : IsBegun before
   pub sized : IsSized before
+  pub few : length before.events ≤ most
   pub place : number ≡ line_count before + 1
-  pub why : IsWhy before rest
+  pub why : IsWhy most before rest
 
 -- behind the header of today's form stands no line of a limit: that is line 2
 pub record HasNoLimit (bytes : List ℕ) (number : ℕ) : Type 0 where
@@ -72,13 +73,15 @@ pub record HasNoLimit (bytes : List ℕ) (number : ℕ) : Type 0 where
   pub none : (limit : Limit) → ¬ HasLine (limit_line limit) rest
   pub second : number ≡ 2
 
--- why bytes are refused; want of memory says nothing
-abbrev pub IsTraceRefused : List ℕ → TraceError → Type 0
-IsTraceRefused bytes errors.Header = ¬ HasLine (header First) bytes × ¬ HasLine (header (Second V2)) bytes
-IsTraceRefused bytes (errors.Line number) = HasNoLimit bytes number ⊎ IsFirst bytes number IsNoLine
-IsTraceRefused bytes (errors.Long number) = IsFirst bytes number IsOneTooMany
-IsTraceRefused bytes errors.Memory = Unit {0}
+-- why bytes are refused where there may be so many events; want of memory says nothing
+abbrev pub IsTraceRefused : ℕ → List ℕ → TraceError → Type 0
+IsTraceRefused most bytes errors.Header = ¬ HasLine (header First) bytes × ¬ HasLine (header (Second V2)) bytes
+IsTraceRefused most bytes (errors.Line number) = HasNoLimit bytes number ⊎ IsFirst most bytes number IsNoLine
+IsTraceRefused most bytes (errors.Long number) = IsFirst most bytes number IsOneTooMany
+IsTraceRefused most bytes errors.Memory = Unit {0}
 
--- two refusals of some bytes are the same, unless memory was wanting
+-- two refusals of some bytes are the same, unless memory was wanting, where there may be as many events
 abbrev pub HasOneReason : Type 0
-HasOneReason = (bytes : List ℕ) (e f : TraceError) → ¬ (e ≡ errors.Memory) → ¬ (f ≡ errors.Memory) → IsTraceRefused bytes e → IsTraceRefused bytes f → e ≡ f
+HasOneReason =
+    (most : ℕ) (bytes : List ℕ) (e f : TraceError) → ¬ (e ≡ errors.Memory) → ¬ (f ≡ errors.Memory)
+    → IsTraceRefused most bytes e → IsTraceRefused most bytes f → e ≡ f

@@ -195,10 +195,6 @@ reply_text (replies.Clash clash) = codes "clash " ++ clash_text clash
 
 -- ---- events
 
--- an event of which it isn't known where its ask came from
-abbrev pub placeless : ℕ → Ask → Reply → Noted
-placeless job a r = record { job = job; spot = None; ask = a; reply = r }
-
 -- what a job asked, and what it was told
 abbrev pub told_text : Ask → Reply → List ℕ
 told_text a r = ask_text a ++ spaced (reply_text r)

@@ -19,9 +19,6 @@ use std::marker::Model;
 /// The most first jobs of a run.
 const STARTS_LIMIT: usize = 255;
 
-/// The most events of a run.
-const EVENTS_LIMIT: usize = 1_000_000;
-
 /// A run as it is written down: the devices that there are, where the first jobs start, and what each job asked and was told.
 #[derive(Drop)]
 pub struct Trace {
@@ -106,16 +103,16 @@ impl Trace {
         }
     }
 
-    /// Whether there may be no more events.
-    pub(crate) fn is_full(&self) -> bool
-        ensures { result ≡ is_full self.now }
+    /// Whether there are events, and no more than these may be there.
+    pub(crate) fn is_full(&self, events: u32) -> bool
+        ensures { result ≡ is_full events self.now }
     {
-        self.events.len() == EVENTS_LIMIT
+        !self.events.is_empty() && self.events.len() == events as usize
     }
 
-    /// Whether a line may follow that says this.
-    pub(crate) fn may_follow(&self, piece: &Piece) -> bool
-        ensures { result ≡ may_follow self.now piece.now }
+    /// Whether a line may follow that says this, where there may be so many events.
+    pub(crate) fn may_follow(&self, piece: &Piece, events: u32) -> bool
+        ensures { result ≡ may_follow events self.now piece.now }
     {
         match piece {
             Piece::Device(name, _) => {
@@ -124,7 +121,7 @@ impl Trace {
                     && stands_behind(self.pool.last(), name)
             }
             Piece::Start(_) => self.events.is_empty() && may_start(&self.pool, self.starts.len()),
-            Piece::Event(_) => !self.starts.is_empty(),
+            Piece::Event(_) => !self.starts.is_empty() && self.events.len() < events as usize,
         }
     }
 

@@ -1,5 +1,5 @@
 -- What comes after a place among the nodes of a node.
-use Rattle.std.proofs.Common.{◌≡◌, ℕ, suc, ◌+◌, ◌-◌, ◌<◌, ◌≤◌, true, false, cond, ◌&&◌, List, [], ◌∷◌, ◌++◌, length, take, drop, get_or, Option, Some, None, refl, sym, ap, ◌∙◌, subst, arith, Bor}
+use Rattle.std.proofs.Common.{◌≡◌, ℕ, suc, ◌+◌, ◌-◌, ◌<◌, ◌≤◌, true, false, cond, not, List, [], ◌∷◌, ◌++◌, length, take, drop, get_or, Option, Some, None, refl, sym, ap, ◌∙◌, subst, arith, Bor}
 use Rattle.std.specs.Prelude.{T, MatchOption}
 use Rattle.std.specs.declared.cmp.Ordering.{Ordering}
 use Rattle.std.specs.declared.cmp.Ordering.TheVariants.{Less, Equal, Greater}
@@ -15,10 +15,10 @@ use Rattle.std.specs.BTreeMap.{is_at}
 use Rattle.mj_tree.specs.Nest.{own, under, below, AreFilled, nodes_of, lead, later, beyond}
 use Rattle.mj_tree.specs.Maps.{first_so, second_so, is_less, lookup_before, tied_before, before_less}
 use Rattle.mj_tree.proofs.Nest.{first_and_rest}
-use Rattle.mj_tree.proofs.Orders.{after_all, filter_same}
 use Rattle.std.specs.Map.Iter.{deref_pair}
-use Rattle.std.specs.BTreeMap.Range.{entries_between}
-use Rattle.std.specs.declared.ops.Bound.TheVariants.{Included, Unbounded}
+use Rattle.mj_store.specs.Nodes.{is_empty}
+use Rattle.mj_tree.specs.Rows.{live}
+use Rattle.mj_tree.proofs.Places.{filter_swap, below-live, filled-live}
 
 -- ---- the first of some nodes
 
@@ -152,96 +152,58 @@ module _ {K V : Type 0} (R : K → K → Ordering) where
   filled_beyond s [] f = tt
   filled_beyond s (k ∷ ks) f = elim (is_lt (R s k.0)) as (λ b. AreFilled (cond b (k ∷ beyond R s ks) (beyond R s ks))) [ true ↦ (f.0, filled_beyond s ks f.1) | false ↦ filled_beyond s ks f.1 ]
 
-module _ {K X : Type 0} (R : K → K → Ordering) where
-  abbrev from : K → List (K × X) → List (K × X)
-  from s ks = filter (λ k. is_le (R s k.0)) ks
+module _ {K V : Type 0} (R : K → K → Ordering) where
+  below_beyond : (s : K) (ks : List (K × List (List K × V))) → below (beyond R s ks) ≡ below (beyond R s (live ks))
+  below_beyond s ks = sym (below-live (beyond R s ks)) ∙ ap below (filter_swap (λ (k : K × List (List K × V)). not (is_empty k.1)) (λ k. is_lt (R s k.0)) ks)
 
-  from_beyond : (s : K) (ks : List (K × X)) → T (below_all R s ks) → beyond R s ks ≡ from s ks
-  from_beyond s [] h = refl
-  from_beyond s (k ∷ ks) h =
-      let e = is_less (R s k.0) (first_so _ _ h) in
-      ap (λ r. cond (is_lt r) (k ∷ beyond R s ks) (beyond R s ks)) e
-      ∙ ap (λ (rest : List (K × X)). k ∷ rest) (from_beyond s ks (second_so _ _ h))
-      ∙ sym (ap (λ r. cond (is_le r) (k ∷ from s ks) (from s ks)) e)
+  -- no child that holds something comes after it
+  pub aside_none : (s : K) (ks : List (K × List (List K × V))) → beyond R s (live ks) ≡ [] → lead (below (beyond R s ks)) ≡ None
+  aside_none s ks e = ap lead (below_beyond s ks ∙ ap below e)
 
-  -- the child at a subscript and the children beyond it, by the children from it on
-  abbrev Around : K → List (K × X) → List (K × X) → Type 0
-  Around s ks [] = (lookup (is_at (R s)) ks ≡ None) × (beyond R s ks ≡ [])
-  Around s ks (x ∷ t) = (is_eq (R s x.0) ≡ true → (lookup (is_at (R s)) ks ≡ Some x.1) × (beyond R s ks ≡ t)) × (is_eq (R s x.0) ≡ false → (lookup (is_at (R s)) ks ≡ None) × (beyond R s ks ≡ x ∷ t))
+  -- the first that does
+  pub aside_some : (s : K) (ks : List (K × List (List K × V))) (x : Bor K × Bor (List (List K × V))) (t : List (K × List (List K × V))) → beyond R s (live ks) ≡ deref_pair x ∷ t
+      → (0 < length x.1.now) × (lead (below (beyond R s ks)) ≡ option_map (λ q. x.0.now ∷ q) (lead x.1.now))
+  aside_some s ks x t e =
+      let some : AreFilled (deref_pair x ∷ t) = subst AreFilled e (filled_beyond R s (live ks) (filled-live ks)) in
+      (some.0, ap lead (below_beyond s ks ∙ ap below e) ∙ lead_filled x.0.now x.1.now (below t) some.0)
 
-  further : (s : K) (k : K × X) (ks rest : List (K × X)) → R s k.0 ≡ Greater → Around s ks rest → Around s (k ∷ ks) rest
-  further s k ks [] e a = (
-    ap (λ r. cond (is_eq r) (Some k.1) (lookup (is_at (R s)) ks)) e ∙ a.0,
-    ap (λ r. cond (is_lt r) (k ∷ beyond R s ks) (beyond R s ks)) e ∙ a.1,
-  )
-  further s k ks (x ∷ t) e a = (
-    λ is. (
-      ap (λ r. cond (is_eq r) (Some k.1) (lookup (is_at (R s)) ks)) e ∙ (a.0 is).0,
-      ap (λ r. cond (is_lt r) (k ∷ beyond R s ks) (beyond R s ks)) e ∙ (a.0 is).1,
-    ),
-    λ is. (
-      ap (λ r. cond (is_eq r) (Some k.1) (lookup (is_at (R s)) ks)) e ∙ (a.1 is).0,
-      ap (λ r. cond (is_lt r) (k ∷ beyond R s ks) (beyond R s ks)) e ∙ (a.1 is).1,
-    ),
-  )
+  -- the first of all nodes below
+  pub lead_none : (ks : List (K × List (List K × V))) → live ks ≡ [] → lead (below ks) ≡ None
+  lead_none ks e = ap lead (sym (below-live ks) ∙ ap below e)
 
-  from_around : (o : IsTotalOrder R) (s : K) (ks : List (K × X)) → T (is_sorted R ks) → Around s ks (from s ks)
-  from_around o s [] h = (refl, refl)
-  from_around o s (k ∷ ks) h =
-      elim (R s k.0) as (λ r. R s k.0 ≡ r → Around s (k ∷ ks) (cond (is_le r) (k ∷ from s ks) (from s ks))) [
-        | Less ↦ λ e.
-            let before = before_less R o s k.0 ks e (first_so _ _ h) in (
-              λ is. let f : false ≡ true = sym (ap is_eq e) ∙ is in absurd cc,
-              λ is. (
-                ap (λ r. cond (is_eq r) (Some k.1) (lookup (is_at (R s)) ks)) e ∙ lookup_before R s ks before,
-                ap (λ r. cond (is_lt r) (k ∷ beyond R s ks) (beyond R s ks)) e ∙ ap (λ (rest : List (K × X)). k ∷ rest) (from_beyond s ks before),
-              ),
-            )
-        | Equal ↦ λ e.
-            let before = tied_before R o s k.0 ks e (first_so _ _ h) in (
-              λ is. (
-                ap (λ r. cond (is_eq r) (Some k.1) (lookup (is_at (R s)) ks)) e,
-                ap (λ r. cond (is_lt r) (k ∷ beyond R s ks) (beyond R s ks)) e ∙ from_beyond s ks before,
-              ),
-              λ is. let f : true ≡ false = sym (ap is_eq e) ∙ is in absurd cc,
-            )
-        | Greater ↦ λ e. further s k ks (from s ks) e (from_around o s ks (second_so _ _ h))
-      ] refl
+  pub lead_some : (ks : List (K × List (List K × V))) (x : Bor K × Bor (List (List K × V))) (t : List (K × List (List K × V))) → live ks ≡ deref_pair x ∷ t
+      → (0 < length x.1.now) × (lead (below ks) ≡ option_map (λ q. x.0.now ∷ q) (lead x.1.now))
+  lead_some ks x t e =
+      let some : AreFilled (deref_pair x ∷ t) = subst AreFilled e (filled-live ks) in (some.0, ap lead (sym (below-live ks) ∙ ap below e) ∙ lead_filled x.0.now x.1.now (below t) some.0)
 
-  around_of : (o : IsTotalOrder R) (s : K) (es fs : List (K × X)) → T (is_sorted R es) → fs ≡ entries_between R (Included s) Unbounded es → Around s es fs
-  around_of o s es fs h between =
-      subst (λ (xs : List (K × X)). Around s es xs) (sym (between ∙ filter_same (λ k. is_le (R s k.0) && true) (λ k. is_le (R s k.0)) (λ k. after_all (is_le (R s k.0))) es)) (from_around o s es h)
+  later_under : (t : K) (nodes rest : List (List K × V)) → later R [] (under t nodes ++ rest) ≡ under t nodes ++ later R [] rest
+  later_under t [] rest = refl
+  later_under t (e ∷ es) rest = ap (λ (r : List (List K × V)). (t ∷ e.0, e.1) ∷ r) (later_under t es rest)
 
-module _ {K V : Type 0} (R : K → K → Ordering) (o : IsTotalOrder R) (s : K) (es fs : List (K × List (List K × V))) (h : T (is_sorted R es))
-    (between : fs ≡ entries_between R (Included s) Unbounded es) where
-  -- nothing stands from the subscript on
-  pub around_none : fs ≡ [] → (lookup (is_at (R s)) es ≡ None) × (lead (below (beyond R s es)) ≡ None)
-  around_none none =
-      let a = subst (λ (xs : List (K × List (List K × V))). Around R s es xs) none (around_of R o s es fs h between) in
-      (a.0, ap (λ (ks : List (K × List (List K × V))). lead (below ks)) a.1)
+  later_children : (ks : List (K × List (List K × V))) → later R [] (below ks) ≡ below ks
+  later_children [] = refl
+  later_children (k ∷ ks) = later_under k.0 k.1 (below ks) ∙ ap (λ (r : List (List K × V)). under k.0 k.1 ++ r) (later_children ks)
 
-  module _ (x : Bor K × Bor (List (List K × V))) (t : List (K × List (List K × V))) (taken : fs ≡ deref_pair x ∷ t) where
-    first_around : Around R s es (deref_pair x ∷ t)
-    first_around = subst (λ (xs : List (K × List (List K × V))). Around R s es xs) taken (around_of R o s es fs h between)
+  -- all nodes below a node come after it
+  pub later_all : (text : Option V) (ks : List (K × List (List K × V))) → later R [] (own text ++ below ks) ≡ below ks
+  later_all None ks = later_children ks
+  later_all (Some text) ks = later_children ks
 
-    -- the first that does stands beyond it
-    pub around_aside : AreFilled es → is_eq (R s x.0.now) ≡ false → (lookup (is_at (R s)) es ≡ None) × (0 < length x.1.now)
-        × (lead (below (beyond R s es)) ≡ option_map (λ q. x.0.now ∷ q) (lead x.1.now))
-    around_aside f is =
-        let a = first_around.1 is in
-        let some : AreFilled (deref_pair x ∷ t) = subst AreFilled a.1 (filled_beyond R s es f) in
-        (a.0, some.0, ap (λ (ks : List (K × List (List K × V))). lead (below ks)) a.1 ∙ lead_filled x.0.now x.1.now (below t) some.0)
+  -- nothing comes after a node that has no child
+  pub turn_none : (path : List K) (node : List (List K × V)) (text : Option V) (ks : List (K × List (List K × V))) → path ≡ [] → own text ++ below ks ≡ node → live ks ≡ []
+      → lead (later R path node) ≡ None
+  turn_none path node text ks here view none = (λ i. lead (later R (here i) (sym view i))) ∙ ap lead (later_all text ks) ∙ lead_none ks none
 
-    -- it stands at it, and is the last
-    pub around_last : is_eq (R s x.0.now) ≡ true → t ≡ [] → (lookup (is_at (R s)) es ≡ Some x.1.now) × (lead (below (beyond R s es)) ≡ None)
-    around_last is none =
-        let a = first_around.0 is in
-        (a.0, ap (λ (ks : List (K × List (List K × V))). lead (below ks)) (a.1 ∙ none))
+  -- else its first child does
+  pub turn_some : (path : List K) (node : List (List K × V)) (text : Option V) (ks : List (K × List (List K × V))) (x : Bor K × Bor (List (List K × V))) (t : List (K × List (List K × V)))
+      → path ≡ [] → own text ++ below ks ≡ node → live ks ≡ deref_pair x ∷ t
+      → (0 ≤ length path) × (0 < length x.1.now) × (lead (later R path node) ≡ option_map (λ q. x.0.now ∷ q) (lead x.1.now))
+  turn_some path node text ks x t here view first =
+      let found = lead_some ks x t first in (omega arith, found.0, (λ i. lead (later R (here i) (sym view i))) ∙ ap lead (later_all text ks) ∙ found.1)
 
-    -- it stands at it, and another one beyond
-    pub around_next : (y : Bor K × Bor (List (List K × V))) (u : List (K × List (List K × V))) → AreFilled es → is_eq (R s x.0.now) ≡ true → t ≡ deref_pair y ∷ u
-        → (lookup (is_at (R s)) es ≡ Some x.1.now) × (0 < length y.1.now) × (lead (below (beyond R s es)) ≡ option_map (λ q. y.0.now ∷ q) (lead y.1.now))
-    around_next y u f is more =
-        let a = first_around.0 is in
-        let some : AreFilled (deref_pair y ∷ u) = subst AreFilled (a.1 ∙ more) (filled_beyond R s es f) in
-        (a.0, some.0, ap (λ (ks : List (K × List (List K × V))). lead (below ks)) (a.1 ∙ more) ∙ lead_filled y.0.now y.1.now (below u) some.0)
+  -- nothing comes after a place below a node that has no child
+  pub turn_nowhere : IsTotalOrder R → IsAntisymmetric R → (path : List K) (s : K) → 1 ≤ length path → s ≡ get_or path 0 s → (node : List (List K × V)) (text : Option V) (ks : List (K × List (List K × V)))
+      → own text ++ below ks ≡ node → T (is_sorted R ks) → ks ≡ [] → lead (later R path node) ≡ None
+  turn_nowhere o same path s le is node text ks view h none =
+      turn_aside R o same path s le is node text ks view h None (ap (λ (es : List (K × List (List K × V))). lead (later R (take (length path - 1) (drop 1 path)) (nodes_of (lookup (is_at (R s)) es)))) none)
+      (ap (λ (es : List (K × List (List K × V))). lead (below (beyond R s es))) none)

@@ -1,34 +1,26 @@
 -- The first of some subscripts in a direction is that of the first child, or of the last.
-use Rattle.std.proofs.Common.{◌≡◌, Bool, true, false, cond, not, ◌&&◌, ◌||◌, List, [], ◌∷◌, ◌++◌, Option, Some, None, refl, sym, ap, ◌∙◌, subst, arith, Bor}
+use Rattle.std.proofs.Common.{◌≡◌, Bool, true, false, cond, ◌||◌, List, [], ◌∷◌, ◌++◌, Option, Some, None, refl, sym, ap, ◌∙◌, subst, arith, Bor}
 use Rattle.std.specs.Prelude.{T, ⊤}
 use Rattle.std.specs.declared.cmp.Ordering.{Ordering}
 use Rattle.std.specs.declared.cmp.Ordering.TheVariants.{Less, Equal, Greater}
-use Rattle.std.specs.declared.ops.Bound.TheVariants.{Excluded, Unbounded}
-use Rattle.std.specs.Ordering.{is_lt, is_le, flip_args, ordering_reverse}
+use Rattle.std.specs.Ordering.{is_lt, flip_args, ordering_reverse}
 use Rattle.std.specs.Cmp.{IsTotalOrder, tied_itself}
 use Rattle.std.specs.List.{filter, fold, AllByRecursion}
 use Rattle.std.specs.List.Sorted.{IsStrictlySortedBy}
 use Rattle.std.specs.Option.{option_map}
 use Rattle.std.specs.Map.{keys_of}
 use Rattle.std.specs.Map.Iter.{TakesFirst, TakesLast, deref_pair}
-use Rattle.std.specs.BTreeMap.Range.{entries_between}
 use Rattle.std.proofs.lemmas.List.Kept.{IsStrictlySortedBy-filter}
 use Rattle.mj_store.specs.declared.store.Direction.{Direction}
 use Rattle.mj_store.specs.declared.store.Direction.TheVariants.{Forward, Backward}
 use Rattle.mj_store.specs.Nodes.{is_empty, first_of, least, along, first_subscripts, next_past}
-use Rattle.mj_tree.specs.Nest.{own, under, below, AreFilled}
-
-pub filter_same : {A : Type 0} (f g : A → Bool) → ((x : A) → f x ≡ g x) → (xs : List A) → filter f xs ≡ filter g xs
-filter_same f g same [] = refl
-filter_same f g same (x ∷ xs) = (λ i. cond (same x i) (x ∷ filter_same f g same xs i) (filter_same f g same xs i))
+use Rattle.mj_tree.specs.Nest.{own, under, below, beyond, AreFilled}
+use Rattle.mj_tree.specs.Rows.{earlier, live}
+use Rattle.mj_tree.proofs.Places.{below-live, filled-live}
 
 filter_each : {A : Type 0} (xs : List A) → filter (λ (x : A). true) xs ≡ xs
 filter_each [] = refl
 filter_each (x ∷ xs) = ap (λ ys. x ∷ ys) (filter_each xs)
-
-pub after_all : (a : Bool) → a && true ≡ a
-after_all true = refl
-after_all false = refl
 
 pub filled : {A : Type 0} (xs : List A) → (xs ≡ [] → ⊥) → is_empty xs ≡ false
 filled [] none = absurd (none refl)
@@ -76,9 +68,6 @@ module _ {K : Type 0} (R : K → K → Ordering) (o : IsTotalOrder R) where
   last_wins (Some y) [] e u h = ap (λ r. cond (is_lt r) (Some e) (Some y)) u
   last_wins acc (x ∷ t) e u h = last_wins (first_of (flip_args R) acc x) t e (up_to acc x e u (before_last x t e h.0)) h.1
 
-  turned : (s k : K) → not (is_le (R s k)) ≡ is_lt (R k s)
-  turned s k = ap (λ r. not (is_le r)) (o.antisymm s k) ∙ elim (R k s) as (λ r. not (is_le (ordering_reverse r)) ≡ is_lt r) [ Less ↦ refl | Equal ↦ refl | Greater ↦ refl ]
-
   module _ {X : Type 0} where
     first_taken : (r : Option (Bor K × Bor X)) (s t : List (K × X)) → TakesFirst deref_pair s r t → IsStrictlySortedBy R (keys_of s) → option_map (λ e. e.0.now) r ≡ least R (keys_of s)
     first_taken None s t h rises = ap (λ (xs : List (K × X)). least R (keys_of xs)) (sym h.0)
@@ -105,23 +94,19 @@ module _ {K : Type 0} (R : K → K → Ordering) (o : IsTotalOrder R) where
         ∙ sym (ap (λ b. next_past R Backward b s (keys_of es)) is ∙ ap (λ ks. least (flip_args R) ks) (filter_each (keys_of es)))
 
     -- where one is
-    pub first_after : (r : Option (Bor K × Bor X)) (es fs t : List (K × X)) (s : K) (blank : Bool) → blank ≡ false → fs ≡ entries_between R (Excluded s) Unbounded es → TakesFirst deref_pair fs r t
+    pub first_beyond : (r : Option (Bor K × Bor X)) (es t : List (K × X)) (s : K) (blank : Bool) → blank ≡ false → TakesFirst deref_pair (beyond R s es) r t
         → IsStrictlySortedBy R (keys_of es) → option_map (λ e. e.0.now) r ≡ next_past R Forward blank s (keys_of es)
-    first_after r es fs t s blank is between h rises =
-        let part : keys_of fs ≡ filter (λ t. is_lt (R s t)) (keys_of es) =
-        ap (λ xs. keys_of xs) between ∙ keys_filter (λ k. is_lt (R s k) && true) es ∙ filter_same (λ k. is_lt (R s k) && true) (λ k. is_lt (R s k)) (λ k. after_all (is_lt (R s k))) (keys_of es)
-        in
-        first_taken r fs t h (subst (λ ks. IsStrictlySortedBy R ks) (sym part) (IsStrictlySortedBy-filter R (λ t. is_lt (R s t)) (keys_of es) rises))
+    first_beyond r es t s blank is h rises =
+        let part : keys_of (beyond R s es) ≡ filter (λ t. is_lt (R s t)) (keys_of es) = keys_filter (λ k. is_lt (R s k)) es in
+        first_taken r (beyond R s es) t h (subst (λ ks. IsStrictlySortedBy R ks) (sym part) (IsStrictlySortedBy-filter R (λ t. is_lt (R s t)) (keys_of es) rises))
         ∙ ap (λ ks. least R ks) part
         ∙ sym (ap (λ b. next_past R Forward b s (keys_of es)) is)
 
-    pub last_before : (r : Option (Bor K × Bor X)) (es fs t : List (K × X)) (s : K) (blank : Bool) → blank ≡ false → fs ≡ entries_between R Unbounded (Excluded s) es → TakesLast deref_pair fs r t
+    pub last_earlier : (r : Option (Bor K × Bor X)) (es t : List (K × X)) (s : K) (blank : Bool) → blank ≡ false → TakesLast deref_pair (earlier R s es) r t
         → IsStrictlySortedBy R (keys_of es) → option_map (λ e. e.0.now) r ≡ next_past R Backward blank s (keys_of es)
-    last_before r es fs t s blank is between h rises =
-        let part : keys_of fs ≡ filter (λ t. is_lt (R t s)) (keys_of es) =
-        ap (λ xs. keys_of xs) between ∙ keys_filter (λ k. not (is_le (R s k))) es ∙ filter_same (λ k. not (is_le (R s k))) (λ k. is_lt (R k s)) (turned s) (keys_of es)
-        in
-        last_taken r fs t h (subst (λ ks. IsStrictlySortedBy R ks) (sym part) (IsStrictlySortedBy-filter R (λ t. is_lt (R t s)) (keys_of es) rises))
+    last_earlier r es t s blank is h rises =
+        let part : keys_of (earlier R s es) ≡ filter (λ t. is_lt (R t s)) (keys_of es) = keys_filter (λ k. is_lt (R k s)) es in
+        last_taken r (earlier R s es) t h (subst (λ ks. IsStrictlySortedBy R ks) (sym part) (IsStrictlySortedBy-filter R (λ t. is_lt (R t s)) (keys_of es) rises))
         ∙ ap (λ ks. least (flip_args R) ks) part
         ∙ sym (ap (λ b. next_past R Backward b s (keys_of es)) is)
 
@@ -170,3 +155,9 @@ not_itself o Backward k = ap (λ r. is_lt r) (tied_itself o k)
 pub order_children : {K V : Type 0} {R : K → K → Ordering} (o : IsTotalOrder R) (way : Direction) (blank : Bool) (s : K) (text : Option V) (ks : List (K × List (List K × V))) → AreFilled ks
     → next_past R way blank s (first_subscripts (own text ++ below ks)) ≡ next_past R way blank s (keys_of ks)
 order_children {R = R} o way blank s text ks f = of_children (along way R) (not_itself o way) (λ t. blank || is_lt (along way R s t)) text ks f
+
+-- the same of places of which some hold nothing
+pub order_places : {K V : Type 0} {R : K → K → Ordering} (o : IsTotalOrder R) (way : Direction) (blank : Bool) (s : K) (text : Option V) (ks : List (K × List (List K × V)))
+    → next_past R way blank s (first_subscripts (own text ++ below ks)) ≡ next_past R way blank s (keys_of (live ks))
+order_places {K} {V} {R = R} o way blank s text ks =
+    ap (λ (nodes : List (List K × V)). next_past R way blank s (first_subscripts (own text ++ nodes))) (sym (below-live ks)) ∙ order_children o way blank s text (live ks) (filled-live ks)

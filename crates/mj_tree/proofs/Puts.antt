@@ -14,11 +14,11 @@ use Rattle.mj_tree.specs.Nest.{own, under, below, AreFilled, nodes_of}
 use Rattle.mj_tree.specs.Maps.{first_so, second_so, both_so, is_less, lookup_before, before_less, sorted_insert, insert-set_value, set_value_same}
 
 module _ {K V : Type 0} (R : K → K → Ordering) where
-  pub put_own : (v : V) (text : Option V) (ks : List (K × List (List K × V))) → AreFilled ks → put (slice_cmp R) [] v (own text ++ below ks) ≡ own (Some v) ++ below ks
-  put_own v None [] h = refl
-  put_own v None ((s, []) ∷ ks) h = absurd (omega (arith, h.0))
-  put_own v None ((s, e ∷ es) ∷ ks) h = refl
-  put_own v (Some text) ks h = refl
+  pub put_own : (v : V) (text : Option V) (ks : List (K × List (List K × V))) → put (slice_cmp R) [] v (own text ++ below ks) ≡ own (Some v) ++ below ks
+  put_own v None [] = refl
+  put_own v None ((s, []) ∷ ks) = put_own v None ks
+  put_own v None ((s, e ∷ es) ∷ ks) = refl
+  put_own v (Some text) ks = refl
 
   put_over : (s t : K) (p : List K) (v : V) (nodes rest : List (List K × V)) → R s t ≡ Greater → put (slice_cmp R) (s ∷ p) v (under t nodes ++ rest) ≡ under t nodes ++ put (slice_cmp R) (s ∷ p) v rest
   put_over s t p v [] rest h = refl
@@ -27,10 +27,10 @@ module _ {K V : Type 0} (R : K → K → Ordering) where
       ((t ∷ e.0, e.1) ∷ put (slice_cmp R) (s ∷ p) v (under t es ++ rest))) h
       ∙ ap (λ (r : List (List K × V)). (t ∷ e.0, e.1) ∷ r) (put_over s t p v es rest h)
 
-  put_first : (s : K) (p : List K) (v : V) (ks : List (K × List (List K × V))) → T (below_all R s ks) → AreFilled ks → put (slice_cmp R) (s ∷ p) v (below ks) ≡ (s ∷ p, v) ∷ below ks
-  put_first s p v [] h f = refl
-  put_first s p v ((t, []) ∷ ks) h f = absurd (omega (arith, f.0))
-  put_first s p v ((t, e ∷ es) ∷ ks) h f =
+  put_first : (s : K) (p : List K) (v : V) (ks : List (K × List (List K × V))) → T (below_all R s ks) → put (slice_cmp R) (s ∷ p) v (below ks) ≡ (s ∷ p, v) ∷ below ks
+  put_first s p v [] h = refl
+  put_first s p v ((t, []) ∷ ks) h = put_first s p v ks (second_so _ _ h)
+  put_first s p v ((t, e ∷ es) ∷ ks) h =
       ap (λ r. by_order (ordering_then r (slice_cmp R p e.0)) ((s ∷ p, v) ∷ (t ∷ e.0, e.1) ∷ (under t es ++ below ks)) ((t ∷ e.0, v) ∷ (under t es ++ below ks))
       ((t ∷ e.0, e.1) ∷ put (slice_cmp R) (s ∷ p) v (under t es ++ below ks))) (is_less _ (first_so _ _ h))
 
@@ -49,40 +49,40 @@ module _ {K V : Type 0} (R : K → K → Ordering) where
       ]
 
   module _ (o : IsTotalOrder R) where
-    put_same : (s : K) (p : List K) (v : V) (nodes : List (List K × V)) (ks : List (K × List (List K × V))) → T (below_all R s ks) → AreFilled ks
+    put_same : (s : K) (p : List K) (v : V) (nodes : List (List K × V)) (ks : List (K × List (List K × V))) → T (below_all R s ks)
         → put (slice_cmp R) (s ∷ p) v (under s nodes ++ below ks) ≡ under s (put (slice_cmp R) p v nodes) ++ below ks
-    put_same s p v [] ks h f = put_first s p v ks h f
-    put_same s p v (e ∷ es) ks h f =
+    put_same s p v [] ks h = put_first s p v ks h
+    put_same s p v (e ∷ es) ks h =
         ap (λ r. by_order (ordering_then r (slice_cmp R p e.0)) ((s ∷ p, v) ∷ (s ∷ e.0, e.1) ∷ (under s es ++ below ks)) ((s ∷ e.0, v) ∷ (under s es ++ below ks))
         ((s ∷ e.0, e.1) ∷ put (slice_cmp R) (s ∷ p) v (under s es ++ below ks))) (tied_itself o s)
         ∙ elim (slice_cmp R p e.0) as (λ r. by_order r ((s ∷ p, v) ∷ (s ∷ e.0, e.1) ∷ (under s es ++ below ks)) ((s ∷ e.0, v) ∷ (under s es ++ below ks))
         ((s ∷ e.0, e.1) ∷ put (slice_cmp R) (s ∷ p) v (under s es ++ below ks)) ≡ under s (by_order r ((p, v) ∷ e ∷ es) ((e.0, v) ∷ es) (e ∷ put (slice_cmp R) p v es)) ++ below ks) [
           | Less ↦ refl
           | Equal ↦ refl
-          | Greater ↦ ap (λ (r : List (List K × V)). (s ∷ e.0, e.1) ∷ r) (put_same s p v es ks h f)
+          | Greater ↦ ap (λ (r : List (List K × V)). (s ∷ e.0, e.1) ∷ r) (put_same s p v es ks h)
         ]
 
-    put_below : IsAntisymmetric R → (s : K) (p : List K) (v : V) (ks : List (K × List (List K × V))) → T (is_sorted R ks) → AreFilled ks
+    put_below : IsAntisymmetric R → (s : K) (p : List K) (v : V) (ks : List (K × List (List K × V))) → T (is_sorted R ks)
         → put (slice_cmp R) (s ∷ p) v (below ks) ≡ below (insert_entry R ks s (put (slice_cmp R) p v (nodes_of (lookup (is_at (R s)) ks))))
-    put_below same s p v [] h f = refl
-    put_below same s p v (k ∷ ks) h f =
+    put_below same s p v [] h = refl
+    put_below same s p v (k ∷ ks) h =
         elim (R s k.0) as (λ r. R s k.0 ≡ r → put (slice_cmp R) (s ∷ p) v (under k.0 k.1 ++ below ks)
         ≡ below (match_ordering r ((s, put (slice_cmp R) p v (nodes_of (cond (is_eq r) (Some k.1) (lookup (is_at (R s)) ks)))) ∷ k ∷ ks)
         ((k.0, put (slice_cmp R) p v (nodes_of (cond (is_eq r) (Some k.1) (lookup (is_at (R s)) ks)))) ∷ ks)
         (k ∷ insert_entry R ks s (put (slice_cmp R) p v (nodes_of (cond (is_eq r) (Some k.1) (lookup (is_at (R s)) ks))))))) [
           | Less ↦ λ e.
               let late = before_less R o s k.0 ks e (first_so _ _ h) in
-              put_first s p v (k ∷ ks) (both_so (is_lt (R s k.0)) (below_all R s ks) (subst (λ r. T (is_lt r)) (sym e) tt) late) f
+              put_first s p v (k ∷ ks) (both_so (is_lt (R s k.0)) (below_all R s ks) (subst (λ r. T (is_lt r)) (sym e) tt) late)
               ∙ ap (λ (l : Option (List (List K × V))). under s (put (slice_cmp R) p v (nodes_of l)) ++ (under k.0 k.1 ++ below ks)) (sym (lookup_before R s ks late))
-          | Equal ↦ λ e. ap (λ (t : K). put (slice_cmp R) (t ∷ p) v (under k.0 k.1 ++ below ks)) (same s k.0 e) ∙ put_same k.0 p v k.1 ks (first_so _ _ h) f.1
-          | Greater ↦ λ e. put_over s k.0 p v k.1 (below ks) e ∙ ap (λ (r : List (List K × V)). under k.0 k.1 ++ r) (put_below same s p v ks (second_so _ _ h) f.1)
+          | Equal ↦ λ e. ap (λ (t : K). put (slice_cmp R) (t ∷ p) v (under k.0 k.1 ++ below ks)) (same s k.0 e) ∙ put_same k.0 p v k.1 ks (first_so _ _ h)
+          | Greater ↦ λ e. put_over s k.0 p v k.1 (below ks) e ∙ ap (λ (r : List (List K × V)). under k.0 k.1 ++ r) (put_below same s p v ks (second_so _ _ h))
         ] refl
 
     -- a text below the first of some subscripts is put into the child there
-    pub put_child : IsAntisymmetric R → (s : K) (p : List K) (v : V) (text : Option V) (ks : List (K × List (List K × V))) → T (is_sorted R ks) → AreFilled ks
+    pub put_child : IsAntisymmetric R → (s : K) (p : List K) (v : V) (text : Option V) (ks : List (K × List (List K × V))) → T (is_sorted R ks)
         → put (slice_cmp R) (s ∷ p) v (own text ++ below ks) ≡ own text ++ below (insert_entry R ks s (put (slice_cmp R) p v (nodes_of (lookup (is_at (R s)) ks))))
-    put_child same s p v None ks h f = put_below same s p v ks h f
-    put_child same s p v (Some text) ks h f = ap (λ (r : List (List K × V)). ([], text) ∷ r) (put_below same s p v ks h f)
+    put_child same s p v None ks h = put_below same s p v ks h
+    put_child same s p v (Some text) ks h = ap (λ (r : List (List K × V)). ([], text) ∷ r) (put_below same s p v ks h)
 
 -- ---- what a write through the child at a subscript leaves
 
@@ -105,16 +105,16 @@ module _ {K V : Type 0} (R : K → K → Ordering) where
   filled_after (Err e) p v c w ok err n = subst (λ (m : List (List K × V)). 0 < length m) (sym err) n
 
   module _ (o : IsTotalOrder R) (ks es : List (K × List (List K × V))) (s : K) (c w : List (List K × V)) (written : es ≡ set_value (is_at (R s)) ks w) (there : lookup (is_at (R s)) ks ≡ Some c)
-      (h : T (is_sorted R ks)) (f : AreFilled ks) where
+      (h : T (is_sorted R ks)) where
     pub sorted_written : T (is_sorted R es)
     sorted_written = subst (λ (xs : List (K × List (List K × V))). T (is_sorted R xs)) (insert-set_value R o ks s c w h there ∙ sym written) (sorted_insert R o ks s w h)
 
-    pub filled_written : 0 < length w → AreFilled es
-    filled_written n = subst AreFilled (sym written) (filled_set_value ks s w f n)
+    pub filled_written : AreFilled ks → 0 < length w → AreFilled es
+    filled_written f n = subst AreFilled (sym written) (filled_set_value ks s w f n)
 
     pub put_written : IsAntisymmetric R → (p : List K) (v : V) (text : Option V) → w ≡ put (slice_cmp R) p v c → own text ++ below es ≡ put (slice_cmp R) (s ∷ p) v (own text ++ below ks)
     put_written same p v text is =
-        let nested = put_child R o same s p v text ks h f in
+        let nested = put_child R o same s p v text ks h in
         ap (λ (xs : List (K × List (List K × V))). own text ++ below xs) (written ∙ ap (set_value (is_at (R s)) ks)
         (is ∙ ap (λ (l : Option (List (List K × V))). put (slice_cmp R) p v (nodes_of l)) (sym there))
         ∙ sym (insert-set_value R o ks s c (put (slice_cmp R) p v (nodes_of (lookup (is_at (R s)) ks))) h there))
@@ -124,23 +124,9 @@ module _ {K V : Type 0} (R : K → K → Ordering) where
     same_written text is = ap (λ (xs : List (K × List (List K × V))). own text ++ below xs) (written ∙ ap (set_value (is_at (R s)) ks) is ∙ set_value_same R ks s c there)
 
   module _ (o : IsTotalOrder R) (ks es : List (K × List (List K × V))) (s : K) (p : List K) (v : V) (n : List (List K × V)) (added : es ≡ insert_entry R ks s n) (fresh : n ≡ put (slice_cmp R) p v [])
-      (h : T (is_sorted R ks)) (f : AreFilled ks) where
-    pub sorted_added : T (is_sorted R es)
-    sorted_added = subst (λ (xs : List (K × List (List K × V))). T (is_sorted R xs)) (sym added) (sorted_insert R o ks s n h)
-
-    pub filled_added : AreFilled es
-    filled_added = subst AreFilled (sym added) (filled_insert R ks s n f (subst (λ (m : List (List K × V)). 0 < length m) (sym fresh) (filled_put R p v [])))
-
+      (h : T (is_sorted R ks)) where
     pub put_added : IsAntisymmetric R → (text : Option V) → lookup (is_at (R s)) ks ≡ None → own text ++ below es ≡ put (slice_cmp R) (s ∷ p) v (own text ++ below ks)
     put_added same text none =
         ap (λ (xs : List (K × List (List K × V))). own text ++ below xs) (added ∙ ap (insert_entry R ks s)
         (fresh ∙ ap (λ (l : Option (List (List K × V))). put (slice_cmp R) p v (nodes_of l)) (sym none)))
-        ∙ sym (put_child R o same s p v text ks h f)
-
--- where the child may not have been added, and all is then as it was
-pub sound_either : {K V A E : Type 0} (R : K → K → Ordering) (o : IsTotalOrder R) (r : Result A E) (ks es : List (K × List (List K × V))) (s : K) (n : List (List K × V))
-    → OnOk r (es ≡ insert_entry R ks s n) → OnErr r (es ≡ ks) → 0 < length n → T (is_sorted R ks) × AreFilled ks → T (is_sorted R es) × AreFilled es
-sound_either {K} {V} R o (Ok x) ks es s n ok err filled h =
-    subst (λ (xs : List (K × List (List K × V))). T (is_sorted R xs) × AreFilled xs) (sym ok) (sorted_insert R o ks s n h.0, filled_insert R ks s n h.1 filled)
-sound_either {K} {V} R o (Err e) ks es s n ok err filled h =
-    subst (λ (xs : List (K × List (List K × V))). T (is_sorted R xs) × AreFilled xs) (sym err) h
+        ∙ sym (put_child R o same s p v text ks h)

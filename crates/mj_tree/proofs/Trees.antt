@@ -46,7 +46,7 @@ module _ {K X : Type 0} (R : K → K → Ordering) where
   above_all x [] h = tt
   above_all x (e ∷ es) h = (is_less _ (first_so _ _ h), above_all x es (second_so _ _ h))
 
-  keys_rise : (es : List (K × X)) → T (is_sorted R es) → IsStrictlySortedBy R (keys_of es)
+  pub keys_rise : (es : List (K × X)) → T (is_sorted R es) → IsStrictlySortedBy R (keys_of es)
   unfolding IsStrictlySortedBy
   keys_rise [] h = tt
   keys_rise (e ∷ es) h = (above_all e.0 es (first_so _ _ h), keys_rise es (second_so _ _ h))

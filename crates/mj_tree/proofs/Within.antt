@@ -5,7 +5,7 @@ use Rattle.mj_text.specs.declared.limit.Limit.{Limit}
 use Rattle.mj_text.specs.Limit.{is_within, are_within}
 use Rattle.mj_store.specs.Questions.{Subtree}
 use Rattle.mj_store.specs.Within.{is_node_within, are_nodes_within}
-use Rattle.mj_tree.specs.Nest.{under, below, AreFilled}
+use Rattle.mj_tree.specs.Nest.{under, below}
 
 module _ (limit : Limit) where
   pub within-append : (xs ys : Subtree) → are_nodes_within limit (xs ++ ys) ≡ (are_nodes_within limit xs && are_nodes_within limit ys)
@@ -27,6 +27,10 @@ module _ (limit : Limit) where
     pub child_within : is_within limit s ≡ true → are_nodes_within limit child ≡ true → are_nodes_within limit (below ks) ≡ are_nodes_within limit (below rest)
     child_within h g = all ∙ ap (λ b. b && are_nodes_within limit (below rest)) (under_within s child h ∙ g)
 
+    -- a child without a node
+    pub child_none : child ≡ [] → are_nodes_within limit (below ks) ≡ are_nodes_within limit (below rest)
+    child_none none = all ∙ ap (λ (nodes : Subtree). are_nodes_within limit (under s nodes) && are_nodes_within limit (below rest)) none
+
     -- a child that doesn't
     pub subscript_over : 0 < length child → is_within limit s ≡ false → are_nodes_within limit (below ks) ≡ false
     subscript_over some h = all ∙ ap (λ b. b && are_nodes_within limit (below rest)) (under_over s child some h)
@@ -41,7 +45,3 @@ module _ (limit : Limit) where
 
   pub own_over : (mine nodes : Subtree) (ks : List (List ℕ × Subtree)) → mine ++ below ks ≡ nodes → are_nodes_within limit mine ≡ false → are_nodes_within limit nodes ≡ false
   own_over mine nodes ks is h = ap (are_nodes_within limit) (sym is) ∙ within-append mine (below ks) ∙ ap (λ b. b && are_nodes_within limit (below ks)) h
-
--- the children behind one are filled, as all are
-pub filled_rest : {A B : Type 0} (s : A) (child : List (List A × B)) (ks rest : List (A × List (List A × B))) → ks ≡ (s, child) ∷ rest → AreFilled ks → (0 < length child) × AreFilled rest
-filled_rest s child ks rest is h = subst AreFilled is h

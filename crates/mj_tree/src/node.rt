@@ -1,21 +1,25 @@
 // A node: a text of its own, and children by their subscripts.
 
-ghost use Rattle.std.specs.Prelude.{◌≡◌, ◌↔◌, [], ◌∷◌, ◌++◌, option_copied, IsTrue, IfSome, IfOk, IfErr, OnOk, OnErr, MatchOption, T};
+ghost use Rattle.std.specs.Prelude.{◌≡◌, ◌↔◌, [], ◌∷◌, ◌++◌, ◌<◌, length, option_copied, IsTrue, IfSome, IfOk, IfErr, OnOk, OnErr, MatchOption};
 ghost use Rattle.std.specs.Option.{option_map};
-ghost use Rattle.std.specs.FinMap.{find, is_sorted, put};
+ghost use Rattle.std.specs.FinMap.{find, put};
 ghost use Rattle.std.specs.Cmp.Lexicographic.{slice_cmp};
 ghost use Rattle.mj_subs.specs.Collation.{subscript_cmp};
-ghost use Rattle.std.specs.BTreeMap.{keys, insert_entry, is_at};
-ghost use Rattle.std.specs.Map.{lookup, remove_entry};
+ghost use Rattle.std.specs.BTreeMap.{is_at};
+ghost use Rattle.std.specs.Map.{keys_of, lookup, remove_entry};
 ghost use Rattle.mj_store.specs.declared.store.Direction.TheVariants as way;
 ghost use Rattle.mj_store.specs.Nodes.{is_empty, subtree, data_of, next_past};
 ghost use Rattle.mj_store.specs.Questions.{next_from};
 ghost use Rattle.mj_store.specs.Within.{are_nodes_within};
-ghost use Rattle.mj_tree.specs.Nest.{AreFilled, IsAside, IsNoneAside, IsTurn, behind, lead, later, nodes_of, own, without};
+ghost use Rattle.mj_tree.specs.Nest.{IsAside, IsNoneAside, IsTurn, behind, lead, later, nodes_of, own, without};
+ghost use Rattle.mj_tree.specs.Rows.{Adds, IsOrdered, IsSound, all_of, live};
 ghost use Rattle.mj_tree.specs.Undo.{restored};
+ghost use Rattle.mj_tree.specs.Changes.{changed};
 ghost use Rattle.mj_tree.specs.Walks.{named, StopsSo};
 ghost use Rattle.mj_tree.specs.declared.sink.SinkStop.TheVariants as stops;
 
+use crate::beside::{aside, key_after, key_before};
+use crate::children::{Children, kept, put};
 use crate::sink::{Sink, SinkStop};
 use mj_store::{Direction, Nodes};
 use mj_subs::{Sub, Subs};
@@ -23,13 +27,14 @@ use mj_text::{Limit, Text};
 use std::alloc::{AllocError, Global};
 use std::collections::BTreeMap;
 use std::marker::Model;
-use std::ops::Bound;
 
 /// What stands at a list of subscripts and below it. No child is without a text at it or below.
+#[cycle(node)]
 #[derive(Drop)]
 pub struct Node {
     text: Option<Text>,
-    children: BTreeMap<Sub, Node>,
+    // None, or some of which at least one is there.
+    children: Option<Box<Children>>,
 }
 
 impl Model for Node {
@@ -37,20 +42,19 @@ impl Model for Node {
 
     ghost Value = { Subtree };
 
-    ghost use Rattle.std.specs.Prelude.{T, ◌++◌};
-    ghost use Rattle.std.specs.FinMap.{is_sorted};
-    ghost use Rattle.mj_subs.specs.Collation.{subscript_cmp};
-    ghost use Rattle.mj_tree.specs.Nest.{own, below, weight, AreFilled};
+    ghost use Rattle.std.specs.Prelude.{◌++◌};
+    ghost use Rattle.mj_tree.specs.Nest.{own, below, weight};
+    ghost use Rattle.mj_tree.specs.Rows.{places, AreSound};
 
-    ghost view = { λ a. own a.text ++ below a.children.entries };
+    ghost view = { λ a. own a.text ++ below (places a.children) };
 
-    ghost invariant = { λ a. T (is_sorted subscript_cmp a.children.entries) × AreFilled a.children.entries };
+    ghost invariant = { λ a. AreSound a.children };
 
     ghost size = { weight };
 
     ghost use Rattle.mj_tree.specs.Falls.{child_le-weight};
 
-    ghost size_decreases = { λ a h. child_le-weight a.text a.children.entries h.1 };
+    ghost size_decreases = { λ a h. child_le-weight a.text a.children h };
 }
 
 impl Node {
@@ -60,7 +64,7 @@ impl Node {
     {
         Node {
             text: None,
-            children: BTreeMap::new(alloc),
+            children: None,
         }
     }
 
@@ -70,9 +74,12 @@ impl Node {
     {
         match path {
             [] => Some(self),
-            [sub, rest @ ..] => match self.children.get(sub) {
+            [sub, rest @ ..] => match &self.children {
                 None => None,
-                Some(child) => child.at(rest),
+                Some(children) => match children.get(sub) {
+                    None => None,
+                    Some(child) => child.at(rest),
+                },
             },
         }
     }
@@ -83,9 +90,12 @@ impl Node {
     {
         match path {
             [] => Ok(Some(self)),
-            [text, rest @ ..] => match child_at(&self.children, text)? {
+            [text, rest @ ..] => match &self.children {
                 None => Ok(None),
-                Some(child) => child.at_texts(rest),
+                Some(children) => match children.get_at(text)? {
+                    None => Ok(None),
+                    Some(child) => child.at_texts(rest),
+                },
             },
         }
     }
@@ -123,12 +133,7 @@ impl Node {
     {
         match self.at(path) {
             None => 0,
-            Some(node) => match (node.text.is_some(), node.children.is_empty()) {
-                (false, true) => 0,
-                (true, true) => 1,
-                (false, false) => 10,
-                (true, false) => 11,
-            },
+            Some(node) => node.own_data(),
         }
     }
 
@@ -146,7 +151,7 @@ impl Node {
     fn own_data(&self) -> u8
         ensures { result ≡ data_of self.now }
     {
-        match (self.text.is_some(), self.children.is_empty()) {
+        match (self.text.is_some(), self.children.is_none()) {
             (false, true) => 0,
             (true, true) => 1,
             (false, false) => 10,
@@ -160,9 +165,12 @@ impl Node {
     {
         match self.at(front) {
             None => None,
-            Some(node) => match direction {
-                Direction::Forward => key_after(&node.children, last),
-                Direction::Backward => key_before(&node.children, last),
+            Some(node) => match &node.children {
+                None => None,
+                Some(children) => match direction {
+                    Direction::Forward => key_after(children, last),
+                    Direction::Backward => key_before(children, last),
+                },
             },
         }
     }
@@ -206,20 +214,23 @@ impl Node {
         ensures { MatchOption result (lead (later subscript_cmp path.now self.now) ≡ None) (λ t. IsTurn path.now self.now t.0 t.1.now t.2.now) }
     {
         match path {
-            [] => match self.children.iter().next() {
+            [] => match &self.children {
                 None => None,
-                Some((sub, child)) => Some((0, sub, child)),
+                Some(children) => match children.first() {
+                    None => None,
+                    Some((sub, child)) => Some((0, sub, child)),
+                },
             },
-            [sub, rest @ ..] => {
-                let (child, aside) = around(&self.children, sub);
-                match child {
-                    None => aside,
+            [sub, rest @ ..] => match &self.children {
+                None => None,
+                Some(children) => match children.get(sub) {
+                    None => aside(children, sub),
                     Some(child) => match child.turn(rest) {
-                        None => aside,
+                        None => aside(children, sub),
                         Some((kept, next, below)) => Some((kept + 1, next, below)),
                     },
-                }
-            }
+                },
+            },
         }
     }
 
@@ -230,12 +241,15 @@ impl Node {
         if self.text.is_some() {
             return Ok(());
         }
-        match self.children.iter().next() {
+        match &self.children {
             None => Ok(()),
-            Some((sub, child)) => {
-                append(found, sub)?;
-                child.descend(found)
-            }
+            Some(children) => match children.first() {
+                None => Ok(()),
+                Some((sub, child)) => {
+                    append(found, sub)?;
+                    child.descend(found)
+                }
+            },
         }
     }
 
@@ -265,10 +279,12 @@ impl Node {
         ensures front { OnOk result (front.new ≡ front.old) }
     {
         collect_own(&self.text, front, nodes)?;
-        for (sub, child) in &self.children {
-            append(front, sub)?;
-            child.collect(front, nodes)?;
-            let _last = front.pop();
+        if let Some(children) = &self.children {
+            for (sub, child) in children.iter() {
+                append(front, sub)?;
+                child.collect(front, nodes)?;
+                let _last = front.pop();
+            }
         }
         Ok(())
     }
@@ -287,10 +303,12 @@ impl Node {
         ensures front { OnOk result (front.new ≡ front.old) }
     {
         walk_own(&self.text, global, word, front, sink)?;
-        for (sub, child) in &self.children {
-            append(front, sub)?;
-            child.walk(global, word, front, sink)?;
-            let _last = front.pop();
+        if let Some(children) = &self.children {
+            for (sub, child) in children.iter() {
+                append(front, sub)?;
+                child.walk(global, word, front, sink)?;
+                let _last = front.pop();
+            }
         }
         Ok(())
     }
@@ -299,13 +317,24 @@ impl Node {
     pub fn try_clone(&self, alloc: Global) -> Result<Node, AllocError>
         ensures { IfOk result (λ n. n ≡ self.now) }
     {
-        let mut children = BTreeMap::new(alloc);
-        for (sub, child) in &self.children {
-            add(&mut children, sub, child.try_clone(alloc)?)?;
+        let text = self.text.clone()?;
+        let Some(children) = &self.children else {
+            return Ok(Node {
+                text,
+                children: None,
+            });
+        };
+        let mut copy = Children::new(alloc);
+        for place in &children.row {
+            copy.row
+                .push_back((place.0.try_clone()?, place.1.try_clone(alloc)?))?;
+        }
+        for (sub, child) in &children.others {
+            put(&mut copy.others, sub, child.try_clone(alloc)?)?;
         }
         Ok(Node {
-            text: self.text.clone()?,
-            children,
+            text,
+            children: Some(Box::new(alloc, copy)?),
         })
     }
 
@@ -313,7 +342,7 @@ impl Node {
     pub fn is_empty(&self) -> bool
         ensures { IsTrue result ↔ (self.now ≡ []) }
     {
-        self.text.is_none() && self.children.is_empty()
+        self.text.is_none() && self.children.is_none()
     }
 
     /// Whether what stands at it and below it keeps to this limit: each subscript that leads there, and each text.
@@ -323,12 +352,17 @@ impl Node {
         if !is_own_within(&self.text, limit) {
             return false;
         }
-        for (sub, child) in &self.children {
-            if !sub.is_within(limit) {
-                return false;
-            }
-            if !child.is_within(limit) {
-                return false;
+        if let Some(children) = &self.children {
+            for (sub, child) in children.iter() {
+                if child.is_empty() {
+                    continue;
+                }
+                if !sub.is_within(limit) {
+                    return false;
+                }
+                if !child.is_within(limit) {
+                    return false;
+                }
             }
         }
         true
@@ -338,18 +372,61 @@ impl Node {
     pub fn kill(&mut self, path: &[Sub])
         ensures { self.new ≡ without subscript_cmp path.now self.old }
     {
+        self.change(path, Change::Kill);
+    }
+
+    // Makes a change at a place. A child that holds nothing then goes.
+    fn change(&mut self, path: &[Sub], change: Change)
+        ensures { self.new ≡ changed change path.now self.old }
+    {
         match path {
-            [] => {
-                self.text = None;
-                self.children.clear();
-            }
+            [] => self.change_own(change),
             [sub, rest @ ..] => {
-                let Some(child) = self.children.get_mut(sub) else {
+                let Some(taken) = self.children.take() else {
                     return;
                 };
-                child.kill(rest);
-                if child.is_empty() {
-                    remove(&mut self.children, sub);
+                let mut children = taken;
+                match children.place_of(sub) {
+                    Some(at) => {
+                        let child = &mut children.row[at].1;
+                        child.change(rest, change);
+                        if child.is_empty() {
+                            children.trim(at);
+                            self.children = kept(children);
+                            return;
+                        }
+                        self.children = Some(children);
+                    }
+                    None => {
+                        let Some(child) = children.others.get_mut(sub) else {
+                            self.children = Some(children);
+                            return;
+                        };
+                        child.change(rest, change);
+                        if child.is_empty() {
+                            remove(&mut children.others, sub);
+                            self.children = kept(children);
+                            return;
+                        }
+                        self.children = Some(children);
+                    }
+                }
+            }
+        }
+    }
+
+    // Makes a change at the node itself.
+    fn change_own(&mut self, change: Change)
+        ensures { self.new ≡ changed change [] self.old }
+    {
+        match change {
+            Change::Kill => {
+                self.text = None;
+                self.children = None;
+            }
+            Change::Restore(text) => {
+                if self.text.is_some() {
+                    self.text = text;
                 }
             }
         }
@@ -372,13 +449,32 @@ impl Node {
                 self.text = Some(text);
                 Ok(())
             }
-            [sub, rest @ ..] => match self.children.get_mut(sub) {
-                Some(child) => child.set(alloc, rest, text),
-                None => {
-                    let child = chain(alloc, rest, text)?;
-                    add(&mut self.children, sub, child)
+            [sub, rest @ ..] => {
+                let Some(taken) = self.children.take() else {
+                    self.children = Some(only(alloc, sub, chain(alloc, rest, text)?)?);
+                    return Ok(());
+                };
+                let mut children = taken;
+                match children.place_of(sub) {
+                    Some(at) => {
+                        let done = children.row[at].1.set(alloc, rest, text);
+                        self.children = Some(children);
+                        done
+                    }
+                    None => match children.others.get_mut(sub) {
+                        Some(child) => {
+                            let done = child.set(alloc, rest, text);
+                            self.children = Some(children);
+                            done
+                        }
+                        None => {
+                            let done = add_chain(&mut children, alloc, sub, rest, text);
+                            self.children = Some(children);
+                            done
+                        }
+                    },
                 }
-            },
+            }
         }
     }
 
@@ -386,22 +482,7 @@ impl Node {
     pub fn restore(&mut self, path: &[Sub], text: Option<Text>)
         ensures { self.new ≡ restored (slice_cmp subscript_cmp) path.now text self.old }
     {
-        match path {
-            [] => {
-                if self.text.is_some() {
-                    self.text = text;
-                }
-            }
-            [sub, rest @ ..] => {
-                let Some(child) = self.children.get_mut(sub) else {
-                    return;
-                };
-                child.restore(rest, text);
-                if child.is_empty() {
-                    remove(&mut self.children, sub);
-                }
-            }
-        }
+        self.change(path, Change::Restore(text));
     }
 }
 
@@ -412,37 +493,43 @@ fn chain(alloc: Global, path: &[Sub], text: Text) -> Result<Node, AllocError>
     match path {
         [] => Ok(Node {
             text: Some(text),
-            children: BTreeMap::new(alloc),
+            children: None,
         }),
         [sub, rest @ ..] => {
-            let mut children = BTreeMap::new(alloc);
-            add(&mut children, sub, chain(alloc, rest, text)?)?;
+            let child = chain(alloc, rest, text)?;
             Ok(Node {
                 text: None,
-                children,
+                children: Some(only(alloc, sub, child)?),
             })
         }
     }
 }
 
-// The child at the subscript of a text.
-fn child_at<'a>(
-    children: &'a BTreeMap<Sub, Node>,
-    text: &Text,
-) -> Result<Option<&'a Node>, AllocError>
-    ensures { IfOk result (λ child. option_copied child ≡ lookup (is_at (subscript_cmp text.now)) children.now.entries) }
+// Adds a child with one text, at a list of subscripts below it.
+fn add_chain(
+    children: &mut Children,
+    alloc: Global,
+    sub: &Sub,
+    path: &[Sub],
+    text: Text,
+) -> Result<(), AllocError>
+    requires sound { IsSound children.old }
+    requires absent { lookup (is_at (subscript_cmp sub.now)) (all_of children.old) ≡ None }
+    ensures { Adds children.old children.new sub.now ((path.now, text) ∷ []) result }
 {
-    let sub = Sub::from_text(text.try_clone()?);
-    Ok(children.get(&sub))
+    let child = chain(alloc, path, text)?;
+    children.add(alloc, sub, child)
 }
 
-// Adds a child, or puts it in place of that at its subscript.
-fn add(children: &mut BTreeMap<Sub, Node>, sub: &Sub, child: Node) -> Result<(), AllocError>
-    ensures ok { OnOk result (children.new.entries ≡ insert_entry subscript_cmp children.old.entries sub.now child) }
-    ensures err { OnErr result (children.new.entries ≡ children.old.entries) }
+// One child alone.
+fn only(alloc: Global, sub: &Sub, child: Node) -> Result<Box<Children>, AllocError>
+    requires { 0 < length child }
+    ensures sound { IfOk result (λ c. IsSound c.value) }
+    ensures alone { IfOk result (λ c. live (all_of c.value) ≡ (sub.now, child) ∷ []) }
 {
-    children.insert(sub.try_clone()?, child)?;
-    Ok(())
+    let mut children = Children::new(alloc);
+    children.add(alloc, sub, child)?;
+    Ok(Box::new(alloc, children)?)
 }
 
 // Puts the text of a node itself to the end of some nodes, where there is one.
@@ -502,66 +589,18 @@ pub fn extend(list: &mut Subs, more: &[Sub]) -> Result<(), AllocError>
     Ok(())
 }
 
-// The child at a subscript, and the first child after it, where none of a path stays.
-fn around<'a>(
-    children: &'a BTreeMap<Sub, Node>,
-    sub: &Sub,
-) -> (Option<&'a Node>, Option<(usize, &'a Sub, &'a Node)>)
-    requires rises { T (is_sorted subscript_cmp children.now.entries) }
-    requires filled { AreFilled children.now.entries }
-    ensures child { option_copied result.0 ≡ lookup (is_at (subscript_cmp sub.now)) children.now.entries }
-    ensures aside { MatchOption result.1 (IsNoneAside sub.now children.now.entries) (λ t. IsAside sub.now children.now.entries t.0 t.1.now t.2.now) }
-{
-    let mut from = children.range((Bound::Included(sub), Bound::Unbounded));
-    match from.next() {
-        None => (None, None),
-        Some((first, child)) => {
-            if !sub.cmp(first).is_eq() {
-                return (None, Some((0, first, child)));
-            }
-            match from.next() {
-                None => (Some(child), None),
-                Some((next, other)) => (Some(child), Some((0, next, other))),
-            }
-        }
-    }
-}
-
-// The first child's subscript after this one. After the empty one comes each.
-fn key_after<'a>(children: &'a BTreeMap<Sub, Node>, last: &Sub) -> Option<&'a Sub>
-    ensures { option_copied result ≡ next_past subscript_cmp way.Forward (is_empty last.now) last.now (keys children.now) }
-{
-    if last.is_empty() {
-        return subscript(children.iter().next());
-    }
-    let mut later = children.range((Bound::Excluded(last), Bound::Unbounded));
-    subscript(later.next())
-}
-
-// The last child's subscript before this one. Before the empty one comes each.
-fn key_before<'a>(children: &'a BTreeMap<Sub, Node>, last: &Sub) -> Option<&'a Sub>
-    ensures { option_copied result ≡ next_past subscript_cmp way.Backward (is_empty last.now) last.now (keys children.now) }
-{
-    if last.is_empty() {
-        return subscript(children.iter().next_back());
-    }
-    let mut earlier = children.range(..last);
-    subscript(earlier.next_back())
-}
-
-// The subscript of a child.
-fn subscript<'a>(child: Option<(&'a Sub, &'a Node)>) -> Option<&'a Sub>
-    ensures { option_copied result ≡ option_map (λ e. e.0.now) child.entry }
-{
-    match child {
-        None => None,
-        Some((sub, _)) => Some(sub),
-    }
-}
-
 // Takes the child at a subscript out, if there is one.
 fn remove(children: &mut BTreeMap<Sub, Node>, sub: &Sub)
     ensures { children.new.entries ≡ remove_entry (is_at (subscript_cmp sub.now)) children.old.entries }
 {
     let _gone = children.remove(sub);
+}
+
+// A change at a place.
+#[derive(Drop)]
+enum Change {
+    // all goes that stands at it or below
+    Kill,
+    // a text comes in place of that at it, or goes
+    Restore(Option<Text>),
 }

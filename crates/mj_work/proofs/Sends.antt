@@ -2,7 +2,7 @@
 use denote.RattleType.{RattleType}
 use denote.Param.Send.{IsSend, IsSync, plain_send, view_send, shr_send, param_send, arg_send}
 use denote.Param.SendFields.{declared_send, as_row_send}
-use Rattle.std.proofs.Crossing.{Vec-send}
+use Rattle.std.proofs.Crossing.{Vec-send, Box-send, Deque-send}
 use Rattle.std.proofs.MapsCrossing.{BTreeMap-send}
 use Rattle.std.proofs.option.Option.TheSendSync as option
 use Rattle.std.proofs.alloc.Global.TheSendSync as heap
@@ -24,6 +24,7 @@ use Rattle.std.proofs.sync.ledger.Book.TheSendSync as book
 use Rattle.std.specs.declared.sync.ledger.Ledger as Ledger
 use Rattle.mj_work.specs.declared.locked.Work as Work
 use Rattle.mj_work.specs.contracts.locked.Locked as Locked
+use Rattle.mj_jobvm.specs.contracts.places.Places as Places
 use Rattle.mj_gather.specs.contracts.ran.Ran as Ran
 use Rattle.mj_gather.proofs.ran.Stop.TheSendSync as stop
 use Rattle.mj_text.proofs.text.Text.TheSendSync as text
@@ -59,7 +60,7 @@ use Rattle.mj_sys.specs.contracts.system.System as System
 ruleset parts = (tt, view_send, declared_send, as_row_send, plain_send, Vec-send, BTreeMap-send, option.the_send, heap.the_send)
 
 pub node_send : IsSend Node.the_row
-node_send = as_row_send Node.the_field (search (knot.send-Node, option.the_send, text.the_send, sub.the_send, BTreeMap-send))
+node_send = as_row_send Node.the_field (search (knot.send-Node, text.the_send, sub.the_send, Box-send, Deque-send, parts) depth 40)
 
 pub tree_send : IsSend Tree.the_row
 tree_send = search (node_send, parts) depth 40
@@ -109,8 +110,11 @@ shared_send D g d = search (transacted_send, locks_send, pool.the_send, jobs.the
 pub system_send : (D O : RattleType) (g : Device.Ghosts D.Denot) (h : Opening.Ghosts O.Denot) → IsSend D → IsSend O → IsSend (System.the_row D O g h)
 system_send D O g h d o = let s = shared_send D g d in search (event.the_send, parts) depth 40
 
+pub places_send : IsSend Places.the_row
+places_send = search (text.the_send, parts) depth 40
+
 pub ran_send : (κ : NamedLft) → IsSend (Ran.the_row κ)
-ran_send κ = search (claim.the_send, image_sync, shr_send, ask.the_send, reply.the_send, stop.the_send, parts) depth 40
+ran_send κ = search (claim.the_send, image_sync, shr_send, ask.the_send, reply.the_send, stop.the_send, places_send, parts) depth 40
 
 pub locked_send : (κ : NamedLft) (W D O : RattleType) (w : Work.Ghosts W.Denot) (g : Device.Ghosts D.Denot) (h : Opening.Ghosts O.Denot) (l : Ledger.Ghosts W.Denot)
     → IsSend D → IsSend O → IsSend (Locked.the_row κ W D O w g h l)

@@ -1,5 +1,5 @@
 -- A job that a worker runs, as it goes on and stops.
-use Rattle.std.specs.Prelude.{◌||◌, IfOk, IfErr}
+use Rattle.std.specs.Prelude.{◌||◌, IfOk, IfErr, OnErr}
 use Rattle.std.specs.List.{list_any}
 use Rattle.std.proofs.Common.{◌≡◌, inl, inr, ℕ, List, [], ◌∷◌, ◌++◌, Bool, true, false, Option, Some, Result, Ok, Err, refl, sym, ap, ◌∙◌, subst}
 use Rattle.mj_text.specs.declared.limit.Limit.TheVariants.{V2}
@@ -19,7 +19,7 @@ use Rattle.mj_core.specs.Runs.{start_in}
 use Rattle.mj_core.specs.Ties.{shared_in}
 use Rattle.mj_gather.specs.declared.ran.Stop.{Stop}
 use Rattle.mj_gather.specs.declared.ran.Stop.TheVariants as stops
-use Rattle.mj_gather.specs.Rans.{Kept, is_halt, EndsAtHalt, StopsAt, IsRan}
+use Rattle.mj_gather.specs.Rans.{Kept, is_halt, EndsAtHalt, StopsAt, IsRan, ArePlacesIn}
 use Rattle.mj_work.specs.Working.{is_cut, was_cut, has_halted, MayStop, IsAskRefused, IsAnswered, IsAt, StopsRefused}
 use Rattle.mj_core.proofs.Owning.{own_same}
 use Rattle.mj_gather.proofs.Gathered.{no_talks}
@@ -99,6 +99,14 @@ module _ {A : Type 0} (ans : Answering A) (image : Loaded) (claim : Claimed) (jo
           stands = subst S (sym log) (stops_at ans opening claim job x x' (program_of image) (start_in claim.job claim.start) job.run.log a stop so.0 makes);
         })
 
+    -- with the places that it had
+    left_places : (stop : Stop) → IsAt ans image claim false job x → IsAnswered {R = Bool} ans opening a claim job x (Err stop) claim' job' x'
+        → ArePlacesIn image claim' job'.run.log job'.run.places
+    left_places stop at so =
+        let J : Running → Type 0 = λ j. ArePlacesIn image claim j.run.log j.run.places in
+        let R : Claimed → Type 0 = λ k. ArePlacesIn image k job'.run.log job'.run.places in
+        subst R (sym so.1) (subst J (sym so.2) at.own.run.1.placed)
+
     -- where it is refused, for its reason
     refused_at : (stop : Stop) → job.run.pending ≡ Some a → IsAt ans image claim false job x → IsAnswered {R = Bool} ans opening a claim job x (Err stop) claim' job' x'
         → stop ≡ stops.Refused → StopsRefused ans opening image claim' job' x'
@@ -120,6 +128,11 @@ module _ {A : Type 0} (ans : Answering A) (image : Loaded) (claim : Claimed) (jo
     answered_ran (Ok halts) makes at answered = tt
     answered_ran (Err stop) makes at answered = left_at stop makes at answered
 
+    pub answered_places : (told : Result Bool Stop) → IsAt ans image claim false job x → IsAnswered ans opening a claim job x told claim' job' x'
+        → OnErr told (ArePlacesIn image claim' job'.run.log job'.run.places)
+    answered_places (Ok halts) at answered = tt
+    answered_places (Err stop) at answered = left_places stop at answered
+
     pub answered_why : (told : Result Bool Stop) → job.run.pending ≡ Some a → IsAt ans image claim false job x → IsAnswered ans opening a claim job x told claim' job' x'
         → IfErr told (λ stop. stop ≡ stops.Refused → StopsRefused ans opening image claim' job' x')
     answered_why (Ok halts) asks at answered = tt
@@ -136,6 +149,10 @@ module _ {A : Type 0} (ans : Answering A) (image : Loaded) (claim : Claimed) (jo
     stays = ((λ log of. of), λ name has held. held);
     why = inl (at.told ∙ is);
   }
+
+  -- where what it asked came from
+  pub placed_at : (halted : Bool) → IsAt ans image claim halted job x → ArePlacesIn image claim job.run.log job.run.places
+  placed_at halted at = at.own.run.1.placed
 
   -- it stops
   pub ran_at : (halted : Bool) (stop : Stop) → IsAt ans image claim halted job x → StopsAt (program_of image) (start_in claim.job claim.start) job.run.log stop
@@ -178,6 +195,9 @@ not_begun image claim none = record {
   ends = tt;
   stands = tt;
 }
+
+pub none_placed : (image : Loaded) (claim : Claimed) → ArePlacesIn image claim [] []
+none_placed image claim = tt
 
 -- ---- jobs that stopped
 

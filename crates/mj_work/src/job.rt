@@ -7,7 +7,7 @@ ghost use Rattle.mj_ask.specs.declared.ask.Ask as asks;
 ghost use Rattle.mj_ask.specs.declared.ask.Ask.TheVariants as ask_kinds;
 ghost use Rattle.mj_sys.specs.declared.served.Served.TheVariants as serveds;
 ghost use Rattle.mj_sys.specs.System.{Claimed};
-ghost use Rattle.mj_gather.specs.Rans.{is_halt, IsRan};
+ghost use Rattle.mj_gather.specs.Rans.{is_halt, IsRan, ArePlacesIn};
 ghost use Rattle.mj_work.specs.Working.{stop_by, needs_no_place, reply_in, WasServed, WasToldAt, WasServedAt, is_told, IsAnswered, IsAt};
 ghost use Rattle.mj_work.specs.Working.{WasRefused, StopsUntold, StopsUnserved, StopsRefused};
 
@@ -18,7 +18,7 @@ use mj_ask::{Ask, Reply, SharedAsk};
 use mj_core::{Answerer, FUEL, Fresh, Made, Place, make_place, take_reply, take_up, talk};
 use mj_dev::{Device, Session};
 use mj_gather::{Ran, Stop};
-use mj_jobvm::{Job, Turn};
+use mj_jobvm::{Job, Places, Turn};
 use mj_load::Image;
 use mj_sys::{Claim, Opening, Refused, Served, Told};
 use mj_text::Text;
@@ -253,6 +253,7 @@ impl<'m, 'a, J: Work, D: Device, O: Opening, G: Gate, C: Clock, R: Wait> Worker<
         requires { IsAt A.answering self.now.image.now claim.old halted job.old answerer.old }
         ensures on { IfOk result (λ told. IsAt A.answering self.now.image.now claim.new told job.new answerer.new) }
         ensures ran { IfErr result (λ stop. IsRan self.now.image.now claim.new job.new.run.log stop) }
+        ensures places { OnErr result (ArePlacesIn self.now.image.now claim.new job.new.run.log job.new.run.places) }
         ensures why { IfErr result (λ stop. stop ≡ Stop.Refused → StopsRefused A.answering O.opening self.now.image.now claim.new job.new answerer.new) }
     {
         match job.advance(self.image, FUEL) {
@@ -280,6 +281,7 @@ impl<'m, 'a, J: Work, D: Device, O: Opening, G: Gate, C: Clock, R: Wait> Worker<
     ) -> Stop
         requires { IsAt A.answering self.now.image.now claim.old false job.old answerer.old }
         ensures ran { IsRan self.now.image.now claim.new job.new.run.log result }
+        ensures places { ArePlacesIn self.now.image.now claim.new job.new.run.log job.new.run.places }
         ensures why { result ≡ Stop.Refused → StopsRefused A.answering O.opening self.now.image.now claim.new job.new answerer.new }
     {
         let mut halted = false;
@@ -301,10 +303,12 @@ impl<'m, 'a, J: Work, D: Device, O: Opening, G: Gate, C: Clock, R: Wait> Worker<
         let mut claim = claim;
         let Ok((mut job, mut answerer)) = start_job::<D, A>(self.alloc, self.image, &claim, session)
         else {
-            return Ran::new(claim, self.image, Vec::new(self.alloc), Stop::Memory);
+            let none = Places::new(self.alloc);
+            return Ran::new(claim, self.image, Vec::new(self.alloc), none, Stop::Memory);
         };
         let stop = self.go_on(&mut claim, &mut job, &mut answerer);
-        Ran::new(claim, self.image, job.into_log(), stop)
+        let (log, places) = job.into_log();
+        Ran::new(claim, self.image, log, places, stop)
     }
 }
 

@@ -22,7 +22,7 @@ use Rattle.mj_ast.specs.declared.function.NameFunction.{NameFunction}
 use Rattle.mj_ast.specs.Syntax.{Expr, Chain, Tails, Done, Then, Operand, Literal, Value, Intrinsic, Unary, Group, Call, About, Select, Variable, Var, Exprs, No, More as Another, Choices, Last, Before, Extrinsic, Actuals, NoActual, Given, Omitted, as_actuals, Destination, Plain, Pieces, Targets, One, Several, Assignment, Killed, Gone, Spared, Merged, Output, Shown, Format, Coded, Opened, Received, Input, Prompted, Arranged, Into, Called as Calling, Jumped as Jumping, Started as Starting, LockNames, Lone, Together, Locked, Range, Single, Endless, UpTo, Command, Set, Write, Halt, Hang, Job, Lock, OpenDevice, UseDevice, CloseDevice, Read, Kill, Merge, If, Else, For, Forever, Do, Goto, Quit, New, Restartable, TStart, TCommit, TRestart, TRollback, Break, LineCommand, Line, Routine}
 use Rattle.mj_ast.specs.Expressions.{Symbol, Name as NameSymbol, Mark, scoped, expr_symbols, tails_symbols, operand_symbols, variable_symbols, list_symbols, more_symbols, choices_symbols, routine_symbols, actuals_symbols, further_symbols}
 use Rattle.mj_ast.specs.Commands.{Part, Put, Place as PlacePart, Text, with_commas, behind_commas, more_parts, destination_parts, targets_parts, assignment_parts, mark_part, column_parts, output_parts, opened_parts, read_mode_parts, received_parts, input_parts, killed_parts, merged_parts, value_parts, target_parts, guard_parts, wait_parts, actual_parts, actuals_parts, called_parts, jumped_parts, started_parts, mode_parts, variable_parts, lock_names_parts, locked_parts, range_parts, result_parts, command_parts}
-use Rattle.mj_semantics.specs.State.{State, Locals, Place, principal, level_of, special_value, set_test, kill_except, passed, popped, pushed, at_place, may_go}
+use Rattle.mj_semantics.specs.State.{State, Frame, Locals, Place, principal, level_of, special_value, set_test, kill_except, passed, popped, pushed, at_place, may_go}
 use Rattle.mj_semantics.specs.Outcome.{Outcome, Needs, Timed, no_restart, turn, fault}
 use Rattle.mj_semantics.specs.Lines.{Here, place_at, next_line, line_before, lines_of, line_at, levels_of, line_number, entered, entry_of}
 use Rattle.mj_semantics.specs.Points.{Leave, Ways, Loop, Once, Always, By, Point, AtLine, Called, Jumped, Pass, Started, Points}
@@ -33,9 +33,9 @@ use Rattle.mj_semantics.specs.Transactions.{restored_by, listed_by, serial_by}
 use Rattle.mj_semantics.specs.Program.{Program}
 use Rattle.mj_semantics.specs.Job.{quit_before, obey_line, call, jump, in_pass, at_point, points_of, Start, start as starting, opening, next}
 use Rattle.mj_rou.specs.Words.{Each, IsWorded, IsExprWorded, IsVariableWorded, IsPartWorded, IsConditionWorded, IsStepWorded, IsLineWorded, IsRoutineWorded}
-use Rattle.mj_written.specs.Formed.{are_locals}
+use Rattle.mj_written.specs.Formed.{are_locals, IsLine}
 use Rattle.mj_written.proofs.Names.{word_is, entry_is, routine_is, function_routine, IsNamed, named, Suits, suits}
-use Rattle.mj_written.proofs.States.{IsFormed, pops, passes_on, spares}
+use Rattle.mj_written.proofs.States.{IsFormed, IsFramed, pops, passes_on, spares}
 use Rattle.mj_written.proofs.Words.{IsFine, Asks, none_back, a_turn, some_turns, looked, changed, chosen, ended, faulted, is_known, is_given, is_composed, to_its_device, restarts, reads, is_about, stores, IsAimed, puts, puts_all, removes, names_ask, takes_nodes, puts_nodes, news_all, ends_frame, quits_frame, in_its_function, goes_deeper, writes, tabs, writes_code, tests, IsLoop, goes_again, begins, reads_two, hangs, starts_job, unlocks_all, locks, opens_device, uses_device, closes, reads_input, begins_transaction, commits, rolls_back, gives_back, begins_again}
 
 -- ---- lists
@@ -345,7 +345,7 @@ module _ (P : Points) (points : ArePoints P) (here : Here) (word : is_word here.
   inputs_all (i ∷ list) h l = inputs i h.0 (inputs_all list h.1 l)
 
   still : (b : Bool) (s : State) → IsFormed s → IsFormed (set_test b s)
-  still b s h = record { locals = h.locals; saved = h.saved; mark = h.mark; held = h.held }
+  still b s h = record { locals = h.locals; saved = h.saved; mark = h.mark; held = h.held; frames = h.frames }
 
   ifs_ask : (es : List Expr) {f f' : Timed} → Parted value_parts es → Asks f → Asks f' → Asks (ifs P here es f f')
   ifs_ask [] h l m = m
@@ -380,12 +380,12 @@ module _ (P : Points) (points : ArePoints P) (here : Here) (word : is_word here.
       (λ vs. a_turn (points.by (Called false (entry_of here c.target) vs _) (routine_is here c.target word i.0, λ v. changed {c = popped} pops (calls_ask list h.1 l)))))
       (calls_ask list h.1 l)
 
-  pushes : (p : Place) (level : ℕ) (function : Bool) (test : Option Bool) (s : State) → IsFormed s → IsFormed (pushed p level function test s)
-  pushes p level function test s h = record { locals = h.locals; saved = h.saved; mark = h.mark; held = h.held }
+  pushes : (p : Place) (level : ℕ) (function : Bool) (test : Option Bool) (s : State) → is_word p.routine ≡ true → IsFormed s → IsFormed (pushed p level function test s)
+  pushes p level function test s w h = record { locals = h.locals; saved = h.saved; mark = h.mark; held = h.held; frames = (w, h.frames) }
 
   block_asks : {f : Timed} → Asks f → Asks (block P here f)
   block_asks l =
-      goes_deeper (looked (λ s k. changed {c = pushed (place_at here) (level_of s + 1) false (Some s.test)} (pushes (place_at here) (level_of s + 1) false (Some s.test))
+      goes_deeper (looked (λ s k. changed {c = pushed (place_at here) (level_of s + 1) false (Some s.test)} (λ t j. pushes (place_at here) (level_of s + 1) false (Some s.test) t word j)
       (a_turn (points.by (AtLine (next_line here) _) (word, λ v. changed {c = popped} pops l)))))
 
   do_asks : (list : List Calling) {f : Timed} → Parted called_parts list → Asks f → Asks (do_all P here list f)
@@ -449,11 +449,16 @@ module _ (P : Points) (points : ArePoints P) (here : Here) (word : is_word here.
 
   -- Lines.
 
-  stands : (p : Place) (s : State) → IsFormed s → IsFormed (at_place p s)
-  stands p s h = record { locals = h.locals; saved = h.saved; mark = h.mark; held = h.held }
+  moved_to : (p : Place) (fs : List Frame) → is_word p.routine ≡ true → Each IsFramed fs
+      → Each IsFramed (elim fs as (λ _. List Frame) [ [] ↦ [] | f ∷ fs ↦ record f { place = p } ∷ fs ])
+  moved_to p [] w h = tt
+  moved_to p (f ∷ fs) w h = (w, h.1)
+
+  stands : (p : Place) → is_word p.routine ≡ true → (s : State) → IsFormed s → IsFormed (at_place p s)
+  stands p w s h = record { locals = h.locals; saved = h.saved; mark = h.mark; held = h.held; frames = moved_to p s.frames w h.frames }
 
   quits_before : {l : Leave} → IsLeave l → Asks (quit_before here l)
-  quits_before l = changed {c = at_place (place_at (line_before here))} (stands (place_at (line_before here))) (quits_frame (l []))
+  quits_before l = changed {c = at_place (place_at (line_before here))} (stands (place_at (line_before here)) word) (quits_frame (l []))
 
   next_asks : {l : Leave} → IsLeave l → Asks (turn (P (AtLine (next_line here) l)))
   next_asks {l = m} l = a_turn (points.by (AtLine (next_line here) m) (word, l))
@@ -465,7 +470,7 @@ module _ (P : Points) (points : ArePoints P) (here : Here) (word : is_word here.
       looked (λ s k.
       chosen (nat_lt line.level (level_of s)) (quits_before l)
       (chosen (nat_lt (level_of s) line.level) (next_asks l)
-      (changed {c = at_place (place_at here)} (stands (place_at here))
+      (changed {c = at_place (place_at here)} (stands (place_at here) word)
       (obeys_all line.steps {w = record {
         line_end = turn (P (AtLine (next_line here) m));
         for_quit = None;
@@ -530,6 +535,7 @@ module _ (image : List Routine) (worded : Each IsRoutineWorded image) (P : Point
         saved = k.saved;
         mark = k.mark;
         held = k.held;
+        frames = (h.word to refl, k.frames);
       }))
       (some_turns (length to.1.formals) (a_turn (points.by (AtLine to.0 m) (h.word to refl, l)))))))
       faulted
@@ -560,14 +566,14 @@ starts_ask image job d w h =
     (λ r p. (points_ask image w d).by (Called false job.entry job.values _) (h, λ v. ended)))
 
 opens : (bounds : Bounds) (job : ℕ) → IsFormed (opening bounds job)
-opens bounds job = record { locals = refl; saved = tt; mark = tt; held = refl }
+opens bounds job = record { locals = refl; saved = tt; mark = tt; held = refl; frames = tt }
 
 entry_word : (e : Entry) → is_entry e ≡ true → is_word e.routine ≡ true
 entry_word e h = (both_true _ (is_word e.routine) h).1
 
 pub are_written : (program : Program) (job : Start) (n : ℕ) (replies : List Reply) (a : Ask) (locals : Locals) (at : List Place)
     → Each IsRoutineWorded program.routines → is_entry job.entry ≡ true → list_all is_reply replies ≡ true
-    → next program job n replies ≡ Needs a locals at → (is_ask a ≡ true) × (are_locals locals ≡ true)
+    → next program job n replies ≡ Needs a locals at → (is_ask a ≡ true) × (are_locals locals ≡ true) × Each IsLine at
 are_written program job n replies a locals at w h t e =
     let Q : Outcome → Type 0 = λ o. IsFine o in
     subst Q e ((starts_ask program.routines job (suc n) w (entry_word job.entry h)).by n no_restart (opening program.bounds job.job) replies none_back (opens program.bounds job.job) t)

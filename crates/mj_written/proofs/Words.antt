@@ -1,5 +1,5 @@
 -- What a run asks can be written: the words that runs are made of keep this.
-use Rattle.std.proofs.Common.{◌≡◌, ℕ, zero, suc, List, [], ◌∷◌, length, Bool, true, false, Option, Some, None, Result, Ok, Err, refl, arith}
+use Rattle.std.proofs.Common.{◌≡◌, ℕ, zero, suc, List, [], ◌∷◌, length, map, Bool, true, false, Option, Some, None, Result, Ok, Err, refl, arith}
 use Rattle.std.specs.Prelude.{ℤ, pos, int_lt, ◌+ℤ◌, not, cond, nat_eq, nat_lt, nat_le, if◌then◌else◌}
 use Rattle.std.specs.List.{list_all}
 use Rattle.std.proofs.lemmas.Bool.{lt-ltb}
@@ -40,7 +40,7 @@ use Rattle.mj_ast.specs.declared.routine.FormatMark.{FormatMark}
 use Rattle.mj_ast.specs.declared.routine.ReadMode.{ReadMode}
 use Rattle.mj_ast.specs.Syntax.{Renewed, Fresh, Kept}
 use Rattle.mj_strfn.specs.Functions.{assigned_pieces, set_piece_value}
-use Rattle.mj_semantics.specs.State.{State, Words as Listed, Only, AllBut, accessed, wrote, broke, counted, hold, has_failed, principal, ending_order, is_at_mark, newed, devices_limit, is_open, may_close, column_at, with_device, used, dropped, marked, raised, lowered, settled, can_restart, is_serial, restarted, is_function, is_in_function}
+use Rattle.mj_semantics.specs.State.{State, Frame, Words as Listed, Only, AllBut, accessed, wrote, broke, counted, hold, has_failed, principal, ending_order, is_at_mark, newed, devices_limit, is_open, may_close, column_at, with_device, used, dropped, marked, raised, lowered, settled, can_restart, is_serial, restarted, is_function, is_in_function}
 use Rattle.mj_semantics.specs.Outcome.{Outcome, Needs, Ended, More, Handler, Timed, turn, turns, look, change, asking, over, no_restart, until, restartable, go_back, halt, ends, end, fault_bytes, fault, ask, tell, is_failed, to_device, need, given, composed}
 use Rattle.mj_semantics.specs.Names.{direction_of, spelled, function_told}
 use Rattle.mj_semantics.specs.Functions.{needed, optional}
@@ -52,14 +52,14 @@ use Rattle.mj_semantics.specs.Commands.{Aim, Whole, Part, store, or_empty, renew
 use Rattle.mj_semantics.specs.Transactions.{levels_limit, kind_of, begin_transaction, in_transaction, is_clash, commit, roll_back, roll_back_for_restart, begin_restart}
 use Rattle.mj_semantics.specs.Devices.{is_got, has_no_session, obtained, request_device, begin_session, open_device, use_device, end_session, give_up, close, is_input, input_ask, input_told, read_input}
 use Rattle.mj_rou.specs.Words.{Each}
-use Rattle.mj_written.specs.Formed.{are_locals}
+use Rattle.mj_written.specs.Formed.{are_locals, IsLine}
 use Rattle.mj_written.proofs.Locals.{subtree_fits, set_stays, kill_stays, put_kept}
 use Rattle.mj_written.proofs.Names.{IsNamed, IsSought, name_is, global_is, search_is, local_is, Suits}
-use Rattle.mj_written.proofs.States.{IsFormed, news, holds_on, times, marks, raises, lowers, settles, restarts as goes_back}
+use Rattle.mj_written.proofs.States.{IsFormed, IsFramed, news, holds_on, times, marks, raises, lowers, settles, restarts as goes_back}
 
--- what is asked can be written, and the locals there are formed
+-- what is asked can be written, the locals there are formed, and so are the places of the frames
 abbrev pub IsFine : Outcome → Type 0
-IsFine (Needs a locals places) = (is_ask a ≡ true) × (are_locals locals ≡ true)
+IsFine (Needs a locals at) = (is_ask a ≡ true) × (are_locals locals ≡ true) × Each IsLine at
 IsFine Ended = Unit {0}
 IsFine More = Unit {0}
 
@@ -100,11 +100,15 @@ pub chosen : {f f' : Timed} (c : Bool) → Asks f → Asks f' → Asks (if c the
 chosen true l m = l
 chosen false l m = m
 
+lines_of : (fs : List Frame) → Each IsFramed fs → Each IsLine (map (λ f. f.place) fs)
+lines_of [] k = tt
+lines_of (f ∷ fs) k = (k.0, lines_of fs k.1)
+
 pub replied_to : (a : Ask) {f : Reply → Timed} → is_ask a ≡ true → ((r : Reply) → is_reply r ≡ true → Asks (f r)) → Asks (asking a f)
 replied_to a {f} q l = record { by = at }
   where
     at : (n : ℕ) (h : Handler) (s : State) (rs : List Reply) → IsBack h → IsFormed s → AreTold rs → IsFine (asking a f n h s rs)
-    at n h s [] e k t = (q, k.locals)
+    at n h s [] e k t = (q, k.locals, lines_of s.frames k.frames)
     at n h s (r ∷ rs) e k t = let b = both_true (is_reply r) (list_all is_reply rs) t in (l r b.0).by n h s rs e k b.1
 
 is_over : Asks over
@@ -140,10 +144,10 @@ pub is_composed : {g : List ℕ → Timed} (text : TextLimit → Result (List �
 is_composed text l = looked (λ s k. is_given (text s.bounds.limit) l)
 
 count_on : (s : State) → IsFormed s → IsFormed (counted s)
-count_on s h = record { locals = h.locals; saved = h.saved; mark = h.mark; held = h.held }
+count_on s h = record { locals = h.locals; saved = h.saved; mark = h.mark; held = h.held; frames = h.frames }
 
 breaks : (name : List ℕ) (s : State) → IsFormed s → IsFormed (broke name s)
-breaks name s h = record { locals = h.locals; saved = h.saved; mark = h.mark; held = h.held }
+breaks name s h = record { locals = h.locals; saved = h.saved; mark = h.mark; held = h.held; frames = h.frames }
 
 pub asked : (a : Ask) {f : Reply → Timed} → is_ask a ≡ true → ((r : Reply) → is_reply r ≡ true → Asks (f r)) → Asks (ask a f)
 asked a q l = looked (λ s k. chosen (nat_lt s.replied s.bounds.events) (replied_to a q (λ r p. changed {c = counted} count_on (l r p))) (faulted {f = Steps}))
@@ -210,7 +214,7 @@ makes a {f} w l = by (name_of a).global refl
         → Asks (if b then ask (ask_kinds.Shared (shared_asks.Access a)) (λ r. given (answered (answer_told r)) f) else look (λ s. change (accessed a) (given (answered (answer_of a s.locals)) f)))
     by true e = asked _ (w.asked e) (λ r p. with_answer (answer_told r) (reply_nodes r p) l)
     by false e =
-        looked (λ s k. changed {c = accessed a} (λ t j. record { locals = w.kept e t.locals j.locals; saved = j.saved; mark = j.mark; held = j.held })
+        looked (λ s k. changed {c = accessed a} (λ t j. record { locals = w.kept e t.locals j.locals; saved = j.saved; mark = j.mark; held = j.held; frames = j.frames })
         (with_answer (answer_of a s.locals) (w.nodes s.locals k.locals) l))
 
 value_may : (x : Name) → IsNamed x → IsAllowed (accesses.Value x)
@@ -332,7 +336,7 @@ pub goes_deeper : {f : Timed} → Asks f → Asks (deeper f)
 goes_deeper l = looked (λ s k. chosen (nat_lt (length s.frames) frames_limit) l (faulted {f = Depth}))
 
 write_on : (bytes : List ℕ) (s : State) → IsFormed s → IsFormed (wrote bytes s)
-write_on bytes s h = record { locals = h.locals; saved = h.saved; mark = h.mark; held = h.held }
+write_on bytes s h = record { locals = h.locals; saved = h.saved; mark = h.mark; held = h.held; frames = h.frames }
 
 pub writes : (bytes : List ℕ) {f : Timed} → Asks f → Asks (write bytes f)
 writes [] l = l
@@ -417,13 +421,13 @@ tells : (a : Ask) {f : Timed} → is_ask a ≡ true → Asks f → Asks (tell a 
 tells a q l = asked a q (λ r p. l)
 
 opens_one : (name : List ℕ) (s : State) → IsFormed s → IsFormed (with_device name s)
-opens_one name s h = record { locals = h.locals; saved = h.saved; mark = h.mark; held = h.held }
+opens_one name s h = record { locals = h.locals; saved = h.saved; mark = h.mark; held = h.held; frames = h.frames }
 
 uses_one : (name : List ℕ) (s : State) → IsFormed s → IsFormed (used name s)
-uses_one name s h = record { locals = h.locals; saved = h.saved; mark = h.mark; held = h.held }
+uses_one name s h = record { locals = h.locals; saved = h.saved; mark = h.mark; held = h.held; frames = h.frames }
 
 drops_one : (name : List ℕ) (s : State) → IsFormed s → IsFormed (dropped name s)
-drops_one name s h = record { locals = h.locals; saved = h.saved; mark = h.mark; held = h.held }
+drops_one name s h = record { locals = h.locals; saved = h.saved; mark = h.mark; held = h.held; frames = h.frames }
 
 is_obtained : (name : List ℕ) (timeout : Option ℤ) (r : Reply) {f g : Timed} → Asks f → Asks g → Asks (obtained name timeout r f g)
 is_obtained name timeout r l m =

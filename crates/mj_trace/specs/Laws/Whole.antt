@@ -32,7 +32,7 @@ use Rattle.mj_trace.specs.declared.form.Form.TheVariants.{First, Second}
 use Rattle.mj_trace.specs.Spelling.{reply_text, told_text, spot_text, spot_part, event_text}
 use Rattle.mj_trace.specs.Trace.{Traced, header, limit_line, limit_of, head_text, pool_line, pool_lines, start_line, start_lines, event_lines, trace_text}
 use Rattle.mj_trace.specs.Reading.{onward, front, behind_bytes, spot_in}
-use Rattle.mj_trace.specs.Lines.{piece_text, are_told, is_spot, is_event, is_piece, replied, told_in, asked, placed, event_in, counted, piece_with, piece_in, respelled, piece_of, starts_limit, events_limit, is_before, stands_behind, last_device, principal, may_start, may_follow, with_piece, followed_by, then_more, lines_from, no_lines, limited, headed, reading_of, rises, IsTrace}
+use Rattle.mj_trace.specs.Lines.{piece_text, are_told, is_spot, is_event, is_piece, replied, told_in, asked, placed, event_in, counted, piece_with, piece_in, respelled, piece_of, starts_limit, is_full, is_before, stands_behind, last_device, principal, may_start, may_follow, with_piece, followed_by, then_more, lines_from, no_lines, limited, headed, reading_of, rises, IsTrace}
 use Rattle.mj_trace.specs.Sized.{is_count, ask_fits, reply_fits, spot_fits, device_count_fits, event_fits, IsSized}
 use Rattle.mj_trace.specs.Refused.{IsBegun, line_count}
 use Rattle.mj_trace.specs.Laws.Spelled.{last_pushed, one_longer}
@@ -145,157 +145,161 @@ device_found form name count w h k =
 
 -- ---- one line behind others
 
-not_yet_full : (n : ℕ) → n < events_limit → eqb n events_limit ≡ false
-not_yet_full n h = grind (arith, nat_tests)
+not_yet_full : (n m : ℕ) → n < m → eqb n m ≡ false
+not_yet_full n m h = grind (arith, nat_tests)
+
+not_full : (events : List Noted) (n m : ℕ) → n < m → (not (is_empty events) && eqb n m) ≡ false
+not_full [] n m h = refl
+not_full (v ∷ events) n m h = not_yet_full n m h
 
 below : (n m : ℕ) → n < m → nat_lt n m ≡ true
 below n m h = grind (arith, nat_tests)
 
--- a line that may follow is read
-follows : (t : Traced) (k : ℕ) (p : Piece) (rest : List ℕ) → AreWithin (piece_text t.form p) → length t.events < events_limit
-    → piece_of t.form (piece_text t.form p) ≡ Some p → may_follow t p ≡ true
-    → lines_from t k (lines_of (piece_text t.form p ++ 10 ∷ rest)) ≡ lines_from (with_piece t p) (suc k) (lines_of rest)
-follows t k p rest within few found may =
-    let more : Traced → Result Traced TraceError = λ u. lines_from u (suc k) (lines_of rest) in
-    ap (lines_from t k) (line_first (piece_text t.form p) rest within)
-    ∙ ap (λ b. then_more more (cond b (Err (errors.Long k)) (followed_by t k (piece_of t.form (piece_text t.form p))))) (not_yet_full (length t.events) few)
-    ∙ ap (λ o. then_more more (followed_by t k o)) found
-    ∙ ap (λ b. then_more more (cond b (Ok (with_piece t p)) (Err (errors.Line k)))) may
-
 abbrev at : Form → List (List ℕ × ℕ) → List Entry → List Noted → Traced
 at form pool starts events = record { form = form; pool = pool; starts = starts; events = events }
 
-module _ (form : Form) where
-  -- behind the lines of events it goes on with what follows
-  events_on : (pool : List (List ℕ × ℕ)) (starts : List Entry) (acc : List Noted) (k : ℕ) (es : List Noted) (rest : List ℕ) → is_empty starts ≡ false
-      → list_all (is_event form) es ≡ true → list_all event_fits es ≡ true → length acc + length es ≤ events_limit
-      → lines_from (at form pool starts acc) k (lines_of (event_lines form es ++ rest)) ≡ lines_from (at form pool starts (acc ++ es)) (k + length es) (lines_of rest)
-  events_on pool starts acc k [] rest some can fit few =
-      let same : k ≡ k + length {A = Noted} [] = omega arith in λ i. lines_from (at form pool starts (sym (append-nil acc) i)) (same i) (lines_of rest)
-  events_on pool starts acc k (e ∷ es) rest some can fit few =
-      let p = both_true (is_event form e) (list_all (is_event form) es) can in
-      let q = both_true (event_fits e) (list_all event_fits es) fit in
-      let w = written form e p.0 q.0 in
-      let same : suc k + length es ≡ k + length {A = Noted} (e ∷ es) = omega arith in
-      ap (λ l. lines_from (at form pool starts acc) k (lines_of l)) (append_assoc (event_text form e) (10 ∷ event_lines form es) rest)
-      ∙ follows (at form pool starts acc) k (pieces.Event e) (event_lines form es ++ rest)
-      (event_within form e w.number w.word w.line w.ask w.ask_sized w.reply w.reply_sized) (omega (arith, few))
-      (event_found form e w p.0) (ap not some)
-      ∙ events_on pool starts (acc ++ e ∷ []) (suc k) es rest some p.1 q.1 (omega (arith, few, one_longer acc e))
-      ∙ (λ i. lines_from (at form pool starts (append_assoc acc (e ∷ []) es i)) (same i) (lines_of rest))
+module _ (most : ℕ) where
+  -- a line that may follow is read
+  follows : (t : Traced) (k : ℕ) (p : Piece) (rest : List ℕ) → AreWithin (piece_text t.form p) → is_full most t ≡ false
+      → piece_of t.form (piece_text t.form p) ≡ Some p → may_follow most t p ≡ true
+      → lines_from most t k (lines_of (piece_text t.form p ++ 10 ∷ rest)) ≡ lines_from most (with_piece t p) (suc k) (lines_of rest)
+  follows t k p rest within room found may =
+      let more : Traced → Result Traced TraceError = λ u. lines_from most u (suc k) (lines_of rest) in
+      ap (lines_from most t k) (line_first (piece_text t.form p) rest within)
+      ∙ ap (λ b. then_more more (cond b (Err (errors.Long k)) (followed_by most t k (piece_of t.form (piece_text t.form p))))) room
+      ∙ ap (λ o. then_more more (followed_by most t k o)) found
+      ∙ ap (λ b. then_more more (cond b (Ok (with_piece t p)) (Err (errors.Line k)))) may
 
-  start_on : (pool : List (List ℕ × ℕ)) (acc : List Entry) (k : ℕ) (s : Entry) (rest : List ℕ) → is_entry s ≡ true → may_start pool (length acc) ≡ true
-      → lines_from (at form pool acc []) k (lines_of (start_line s ++ 10 ∷ rest)) ≡ lines_from (at form pool (acc ++ s ∷ []) []) (suc k) (lines_of rest)
+  module _ (form : Form) where
+    -- behind the lines of events it goes on with what follows
+    events_on : (pool : List (List ℕ × ℕ)) (starts : List Entry) (acc : List Noted) (k : ℕ) (es : List Noted) (rest : List ℕ) → is_empty starts ≡ false
+        → list_all (is_event form) es ≡ true → list_all event_fits es ≡ true → length acc + length es ≤ most
+        → lines_from most (at form pool starts acc) k (lines_of (event_lines form es ++ rest)) ≡ lines_from most (at form pool starts (acc ++ es)) (k + length es) (lines_of rest)
+    events_on pool starts acc k [] rest some can fit few =
+        let same : k ≡ k + length {A = Noted} [] = omega arith in λ i. lines_from most (at form pool starts (sym (append-nil acc) i)) (same i) (lines_of rest)
+    events_on pool starts acc k (e ∷ es) rest some can fit few =
+        let p = both_true (is_event form e) (list_all (is_event form) es) can in
+        let q = both_true (event_fits e) (list_all event_fits es) fit in
+        let w = written form e p.0 q.0 in
+        let same : suc k + length es ≡ k + length {A = Noted} (e ∷ es) = omega arith in
+        ap (λ l. lines_from most (at form pool starts acc) k (lines_of l)) (append_assoc (event_text form e) (10 ∷ event_lines form es) rest)
+        ∙ follows (at form pool starts acc) k (pieces.Event e) (event_lines form es ++ rest)
+        (event_within form e w.number w.word w.line w.ask w.ask_sized w.reply w.reply_sized) (not_full acc (length acc) most (omega (arith, few)))
+        (event_found form e w p.0) (λ i. not (some i) && below (length acc) most (omega (arith, few)) i)
+        ∙ events_on pool starts (acc ++ e ∷ []) (suc k) es rest some p.1 q.1 (omega (arith, few, one_longer acc e))
+        ∙ (λ i. lines_from most (at form pool starts (append_assoc acc (e ∷ []) es i)) (same i) (lines_of rest))
+
+    start_on : (pool : List (List ℕ × ℕ)) (acc : List Entry) (k : ℕ) (s : Entry) (rest : List ℕ) → is_entry s ≡ true → may_start pool (length acc) ≡ true
+        → lines_from most (at form pool acc []) k (lines_of (start_line s ++ 10 ∷ rest)) ≡ lines_from most (at form pool (acc ++ s ∷ []) []) (suc k) (lines_of rest)
+    unfolding no_end
+    start_on pool acc k s rest can may =
+        follows (at form pool acc []) k (pieces.Start s) rest (entry_within s can) refl (start_found form s can) may
+
+    -- behind those of starts
+    starts_on : (pool : List (List ℕ × ℕ)) (acc : List Entry) (k : ℕ) (ss : List Entry) (rest : List ℕ) → list_all is_entry ss ≡ true
+        → length acc + length ss ≤ starts_limit → length acc + length ss ≤ principal pool
+        → lines_from most (at form pool acc []) k (lines_of (start_lines ss ++ rest)) ≡ lines_from most (at form pool (acc ++ ss) []) (k + length ss) (lines_of rest)
+    starts_on pool acc k [] rest can few sessions =
+        let same : k ≡ k + length {A = Entry} [] = omega arith in λ i. lines_from most (at form pool (sym (append-nil acc) i) []) (same i) (lines_of rest)
+    starts_on pool acc k (s ∷ ss) rest can few sessions =
+        let p = both_true (is_entry s) (list_all is_entry ss) can in
+        let may : may_start pool (length acc) ≡ true = λ i. below (length acc) starts_limit (omega (arith, few)) i && below (length acc) (principal pool) (omega (arith, sessions)) i in
+        let same : suc k + length ss ≡ k + length (s ∷ ss) = omega arith in
+        ap (λ l. lines_from most (at form pool acc []) k (lines_of l)) (append_assoc (start_line s) (10 ∷ start_lines ss) rest)
+        ∙ start_on pool acc k s (start_lines ss ++ rest) p.0 may
+        ∙ starts_on pool (acc ++ s ∷ []) (suc k) ss rest p.1 (omega (arith, few, one_longer acc s)) (omega (arith, sessions, one_longer acc s))
+        ∙ (λ i. lines_from most (at form pool (append_assoc acc (s ∷ []) ss i) []) (same i) (lines_of rest))
+
+    rises_behind : (acc : List (List ℕ × ℕ)) (name : List ℕ) (count : ℕ) (ds : List (List ℕ × ℕ)) → rises (acc ++ (name, count) ∷ ds) ≡ true
+        → stands_behind (last_device acc) name ≡ true
+    rises_behind [] name count ds h = refl
+    rises_behind (c ∷ []) name count ds h = (both_true (is_before c.0 name) (rises ((name, count) ∷ ds)) h).0
+    rises_behind (c ∷ e ∷ acc) name count ds h =
+        ap (λ l. stands_behind l name) (last_pushed c e acc) ∙ rises_behind (e ∷ acc) name count ds (both_true (is_before c.0 e.0) (rises ((e ∷ acc) ++ (name, count) ∷ ds)) h).1
+
+    -- a device's name is within the limit
+    is_named : List ℕ × ℕ → Bool
+    is_named d = is_within (limit_of form) d.0
+
+    -- behind those of devices
+    pool_on : (acc : List (List ℕ × ℕ)) (k : ℕ) (ds : List (List ℕ × ℕ)) (rest : List ℕ) → rises (acc ++ ds) ≡ true → list_all is_named ds ≡ true
+        → list_all device_count_fits ds ≡ true
+        → lines_from most (at form acc [] []) k (lines_of (pool_lines ds ++ rest)) ≡ lines_from most (at form (acc ++ ds) [] []) (k + length ds) (lines_of rest)
+    unfolding no_end is_named
+    pool_on acc k [] rest up named sized =
+        let same : k ≡ k + length {A = List ℕ × ℕ} [] = omega arith in λ i. lines_from most (at form (sym (append-nil acc) i) [] []) (same i) (lines_of rest)
+    pool_on acc k ((name, count) ∷ ds) rest up named sized =
+        let p = both_true (is_text V2 name && is_count count) (list_all device_count_fits ds) sized in
+        let q = both_true (is_text V2 name) (is_count count) p.0 in
+        let n = both_true (is_within (limit_of form) name) (list_all is_named ds) named in
+        let more = append_assoc acc ((name, count) ∷ []) ds in
+        let same : suc k + length ds ≡ k + length {A = List ℕ × ℕ} ((name, count) ∷ ds) = omega arith in
+        ap (λ l. lines_from most (at form acc [] []) k (lines_of l)) (append_assoc (pool_line (name, count)) (10 ∷ pool_lines ds) rest)
+        ∙ follows (at form acc [] []) k (pieces.Device name count) (pool_lines ds ++ rest) (device_line_within name count q.1) refl
+        (device_found form name count n.0 q.0 q.1) (rises_behind acc name count ds up)
+        ∙ pool_on (acc ++ (name, count) ∷ []) (suc k) ds rest (ap rises more ∙ up) n.1 p.1
+        ∙ (λ i. lines_from most (at form (more i) [] []) (same i) (lines_of rest))
+
+  -- ---- the whole
+
+  -- behind the lines that tell a form
+  head_on : (form : Form) (rest : List ℕ) → reading_of most (head_text form ++ rest) ≡ lines_from most (no_lines form) (head_count form + 1) (lines_of rest)
   unfolding no_end
-  start_on pool acc k s rest can may =
-      follows (at form pool acc []) k (pieces.Start s) rest (entry_within s can) (omega arith) (start_found form s can) may
+  head_on First rest = ap (headed most) (line_first (header First) rest refl)
+  head_on (Second V1) rest =
+      ap (headed most) (line_first (header (Second V1)) (limit_line V1 ++ 10 ∷ rest) refl) ∙ ap (limited most) (line_first (limit_line V1) rest refl)
+  head_on (Second V2) rest =
+      ap (headed most) (line_first (header (Second V2)) (limit_line V2 ++ 10 ∷ rest) refl) ∙ ap (limited most) (line_first (limit_line V2) rest refl)
 
-  -- behind those of starts
-  starts_on : (pool : List (List ℕ × ℕ)) (acc : List Entry) (k : ℕ) (ss : List Entry) (rest : List ℕ) → list_all is_entry ss ≡ true
-      → length acc + length ss ≤ starts_limit → length acc + length ss ≤ principal pool
-      → lines_from (at form pool acc []) k (lines_of (start_lines ss ++ rest)) ≡ lines_from (at form pool (acc ++ ss) []) (k + length ss) (lines_of rest)
-  starts_on pool acc k [] rest can few sessions =
-      let same : k ≡ k + length {A = Entry} [] = omega arith in λ i. lines_from (at form pool (sym (append-nil acc) i) []) (same i) (lines_of rest)
-  starts_on pool acc k (s ∷ ss) rest can few sessions =
-      let p = both_true (is_entry s) (list_all is_entry ss) can in
-      let may : may_start pool (length acc) ≡ true = λ i. below (length acc) starts_limit (omega (arith, few)) i && below (length acc) (principal pool) (omega (arith, sessions)) i in
-      let same : suc k + length ss ≡ k + length (s ∷ ss) = omega arith in
-      ap (λ l. lines_from (at form pool acc []) k (lines_of l)) (append_assoc (start_line s) (10 ∷ start_lines ss) rest)
-      ∙ start_on pool acc k s (start_lines ss ++ rest) p.0 may
-      ∙ starts_on pool (acc ++ s ∷ []) (suc k) ss rest p.1 (omega (arith, few, one_longer acc s)) (omega (arith, sessions, one_longer acc s))
-      ∙ (λ i. lines_from (at form pool (append_assoc acc (s ∷ []) ss i) []) (same i) (lines_of rest))
+  text_behind : (t : Traced) (rest : List ℕ) → trace_text t ++ rest ≡ head_text t.form ++ (pool_lines t.pool ++ (start_lines t.starts ++ (event_lines t.form t.events ++ rest)))
+  text_behind t rest =
+      append_assoc (head_text t.form ++ (pool_lines t.pool ++ start_lines t.starts)) (event_lines t.form t.events) rest
+      ∙ append_assoc (head_text t.form) (pool_lines t.pool ++ start_lines t.starts) (event_lines t.form t.events ++ rest)
+      ∙ ap (λ l. head_text t.form ++ l) (append_assoc (pool_lines t.pool) (start_lines t.starts) (event_lines t.form t.events ++ rest))
 
-  rises_behind : (acc : List (List ℕ × ℕ)) (name : List ℕ) (count : ℕ) (ds : List (List ℕ × ℕ)) → rises (acc ++ (name, count) ∷ ds) ≡ true
-      → stands_behind (last_device acc) name ≡ true
-  rises_behind [] name count ds h = refl
-  rises_behind (c ∷ []) name count ds h = (both_true (is_before c.0 name) (rises ((name, count) ∷ ds)) h).0
-  rises_behind (c ∷ e ∷ acc) name count ds h =
-      ap (λ l. stands_behind l name) (last_pushed c e acc) ∙ rises_behind (e ∷ acc) name count ds (both_true (is_before c.0 e.0) (rises ((e ∷ acc) ++ (name, count) ∷ ds)) h).1
+  -- behind a trace as far as it goes, within the limits, it goes on with what follows
+  pub trace_on : (t : Traced) → IsBegun t → IsSized t → length t.events ≤ most → (rest : List ℕ) → reading_of most (trace_text t ++ rest) ≡ lines_from most t (line_count t + 1) (lines_of rest)
+  unfolding is_named
+  trace_on t h k few_events rest =
+      ap (reading_of most) (text_behind t rest)
+      ∙ head_on t.form (pool_lines t.pool ++ (start_lines t.starts ++ (event_lines t.form t.events ++ rest)))
+      ∙ by h
+    where
+      by : IsBegun t
+          → lines_from most (no_lines t.form) (head_count t.form + 1) (lines_of (pool_lines t.pool ++ (start_lines t.starts ++ (event_lines t.form t.events ++ rest))))
+          ≡ lines_from most t (line_count t + 1) (lines_of rest)
+      by (inl d) =
+          let count : head_count t.form + 1 + length t.pool ≡ line_count t + 1 = let starts = ap length d.no_starts in let events = ap length d.no_events in omega (arith, starts, events) in
+          ap (λ l. lines_from most (no_lines t.form) (head_count t.form + 1) (lines_of (pool_lines t.pool ++ l))) (λ i. start_lines (d.no_starts i) ++ (event_lines t.form (d.no_events i) ++ rest))
+          ∙ pool_on t.form [] (head_count t.form + 1) t.pool rest d.rise d.named k.devices
+          ∙ (λ i. lines_from most (at t.form t.pool (sym d.no_starts i) (sym d.no_events i)) (count i) (lines_of rest))
+      by (inr is) =
+          let count : head_count t.form + 1 + length t.pool + length t.starts + length t.events ≡ line_count t + 1 = omega arith in
+          let few = is.starts_few in
+          let sessions = is.sessions in
+          pool_on t.form [] (head_count t.form + 1) t.pool (start_lines t.starts ++ (event_lines t.form t.events ++ rest)) is.devices is.named k.devices
+          ∙ starts_on t.form t.pool [] (head_count t.form + 1 + length t.pool) t.starts (event_lines t.form t.events ++ rest) is.starts (omega (arith, few)) (omega (arith, sessions))
+          ∙ events_on t.form t.pool t.starts [] (head_count t.form + 1 + length t.pool + length t.starts) t.events rest is.started is.events k.events (omega (arith, few_events))
+          ∙ ap (λ n. lines_from most t n (lines_of rest)) count
 
-  -- a device's name is within the limit
-  is_named : List ℕ × ℕ → Bool
-  is_named d = is_within (limit_of form) d.0
+  -- the bytes of a trace that can be written, within the limits, are read as this trace
+  pub is_read : (t : Traced) → IsTrace t → IsSized t → length t.events ≤ most → reading_of most (trace_text t) ≡ Ok t
+  is_read t h k few =
+      ap (reading_of most) (sym (append-nil (trace_text t))) ∙ trace_on t (inr h) k few [] ∙ ap (λ b. cond b (Err (errors.Line (line_count t + 1))) (Ok t)) h.started
 
-  -- behind those of devices
-  pool_on : (acc : List (List ℕ × ℕ)) (k : ℕ) (ds : List (List ℕ × ℕ)) (rest : List ℕ) → rises (acc ++ ds) ≡ true → list_all is_named ds ≡ true
-      → list_all device_count_fits ds ≡ true
-      → lines_from (at form acc [] []) k (lines_of (pool_lines ds ++ rest)) ≡ lines_from (at form (acc ++ ds) [] []) (k + length ds) (lines_of rest)
-  unfolding no_end is_named
-  pool_on acc k [] rest up named sized =
-      let same : k ≡ k + length {A = List ℕ × ℕ} [] = omega arith in λ i. lines_from (at form (sym (append-nil acc) i) [] []) (same i) (lines_of rest)
-  pool_on acc k ((name, count) ∷ ds) rest up named sized =
-      let p = both_true (is_text V2 name && is_count count) (list_all device_count_fits ds) sized in
-      let q = both_true (is_text V2 name) (is_count count) p.0 in
-      let n = both_true (is_within (limit_of form) name) (list_all is_named ds) named in
-      let more = append_assoc acc ((name, count) ∷ []) ds in
-      let same : suc k + length ds ≡ k + length {A = List ℕ × ℕ} ((name, count) ∷ ds) = omega arith in
-      ap (λ l. lines_from (at form acc [] []) k (lines_of l)) (append_assoc (pool_line (name, count)) (10 ∷ pool_lines ds) rest)
-      ∙ follows (at form acc [] []) k (pieces.Device name count) (pool_lines ds ++ rest) (device_line_within name count q.1) (omega arith)
-      (device_found form name count n.0 q.0 q.1) (rises_behind acc name count ds up)
-      ∙ pool_on (acc ++ (name, count) ∷ []) (suc k) ds rest (ap rises more ∙ up) n.1 p.1
-      ∙ (λ i. lines_from (at form (more i) [] []) (same i) (lines_of rest))
+  ok_same : (r : Result Traced TraceError) (u t : Traced) → r ≡ Ok u → r ≡ Ok t → u ≡ t
+  ok_same r u t e f = cc
 
--- ---- the whole
+  -- what a call gives of a trace that can be written is this trace
+  pub reads_it : (bs : List ℕ) (r : Result Traced TraceError) → IfOk r (λ t. reading_of most bs ≡ Ok t) → (t : Traced) → bs ≡ trace_text t → IsTrace t → IsSized t → length t.events ≤ most → IfOk r (λ u. u ≡ t)
+  reads_it bs (Ok u) h t is a b few = ok_same (reading_of most bs) u t h (ap (reading_of most) is ∙ is_read t a b few)
+  reads_it bs (Err e) h t is a b few = tt
 
--- behind the lines that tell a form
-head_on : (form : Form) (rest : List ℕ) → reading_of (head_text form ++ rest) ≡ lines_from (no_lines form) (head_count form + 1) (lines_of rest)
-unfolding no_end
-head_on First rest = ap headed (line_first (header First) rest refl)
-head_on (Second V1) rest =
-    ap headed (line_first (header (Second V1)) (limit_line V1 ++ 10 ∷ rest) refl) ∙ ap limited (line_first (limit_line V1) rest refl)
-head_on (Second V2) rest =
-    ap headed (line_first (header (Second V2)) (limit_line V2 ++ 10 ∷ rest) refl) ∙ ap limited (line_first (limit_line V2) rest refl)
-
-text_behind : (t : Traced) (rest : List ℕ) → trace_text t ++ rest ≡ head_text t.form ++ (pool_lines t.pool ++ (start_lines t.starts ++ (event_lines t.form t.events ++ rest)))
-text_behind t rest =
-    append_assoc (head_text t.form ++ (pool_lines t.pool ++ start_lines t.starts)) (event_lines t.form t.events) rest
-    ∙ append_assoc (head_text t.form) (pool_lines t.pool ++ start_lines t.starts) (event_lines t.form t.events ++ rest)
-    ∙ ap (λ l. head_text t.form ++ l) (append_assoc (pool_lines t.pool) (start_lines t.starts) (event_lines t.form t.events ++ rest))
-
--- behind a trace as far as it goes, within the limits, it goes on with what follows
-pub trace_on : (t : Traced) → IsBegun t → IsSized t → (rest : List ℕ) → reading_of (trace_text t ++ rest) ≡ lines_from t (line_count t + 1) (lines_of rest)
-unfolding is_named
-trace_on t h k rest =
-    ap reading_of (text_behind t rest)
-    ∙ head_on t.form (pool_lines t.pool ++ (start_lines t.starts ++ (event_lines t.form t.events ++ rest)))
-    ∙ by h
-  where
-    by : IsBegun t
-        → lines_from (no_lines t.form) (head_count t.form + 1) (lines_of (pool_lines t.pool ++ (start_lines t.starts ++ (event_lines t.form t.events ++ rest))))
-        ≡ lines_from t (line_count t + 1) (lines_of rest)
-    by (inl d) =
-        let count : head_count t.form + 1 + length t.pool ≡ line_count t + 1 = let starts = ap length d.no_starts in let events = ap length d.no_events in omega (arith, starts, events) in
-        ap (λ l. lines_from (no_lines t.form) (head_count t.form + 1) (lines_of (pool_lines t.pool ++ l))) (λ i. start_lines (d.no_starts i) ++ (event_lines t.form (d.no_events i) ++ rest))
-        ∙ pool_on t.form [] (head_count t.form + 1) t.pool rest d.rise d.named k.devices
-        ∙ (λ i. lines_from (at t.form t.pool (sym d.no_starts i) (sym d.no_events i)) (count i) (lines_of rest))
-    by (inr is) =
-        let count : head_count t.form + 1 + length t.pool + length t.starts + length t.events ≡ line_count t + 1 = omega arith in
-        let few = is.starts_few in
-        let sessions = is.sessions in
-        let most = is.events_few in
-        pool_on t.form [] (head_count t.form + 1) t.pool (start_lines t.starts ++ (event_lines t.form t.events ++ rest)) is.devices is.named k.devices
-        ∙ starts_on t.form t.pool [] (head_count t.form + 1 + length t.pool) t.starts (event_lines t.form t.events ++ rest) is.starts (omega (arith, few)) (omega (arith, sessions))
-        ∙ events_on t.form t.pool t.starts [] (head_count t.form + 1 + length t.pool + length t.starts) t.events rest is.started is.events k.events (omega (arith, most))
-        ∙ ap (λ n. lines_from t n (lines_of rest)) count
-
--- the bytes of a trace that can be written, within the limits, are read as this trace
-pub is_read : (t : Traced) → IsTrace t → IsSized t → reading_of (trace_text t) ≡ Ok t
-is_read t h k =
-    ap reading_of (sym (append-nil (trace_text t))) ∙ trace_on t (inr h) k [] ∙ ap (λ b. cond b (Err (errors.Line (line_count t + 1))) (Ok t)) h.started
-
-ok_same : (r : Result Traced TraceError) (u t : Traced) → r ≡ Ok u → r ≡ Ok t → u ≡ t
-ok_same r u t e f = cc
-
--- what a call gives of a trace that can be written is this trace
-pub reads_it : (bs : List ℕ) (r : Result Traced TraceError) → IfOk r (λ t. reading_of bs ≡ Ok t) → (t : Traced) → bs ≡ trace_text t → IsTrace t → IsSized t → IfOk r (λ u. u ≡ t)
-reads_it bs (Ok u) h t is a b = ok_same (reading_of bs) u t h (ap reading_of is ∙ is_read t a b)
-reads_it bs (Err e) h t is a b = tt
-
-pub reads_all : (bs : List ℕ) (r : Result Traced TraceError) → IfErr r (λ e. (e ≡ errors.Memory) ⊎ (reading_of bs ≡ Err e)) → (t : Traced) → bs ≡ trace_text t → IsTrace t → IsSized t
-    → IfErr r (λ e. e ≡ errors.Memory)
-reads_all bs (Ok u) h t is a b = tt
-reads_all bs (Err e) h t is a b = by h (ap reading_of is ∙ is_read t a b)
-  where
-    by : (e ≡ errors.Memory) ⊎ (reading_of bs ≡ Err e) → reading_of bs ≡ Ok t → e ≡ errors.Memory
-    by (inl m) ok = m
-    by (inr x) ok = absurd cc
+  pub reads_all : (bs : List ℕ) (r : Result Traced TraceError) → IfErr r (λ e. (e ≡ errors.Memory) ⊎ (reading_of most bs ≡ Err e)) → (t : Traced) → bs ≡ trace_text t → IsTrace t → IsSized t
+      → length t.events ≤ most → IfErr r (λ e. e ≡ errors.Memory)
+  reads_all bs (Ok u) h t is a b few = tt
+  reads_all bs (Err e) h t is a b few = by h (ap (reading_of most) is ∙ is_read t a b few)
+    where
+      by : (e ≡ errors.Memory) ⊎ (reading_of most bs ≡ Err e) → reading_of most bs ≡ Ok t → e ≡ errors.Memory
+      by (inl m) ok = m
+      by (inr x) ok = absurd cc

@@ -1,9 +1,9 @@
-use Rattle.std.proofs.Common.{List, ◌++◌, ◌∷◌, [], take, take_all, sym, ap, subst, arith}
+use Rattle.std.proofs.Common.{◌∙◌, List, ◌++◌, ◌∷◌, [], take, take_all, sym, ap, subst, arith}
 use Rattle.std.proofs.lemmas.List.Elements.{All-push}
 use Rattle.std.specs.Prelude.{All}
 use Rattle.mj_ask.specs.declared.bounds.Bounds.{Bounds}
 use Rattle.mj_ast.specs.declared.routine.Routine.{Routine}
-use Rattle.mj_load.specs.Image.{IsWithinLimits}
+use Rattle.mj_load.specs.Image.{Loaded, IsWithinLimits}
 use Rattle.mj_rou.proofs.Routines.{ok_if}
 use Rattle.mj_begin.specs.Names.{name_at}
 use Rattle.mj_begin.specs.Words.{WasRead, WereRead}
@@ -31,15 +31,16 @@ pub returns-in-Ok-clause-read : goal.returns-in-Ok-clause-read
 returns-in-Ok-clause-read g c =
     let P : List Routine → Type 0 = λ rs. WereRead c.args.files.now rs in
     let l = c.loop-file in
-    subst P (sym c.in-Ok.ensures.ok) (subst (λ files. WereRead files l.routines.items) (take_all l.file-index c.args.files.now (omega (arith, c.loop-file-test.false))) l.invariant.were)
+    subst P (sym (ap (λ (i : Loaded). i.routines) c.with_events.ensures ∙ c.in-Ok.ensures.ok)) (subst (λ files. WereRead files l.routines.items) (take_all l.file-index c.args.files.now (omega (arith, c.loop-file-test.false))) l.invariant.were)
 
 pub returns-in-Ok-clause-limit : goal.returns-in-Ok-clause-limit
-returns-in-Ok-clause-limit g c = ap (λ (b : Bounds). b.limit) c.in-Ok.ensures.bounds
+returns-in-Ok-clause-limit g c = ap (λ (i : Loaded). i.bounds.limit) c.with_events.ensures ∙ ap (λ (b : Bounds). b.limit) c.in-Ok.ensures.bounds
 
 pub returns-in-Ok-clause-events : goal.returns-in-Ok-clause-events
-returns-in-Ok-clause-events g c = ap (λ (b : Bounds). b.events) c.in-Ok.ensures.bounds
+returns-in-Ok-clause-events g c = ap (λ (i : Loaded). i.bounds.events) c.with_events.ensures
 
 pub returns-in-Ok-clause-worded : goal.returns-in-Ok-clause-worded
 returns-in-Ok-clause-worded g c =
     let P : List Routine → Type 0 = λ rs. All WasRead rs in
-    are_worded c.has_words.ensures c.in-Ok.image.routines (subst P (sym c.in-Ok.ensures.ok) c.loop-file.invariant.were.read)
+    let same = ap (λ (i : Loaded). i.routines) c.with_events.ensures ∙ c.in-Ok.ensures.ok in
+    are_worded c.has_words.ensures c.with_events.result.routines (subst P (sym same) c.loop-file.invariant.were.read)

@@ -7,7 +7,7 @@ use Rattle.mj_dialogue.proofs.steps.step.Goals as goal
 
 pub returns-clause-ok : goal.returns-clause-ok
 returns-clause-ok g c =
-    let Q : List ℕ → Shown → Type 0 = λ bytes core. TellsStep core.history c.step-answer.result bytes in
+    let Q : List ℕ → Shown → Type 0 = λ bytes core. TellsStep g.O.Opening.opening core c.step-answer.result bytes in
     IfOk-weaker c.tell.result _ _ (λ told says. (c.step-answer.result, c.step-answer.ensures, subst (Q told.bytes.items) c.core.ensures says.0, says.1))
     c.tell.ensures
 

@@ -1,10 +1,11 @@
-use Rattle.std.proofs.Common.{◌≡◌, ◌-◌, ℕ, inr, refl, arith}
+use Rattle.std.proofs.Common.{◌≡◌, ◌-◌, ℕ, inr, refl, ap, arith}
 use Rattle.mj_sys.specs.History.{log_of}
 use Rattle.mj_core.specs.Woven.{woven, AreThere}
 use Rattle.mj_gather.specs.Merged.{shared_log, merged_from}
-use Rattle.mj_gather.specs.Lent.{lent, log_at}
+use Rattle.mj_gather.specs.Lent.{lent, log_at, Ordered}
 use Rattle.mj_gather.specs.Gathered.{DifferAt}
 use Rattle.mj_gather.proofs.Whole.{rows_at, few_made, first_are, logs_all, as_gathered, differs_at, run_whole, all_gathered}
+use Rattle.mj_gather.proofs.Placed.{run_placed}
 use Rattle.mj_gather.proofs.gathering.gather.Goals as goal
 
 pub overflow_sub-first : goal.overflow_sub-first
@@ -65,7 +66,7 @@ returns-in-Ok-Ok g c =
     c.count_made.ensures c.rows-jobs.ensures.none_ended c.in_default-twice.ensures.none c.in_default.ensures.none order agree in
     let apart = rw c.locks-locks.ensures.replay at c.locks-locks.ensures.apart in
     let all = all_gathered opening history c.args.rans.now (lent c.in-Ok.logs.items) c.in-Ok-Ok.order.items c.rows-jobs.result (c.rows-jobs.result - c.count_made.result) so
-    c.new.result c.new.ensures c.rows-jobs.ensures.none_open apart in
+    c.new.result.history (ap (λ (o : Ordered). o.history) c.new.ensures) c.rows-jobs.ensures.none_open apart in
     record {
       merged = all.merged;
       shared = all.shared;
@@ -75,6 +76,8 @@ returns-in-Ok-Ok g c =
       sound = all.sound;
       counted = all.counted;
       run = all.run;
+      placed = run_placed opening history c.new.result.history c.args.rans.now c.rows-jobs.result c.in-Ok-places_of.places.items c.new.result.places
+          c.rows-jobs.ensures.value c.in-Ok-places_of.ensures (ap (λ (o : Ordered). o.places) c.new.ensures) all.sound all.state all.logs;
       apart = all.apart;
       serial = all.serial;
       clashes = all.clashes;

@@ -21,7 +21,7 @@ pub loop-ran-preserved : goal.loop-ran-preserved
 loop-ran-preserved g c =
     let rows = (state_of g.O.Opening.opening c.args.system.now.history).rows in
     let r = c.ran-item.result in
-    let sound : IsSound rows r = record { starts = c.if-not-starts_so.ensures.starts.0 refl; ran = c.if-not-starts_so.ensures.ran } in (
+    let sound : IsSound rows r = record { starts = c.if-not-starts_so.ensures.starts.0 refl; ran = c.if-not-starts_so.ensures.ran; placed = c.if-not-starts_so.ensures.places } in (
       (λ job later. c.loop-ran.invariant.0 job (differs_later c.args.rans.now c.loop-ran.ran-index r c.loop-ran-test.true c.ran-item.is rows job later)),
       (λ all. c.loop-ran.invariant.1 (sound_here c.args.rans.now c.loop-ran.ran-index r c.loop-ran-test.true c.ran-item.is rows sound all)),
     )

@@ -50,19 +50,19 @@ returns-in-None-clause-ok c = λ all u.
     ∙ ap (λ k. rest next k n back (state_of old) replies) (sym count))
     (c.discard.ensures (replied c.args.given) all u)
 
-pub returns-in-Some-clause-ok : goal.returns-in-Some-clause-ok
-returns-in-Some-clause-ok c =
+pub returns-in-Some-names-clause-ok : goal.returns-in-Some-names-clause-ok
+returns-in-Some-names-clause-ok c =
     let old = c.args.machine.now in
     let rs = c.args.references.now in
     let w = c.args.wait in
     let st : Stack = stack_of old in
     let z = c.in-Ok.wanted.timeout in
-    let names = c.in-Some.names in
+    let names = c.in-Some-names.names in
     let found : wanted_in rs w st ≡ Ok (z, names) =
     sym c.in_ok-wanted.ensures.wanted ∙ ap (λ r. then_value r (λ a. Ok (a.timeout, listed a.names))) c.in-Ok.is
-    ∙ ap (λ o. Ok (z, listed o)) c.in-Some.is in
+    ∙ ap (λ o. Ok (z, listed o)) c.in-Some-names.is in
     let some : 0 < length names =
-    subst (λ o. IfSome o (λ xs. 0 < length xs)) c.in-Some.is
+    subst (λ o. IfSome o (λ xs. 0 < length xs)) c.in-Some-names.is
     (subst (λ r. IfOk r (λ a. IfSome a.names (λ xs. 0 < length xs))) c.in-Ok.is c.in_ok-wanted.ensures.some) in
     let count : c.in-Ok.wanted.count ≡ counts rs + wait_size w =
     subst (λ r. IfOk r (λ a. a.count ≡ counts rs + wait_size w)) c.in-Ok.is c.in_ok-wanted.ensures.count in

@@ -5,8 +5,8 @@ use Rattle.mj_ask.specs.declared.noted.Noted.{Noted}
 use Rattle.mj_load.specs.Image.{program_of}
 use Rattle.mj_sys.specs.Shared.{Shared}
 use Rattle.mj_sys.specs.System.{history_limit}
-use Rattle.mj_replica.specs.Replays.{history_of, Says}
-use Rattle.mj_replay.specs.Traces.{opening_in}
+use Rattle.mj_trace.specs.declared.form.Form.{Form}
+use Rattle.mj_replay.specs.Traces.{opening_in, SaysBy}
 use Rattle.mj_replay.proofs.Beginning as opened
 use Rattle.mj_replay.proofs.replaying.replay_trace.Goals as goal
 
@@ -33,7 +33,8 @@ returns-in-Ok c =
     let image = program_of c.args.image.now in
     let result = c.replay_over.result in
     let opening = opening_in c.args.globals.content c.args.trace.now in
-    let P : Shared → Type 0 = λ o. IfOk result (λ verdict. Says image o (history_of c.events.result.now) verdict) in
-    let Q : List Noted → Type 0 = λ events. IfOk result (λ verdict. Says image opening (history_of events) verdict) in
+    let P : Shared → Type 0 = λ o. IfOk result (λ verdict. SaysBy c.form.result image o c.events.result.now verdict) in
+    let Q : List Noted → Type 0 = λ events. IfOk result (λ verdict. SaysBy c.form.result image opening events verdict) in
+    let F : Form → Type 0 = λ form. IfOk result (λ verdict. SaysBy form image opening c.args.trace.now.events verdict) in
     let same = opened.opens c.args.trace.now c.requires.written c.in-Ok.pool c.in-Ok.starts.items c.in-Ok.ensures.pool c.in-Ok.ensures.starts c.args.globals.content in
-    subst Q c.events.ensures (subst P same c.replay_over.ensures)
+    subst F c.form.ensures (subst Q c.events.ensures (subst P same c.replay_over.ensures))

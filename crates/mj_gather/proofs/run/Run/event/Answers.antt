@@ -6,10 +6,9 @@ use Rattle.mj_ask.specs.declared.ask.Ask.{Ask}
 use Rattle.mj_ask.specs.declared.ask.Reply.{Reply}
 use Rattle.mj_jobvm.specs.Run.{Log}
 use Rattle.mj_sys.specs.declared.event.Event.{Event}
-use Rattle.mj_sys.specs.History.{History}
 use Rattle.mj_core.specs.Kept.{shown_event}
 use Rattle.mj_core.proofs.Views.{found_at, missed_at, no_event}
-use Rattle.mj_gather.specs.Lent.{lent}
+use Rattle.mj_gather.specs.Lent.{lent, Ordered}
 use Rattle.mj_gather.proofs.Shown.{lent_at}
 use Rattle.mj_gather.proofs.run.Run.event.Goals as goal
 
@@ -19,7 +18,7 @@ returns-in_err-happened c =
     let none = missed_at c.deref.result.now i.order.items c.args.at c.deref.ensures.value c.in_err-happened.ensures.lookup.0 in
     ap shown_event c.from_residual.ensures
     ∙ sym (no_event (lent i.logs.items) i.order.items c.self.invariant.there c.args.at none)
-    ∙ ap (λ (h : History). slice_get h c.args.at) c.self.view_is
+    ∙ ap (λ (o : Ordered). slice_get o.history c.args.at) c.self.view_is
 
 pub overflow_sub-happened : goal.overflow_sub-happened
 overflow_sub-happened c =
@@ -72,4 +71,4 @@ returns c =
     let stands = found_at log.now there.3.now h.at entry (ap (λ (b : Bor Log). b.now) one) told.0 told.1 in
     let same : entry ≡ there.0 = same_Some entry there.0 (sym stands ∙ there.5) in
     let event : Ask × Reply → Option Event = λ e. Some (record { job = h.job; ask = e.0; reply = e.1 }) in
-    ap event same ∙ sym there.6 ∙ ap (λ (x : History). slice_get x c.args.at) c.self.view_is
+    ap event same ∙ sym there.6 ∙ ap (λ (o : Ordered). slice_get o.history c.args.at) c.self.view_is

@@ -12,12 +12,13 @@ abbrev pub invariant-turns : goal.invariant-turns
 invariant-turns l = record {
   most : l.done ≤ l.fuel;
   run : (start : Start) (turns : ℕ) → IsRunOfAfter l.image start turns l.fn.self
-      → IsRunOfAfter l.image start (turns + l.done) (running (start_of l.self-inside.start) l.self-inside.machine l.self-inside.log.items l.self-inside.given None (l.fn.self.run.spent + l.done));
+      → IsRunOfAfter l.image start (turns + l.done) (running (start_of l.self-inside.start) l.self-inside.machine l.self-inside.log.items l.self-inside.places.places l.self-inside.given None (l.fn.self.run.spent + l.done));
   code : l.units ≡ l.image.units;
   small : AreSmall l.units;
   checked : AreChecked l.units;
   sound : IsSound l.units (standing l.self-inside.machine None);
   log : l.self-inside.log.items ≡ l.fn.self.run.log;
+  places : l.self-inside.places.places ≡ l.fn.self.run.places;
   room : l.self-inside.log.len < l.self-inside.log.cap;
   pending : l.self-inside.pending ≡ None;
   was : l.fn.self.run.pending ≡ None;

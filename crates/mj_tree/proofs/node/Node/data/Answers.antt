@@ -1,18 +1,7 @@
-use Rattle.std.proofs.Common.{◌≡◌, true, false, cond, sym, ap, ◌∙◌}
-use Rattle.mj_subs.specs.Collation.{subscript_cmp}
+use Rattle.std.proofs.Common.{ap, ◌∙◌}
 use Rattle.mj_store.specs.Nodes.{data_of}
 use Rattle.mj_store.specs.Questions.{Subtree}
-use Rattle.mj_tree.proofs.Nest.{data_told}
 use Rattle.mj_tree.proofs.node.Node.data.Goals as goal
 
-pub returns-in-true-false : goal.returns-in-true-false
-returns-in-true-false c =
-    sym (ap (λ (n : Subtree). data_of n) (sym c.in-Some.ensures ∙ sym c.node.view_is)
-    ∙ data_told subscript_cmp c.node.inside.text c.node.inside.children.entries (λ e. let f : false ≡ true = c.in-true-false.ensures'.1 e in absurd cc) c.node.invariant.1
-    ∙ ap (λ b. cond b 11 10) (sym c.in-true-false.ensures))
-
-pub returns-in-false-false : goal.returns-in-false-false
-returns-in-false-false c =
-    sym (ap (λ (n : Subtree). data_of n) (sym c.in-Some.ensures ∙ sym c.node.view_is)
-    ∙ data_told subscript_cmp c.node.inside.text c.node.inside.children.entries (λ e. let f : false ≡ true = c.in-false-false.ensures'.1 e in absurd cc) c.node.invariant.1
-    ∙ ap (λ b. cond b 11 10) (sym c.in-false-false.ensures))
+pub returns-in-Some : goal.returns-in-Some
+returns-in-Some c = c.own_data.ensures ∙ ap (λ (n : Subtree). data_of n) c.in-Some.ensures
