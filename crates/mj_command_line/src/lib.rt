@@ -8,5 +8,5 @@ mod read;
 mod texts;
 mod words;
 
-pub use order::{Debug, Explore, Migrate, NoOrder, Order, Replay, Run};
+pub use order::{Debug, Explain, Explore, Migrate, NoOrder, Order, Replay, Run};
 pub use read::read_words;

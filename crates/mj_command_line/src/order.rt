@@ -34,6 +34,8 @@ pub enum Order<'a> {
     Replay(Replay<'a>),
     /// to bring a trace to today's form
     Migrate(Migrate<'a>),
+    /// to tell what a trace shows
+    Explain(Explain<'a>),
 }
 
 /// Jobs that are to run.
@@ -111,6 +113,15 @@ pub struct Migrate<'a> {
     pub record: Replay<'a>,
     /// the file to which the trace goes
     pub out: &'a str,
+}
+
+/// A trace of which is to be told what it shows.
+#[derive(Drop)]
+pub struct Explain<'a> {
+    /// the trace, its routines, and the globals that were there at first
+    pub record: Replay<'a>,
+    /// the file to which a page goes that shows it
+    pub html: Option<&'a str>,
 }
 
 /// Why words are no order.

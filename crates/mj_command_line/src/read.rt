@@ -3,7 +3,7 @@
 ghost use Rattle.std.specs.Prelude.{◌<◌};
 
 use crate::order::{
-    Debug, EVENTS, Explore, Migrate, NoOrder, Order, RUNS, Replay, Run, SEED, WORKERS,
+    Debug, EVENTS, Explain, Explore, Migrate, NoOrder, Order, RUNS, Replay, Run, SEED, WORKERS,
 };
 use crate::words::command;
 use clap::error::ErrorKind;
@@ -52,6 +52,7 @@ fn order_of<'a>(
         "check" => check_order(alloc, found),
         "replay" => replay_order(alloc, found),
         "migrate" => migrate_order(alloc, found),
+        "explain" => explain_order(alloc, found),
         _ => no_order(command),
     }
 }
@@ -178,6 +179,23 @@ fn events_given(found: &ArgMatches<'_>) -> u32
     ensures { 0 < result }
 {
     number_given(found, "events", EVENTS).max(1)
+}
+
+// The trace is required here too.
+fn explain_order<'a>(alloc: Global, found: &ArgMatches<'a>) -> Result<Order<'a>, Error> {
+    let trace = match found.get_str("record") {
+        Some(trace) => trace,
+        None => "",
+    };
+    Ok(Order::Explain(Explain {
+        record: Replay {
+            trace,
+            files: value_given(alloc, found, "routines")?,
+            globals: found.get_str("globals"),
+            events: events_given(found),
+        },
+        html: found.get_str("html"),
+    }))
 }
 
 // What was given for the argument of this name. One that the command hasn't counts as one that isn't given.

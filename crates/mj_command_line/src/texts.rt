@@ -17,6 +17,7 @@ Examples:
   mj check R.m _TOOL.m
   mj replay --trace TRACE R.m
   mj migrate --trace TRACE --out TRACE R.m
+  mj explain TRACE R.m
 
 Exit statuses:
   0  all is done
@@ -79,3 +80,9 @@ Example, which prints `same`, or `differs at line 6` where the event in line 6 o
 pub const MIGRATE_EXAMPLE: &str = "\
 Example, which prints `migrated 7`, the number of the events, or `differs at line 6` where the event in line 6 of the trace isn't made:
   mj migrate --trace TRACE --out TRACE --globals DATA R.m";
+
+/// What stands below the help of `explain`.
+pub const EXPLAIN_EXAMPLE: &str = "\
+Examples, in words, and as a page beside them, over the globals that were there at first:
+  mj explain TRACE R.m
+  mj explain --globals DATA --html PAGE.html TRACE R.m";

@@ -2,8 +2,8 @@
 
 use crate::order::{RUNS_LIMIT, WORKERS_LIMIT};
 use crate::texts::{
-    CHECK_EXAMPLE, DEBUG_EXAMPLE, EXAMPLES, EXPLORE_EXAMPLE, MIGRATE_EXAMPLE, REPLAY_EXAMPLE,
-    RUN_EXAMPLE, STEP_EXAMPLE, VERSION,
+    CHECK_EXAMPLE, DEBUG_EXAMPLE, EXAMPLES, EXPLAIN_EXAMPLE, EXPLORE_EXAMPLE, MIGRATE_EXAMPLE,
+    REPLAY_EXAMPLE, RUN_EXAMPLE, STEP_EXAMPLE, VERSION,
 };
 use clap::{Arg, ArgAction, Command, value_parser};
 use std::alloc::{AllocError, Global};
@@ -28,7 +28,7 @@ struct Choice {
     most: Option<u32>,
 }
 
-const COMMANDS: [Row; 7] = [
+const COMMANDS: [Row; 8] = [
     Row {
         name: "run",
         about: "Runs jobs at the same time, by threads, and prints what they write",
@@ -76,6 +76,12 @@ const COMMANDS: [Row; 7] = [
         about: "Brings a trace to today's form, in which each event has the line of its command, if it is that of a run of these routines",
         example: MIGRATE_EXAMPLE,
         options: &[RECORDED, OUT, GLOBALS, EVENTS],
+    },
+    Row {
+        name: "explain",
+        about: "Tells what a trace shows: clashes, deadlocks and lost updates, and where they come from",
+        example: EXPLAIN_EXAMPLE,
+        options: &[GLOBALS, HTML, EVENTS, RECORD],
     },
 ];
 
@@ -223,6 +229,25 @@ const OUT: Choice = Choice {
     most: None,
 };
 
+// It is given by its place, in front of the routines.
+const RECORD: Choice = Choice {
+    name: "record",
+    value: Some("TRACE"),
+    help: "The trace, as `mj run --trace` or `mj step --trace` writes it",
+    action: ArgAction::Set,
+    required: true,
+    most: None,
+};
+
+const HTML: Choice = Choice {
+    name: "html",
+    value: Some("FILE"),
+    help: "Where a page is written that shows the run",
+    action: ArgAction::Set,
+    required: false,
+    most: None,
+};
+
 const STDIN: Choice = Choice {
     name: "stdin",
     value: None,
@@ -280,10 +305,14 @@ fn arguments<'a>(alloc: Global, options: &[Choice]) -> Result<Vec<Arg<'a>>, Allo
 
 fn option<'a>(alloc: Global, row: &Choice) -> Arg<'a> {
     let option = Arg::new(alloc, row.name)
-        .long(row.name)
         .help(row.help)
         .action(row.action)
         .required(row.required);
+    let option = if row.name == RECORD.name {
+        option
+    } else {
+        option.long(row.name)
+    };
     let option = match row.value {
         Some(value) => option.value_name(value),
         None => option,

@@ -8,6 +8,7 @@
 // of the run are written last. What the jobs leave besides is forgotten, not dropped, since the process ends behind `run`.
 #![tactic(auto)]
 
+mod explains;
 mod explores;
 mod jobs;
 mod migrates;

@@ -15,6 +15,7 @@ ghost use Rattle.mj_recorded.specs.Traces.{entries_of};
 ghost use Rattle.mj_report.specs.Traced.{IsHead};
 ghost use Rattle.mj_begin.specs.Words.{WereGiven};
 
+use crate::explains::explain;
 use crate::explores::explore;
 use crate::jobs::waits;
 use crate::migrates::migrated;
@@ -77,6 +78,10 @@ where
             Err(stop) => stopped(&stop, err),
         },
         Ok(Order::Migrate(order)) => match migrate(rt, &order, out) {
+            Ok(status) => status,
+            Err(stop) => stopped(&stop, err),
+        },
+        Ok(Order::Explain(order)) => match explain(rt, &order, out) {
             Ok(status) => status,
             Err(stop) => stopped(&stop, err),
         },

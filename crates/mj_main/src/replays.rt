@@ -1,6 +1,6 @@
 // Traces that are replayed.
 
-ghost use Rattle.std.specs.Prelude.{◌≡◌, ◌≤◌, IfOk, true};
+ghost use Rattle.std.specs.Prelude.{◌≡◌, ◌≤◌, IfOk, length, true};
 ghost use Rattle.std.specs.String.{string_bytes};
 ghost use Rattle.mj_globs.specs.Within.{is_content_within};
 ghost use Rattle.mj_sys.specs.Shared.{are_global};
@@ -48,7 +48,8 @@ pub fn recorded<'a, R: Files + AllocGlobal>(
     file: &'a str,
     events: u32,
 ) -> Result<Trace, ProgramError<'a>>
-    ensures { IfOk result IsTrace }
+    ensures is { IfOk result IsTrace }
+    ensures few { IfOk result (λ trace. length trace.events ≤ events) }
 {
     let bytes = file_bytes(rt, file)?;
     match read_trace(rt.alloc(), &bytes, events) {

@@ -7,6 +7,8 @@ mod finds;
 #[cfg(test)]
 mod hints;
 #[cfg(test)]
+mod told;
+#[cfg(test)]
 mod warnings;
 #[cfg(test)]
 mod words;

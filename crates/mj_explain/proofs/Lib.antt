@@ -1,0 +1,13 @@
+pub mod Tables
+pub mod Counting
+pub mod Lasts
+pub mod Begun
+pub mod Lost
+pub mod Places
+pub mod Owning
+pub mod Between
+pub mod Numbered
+pub mod Putting
+pub mod Rounds
+pub mod Regrouped
+pub mod Losing

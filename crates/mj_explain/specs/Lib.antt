@@ -1,0 +1,9 @@
+pub mod Events
+pub mod Landings
+pub mod Clashes
+pub mod Losses
+pub mod Waiting
+pub mod Words
+pub mod Escaped
+pub mod Stories
+pub mod Elsewhere

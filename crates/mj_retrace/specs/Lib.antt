@@ -1,0 +1,3 @@
+pub mod Retraced
+pub mod Made
+pub mod Noted
