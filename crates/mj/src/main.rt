@@ -52,7 +52,9 @@ fn words(rt: &HostRuntime) -> io::Result<Vec<String>> {
         ask_for(
             rt,
             &mut words,
-            &["run", "step", "explore", "debug"],
+            &[
+                "run", "step", "explore", "debug", "replay", "migrate", "explain",
+            ],
             "--hints",
         )?;
     }

@@ -8,7 +8,8 @@ use Rattle.mj_dev.specs.Shelves.{Shelf, new_shelf, one_more, added, principal}
 use Rattle.mj_files.specs.Named.{with_principals, with_devices}
 use Rattle.mj_replica.specs.Replicas.{AreWhole}
 
-one_added : (name : List ℕ) (shelves : List Shelf) → AreWhole shelves → AreWhole (added name shelves)
+-- with one device more
+pub one_added : (name : List ℕ) (shelves : List Shelf) → AreWhole shelves → AreWhole (added name shelves)
 one_added name [] whole = (omega arith, refl, tt)
 one_added name (shelf ∷ shelves) whole = by (one_added name shelves whole.2) (slice_cmp nat_cmp shelf.name name)
   where

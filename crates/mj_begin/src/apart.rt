@@ -1,8 +1,8 @@
 // Files that are written are apart from all others of a run.
 
 use mj_command_line::{Replay, Run};
-use mj_drafts::{Place, ProgramError, is_stream, path_of, place_of};
-use mj_files::Named;
+use mj_drafts::{Choice, Place, ProgramError, is_stream, path_of, place_of};
+use mj_files::{Named, read_device};
 use std::fs;
 use std::os::unix::fs::MetadataExt;
 use std::rt::Files;
@@ -15,14 +15,54 @@ pub fn written_apart<'a, R: Files + AllocGlobal>(
     devices: &[Named<'_>],
 ) -> Result<(), ProgramError<'a>> {
     if let Some(save) = order.save {
-        apart_from_read(rt, save, order, devices)?;
+        of_choice(apart_from_read(rt, save, order, devices), Choice::Save)?;
     }
-    let Some(trace) = order.trace else {
-        return Ok(());
-    };
+    match order.trace {
+        None => Ok(()),
+        Some(trace) => of_choice(trace_apart(rt, trace, order, devices), Choice::Trace),
+    }
+}
+
+// Says which option a value is of that is refused.
+fn of_choice<'a>(
+    done: Result<(), ProgramError<'a>>,
+    option: Choice,
+) -> Result<(), ProgramError<'a>> {
+    match done {
+        Ok(()) => Ok(()),
+        Err(stop) => Err(stop.of_choice(option)),
+    }
+}
+
+// Sees that the trace goes to no file that the run reads or writes besides.
+fn trace_apart<'a, R: Files + AllocGlobal>(
+    rt: &R,
+    trace: &'a str,
+    order: &Run<'_>,
+    devices: &[Named<'_>],
+) -> Result<(), ProgramError<'a>> {
     apart_from_read(rt, trace, order, devices)?;
     apart_from(rt, trace, order.globals)?;
     apart_from(rt, trace, order.save)
+}
+
+/// Sees that a file that is written on the way is none that the run reads or writes, and not another one, if that is named.
+pub fn written_besides<'a, R: Files + AllocGlobal>(
+    rt: &R,
+    name: &'a str,
+    order: &Run<'_>,
+    other: Option<&str>,
+) -> Result<(), ProgramError<'a>> {
+    apart_from_read(rt, name, order, &[])?;
+    for word in &order.devices {
+        if let Some(device) = read_device(rt.alloc(), *word)? {
+            apart_from(rt, name, Some(device.file))?;
+        }
+    }
+    apart_from(rt, name, order.globals)?;
+    apart_from(rt, name, order.save)?;
+    apart_from(rt, name, order.trace)?;
+    apart_from(rt, name, other)
 }
 
 /// Sees that a page on a trace goes to no file that is read for it: not to that of the trace, of a routine or of the globals; and not to that of a standard
@@ -32,26 +72,31 @@ pub fn page_apart<'a, R: Files + AllocGlobal>(
     page: &'a str,
     record: &Replay<'_>,
 ) -> Result<(), ProgramError<'a>> {
-    for file in &record.files {
-        apart_from(rt, page, Some(*file))?;
-    }
-    apart_from(rt, page, Some(record.trace))?;
-    apart_from(rt, page, record.globals)?;
-    apart_from_streams(rt, page)
+    of_choice(apart_from(rt, page, Some(record.trace)), Choice::Html)?;
+    of_choice(apart_from_record(rt, page, record), Choice::Html)
 }
 
-/// Sees that a trace that is brought to today's form goes to no file that is read for it but that of the trace, whose place it may take: not to that of a routine
-/// or of the globals; and not to that of a standard stream.
+/// Sees that a trace that is brought to today's form goes to no file that is read for it but that of the trace, whose place it may take: not to that of a
+/// routine or of the globals; and not to that of a standard stream.
 pub fn migrated_apart<'a, R: Files + AllocGlobal>(
     rt: &R,
     out: &'a str,
     record: &Replay<'_>,
 ) -> Result<(), ProgramError<'a>> {
+    of_choice(apart_from_record(rt, out, record), Choice::Out)
+}
+
+// Sees that a file isn't one of a routine, of the globals or of a standard stream.
+fn apart_from_record<'a, R: Files + AllocGlobal>(
+    rt: &R,
+    name: &'a str,
+    record: &Replay<'_>,
+) -> Result<(), ProgramError<'a>> {
     for file in &record.files {
-        apart_from(rt, out, Some(*file))?;
+        apart_from(rt, name, Some(*file))?;
     }
-    apart_from(rt, out, record.globals)?;
-    apart_from_streams(rt, out)
+    apart_from(rt, name, record.globals)?;
+    apart_from_streams(rt, name)
 }
 
 // Sees that a file isn't one of a routine, of the steps, of a device or of a standard stream.

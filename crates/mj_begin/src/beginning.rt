@@ -28,7 +28,7 @@ use crate::routines::loaded;
 use mj_ask::{Entry, Start};
 use mj_command_line::Run;
 use mj_dev::{Device, Pool};
-use mj_drafts::{Lockable, LockedFile, ProgramError, locked};
+use mj_drafts::{Choice, Lockable, LockedFile, ProgramError, locked};
 use mj_files::{Named, Port, pool_of, read_device};
 use mj_globs::Globals;
 use mj_jobs::ROWS_LIMIT;
@@ -280,10 +280,16 @@ fn starts<'a>(alloc: Global, words: &[&'a str]) -> Result<Vec<Start>, ProgramErr
     let mut starts = Vec::new(alloc);
     for word in words {
         let Some(entry) = Entry::read(alloc, word.as_bytes())? else {
-            return Err(ProgramError::Value(*word));
+            return Err(ProgramError::Chosen {
+                option: Choice::Start,
+                value: *word,
+            });
         };
         if starts.len() >= ROWS_LIMIT {
-            return Err(ProgramError::Value(*word));
+            return Err(ProgramError::Chosen {
+                option: Choice::Start,
+                value: *word,
+            });
         }
         if starts.push(Start::new(entry, Vec::new(alloc))).is_err() {
             return Err(ProgramError::Memory);
@@ -320,7 +326,10 @@ fn first_start<'a>(alloc: Global, file: &'a str) -> Result<Vec<Start>, ProgramEr
 {
     let name = routine_name(alloc, file)?;
     if !mj_subs::is_word(&name) {
-        return Err(ProgramError::Value(file));
+        return Err(ProgramError::Chosen {
+            option: Choice::Start,
+            value: file,
+        });
     }
     let Ok(routine) = Text::from(alloc, &name) else {
         return Err(ProgramError::Memory);
@@ -343,7 +352,10 @@ fn devices<'a>(alloc: Global, words: &[&'a str]) -> Result<Vec<Named<'a>>, Progr
     let mut devices = Vec::new(alloc);
     for word in words {
         let Some(device) = read_device(alloc, *word)? else {
-            return Err(ProgramError::Value(*word));
+            return Err(ProgramError::Chosen {
+                option: Choice::Device,
+                value: *word,
+            });
         };
         if devices.push(device).is_err() {
             return Err(ProgramError::Memory);

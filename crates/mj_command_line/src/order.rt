@@ -22,6 +22,8 @@ pub const EVENTS: u32 = 1_000_000;
 pub enum Order<'a> {
     /// to run jobs at the same time, by so many workers
     Run { run: Run<'a>, workers: u32 },
+    /// to run one job whose output is written as it goes, and whose input is read line by line
+    Live(Run<'a>),
     /// to step jobs, as a file says or in turn
     Step(Run<'a>),
     /// to make runs by chance, and to look for one that comes to something
@@ -59,7 +61,7 @@ pub struct Run<'a> {
     pub steps: Option<&'a str>,
     /// whether to say, where all jobs wait, what each waits for
     pub why: bool,
-    /// whether to tell, where routines are refused, what else is, and what helps
+    /// whether to tell, where something is refused or a run goes wrong, more of it, and what helps
     pub hints: bool,
     /// how many events there may be, and how often a job may ask
     pub events: u32,
@@ -101,6 +103,8 @@ pub struct Replay<'a> {
     pub files: Vec<&'a str>,
     /// the file that lists the globals that were there at first
     pub globals: Option<&'a str>,
+    /// whether to tell, where something is refused, more of it, and what helps
+    pub hints: bool,
     /// how many events there may be, and how often a job may ask
     pub events: u32,
     pub ghost some: { 0 < events },

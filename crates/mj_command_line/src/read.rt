@@ -5,6 +5,7 @@ ghost use Rattle.std.specs.Prelude.{◌<◌};
 use crate::order::{
     Debug, EVENTS, Explain, Explore, Migrate, NoOrder, Order, RUNS, Replay, Run, SEED, WORKERS,
 };
+use crate::texts::LIVE_STARTS;
 use crate::words::command;
 use clap::error::ErrorKind;
 use clap::{ArgMatches, Command, Error};
@@ -45,7 +46,7 @@ fn order_of<'a>(
         return no_order(command);
     };
     match name {
-        "run" => run_order(alloc, found),
+        "run" => run_order(alloc, command, found),
         "step" => step_order(alloc, found),
         "explore" => explore_order(alloc, found),
         "debug" => debug_order(alloc, found),
@@ -89,11 +90,33 @@ fn run_of<'a>(alloc: Global, found: &ArgMatches<'a>) -> Result<Run<'a>, AllocErr
     })
 }
 
-fn run_order<'a>(alloc: Global, found: &ArgMatches<'a>) -> Result<Order<'a>, Error> {
+fn run_order<'a>(
+    alloc: Global,
+    command: &mut Command<'a>,
+    found: &ArgMatches<'a>,
+) -> Result<Order<'a>, Error> {
+    if found.get_flag("live") {
+        return live_order(alloc, command, found);
+    }
     Ok(Order::Run {
         run: run_of(alloc, found)?,
         workers: number_given(found, "workers", WORKERS),
     })
+}
+
+// Standard input isn't read before such a run.
+fn live_order<'a>(
+    alloc: Global,
+    command: &mut Command<'a>,
+    found: &ArgMatches<'a>,
+) -> Result<Order<'a>, Error> {
+    let mut run = run_of(alloc, found)?;
+    if run.starts.len() > 1 {
+        drop(run);
+        return Err(command.error(ErrorKind::ArgumentConflict, LIVE_STARTS)?);
+    }
+    run.stdin = false;
+    Ok(Order::Live(run))
 }
 
 // What may be written by a run is the file of the steps alone, where one is named, and standard input is read behind all files.
@@ -143,6 +166,7 @@ fn record_of<'a>(alloc: Global, found: &ArgMatches<'a>) -> Result<Replay<'a>, Al
         trace: required(found, "trace"),
         files: value_given(alloc, found, "routines")?,
         globals: found.get_str("globals"),
+        hints: found.get_flag("hints"),
         events: events_given(found),
     })
 }
@@ -192,6 +216,7 @@ fn explain_order<'a>(alloc: Global, found: &ArgMatches<'a>) -> Result<Order<'a>,
             trace,
             files: value_given(alloc, found, "routines")?,
             globals: found.get_str("globals"),
+            hints: found.get_flag("hints"),
             events: events_given(found),
         },
         html: found.get_str("html"),

@@ -7,6 +7,7 @@ pub const VERSION: &str = "0.1.0, tested with rattle-kit-13f logic dac8208d650f1
 pub const EXAMPLES: &str = "\
 Examples:
   mj run --start ^R R.m
+  mj run --live MENU.m
   mj run --stdin --start ^HELLO HELLO.m < NAMES
   mj run --device LIST=in:NAMES --device OUT=out:LETTER --start ^R R.m
   mj run --trace TRACE --globals DATA --save DATA --start ^R R.m
@@ -33,10 +34,16 @@ Examples, from the label LATER of the routine in R.m, two jobs by two threads, a
   mj run --workers 2 --start A^R --start B^R R.m
   mj run --start ^R --globals DATA --save DATA R.m
 
+A job that is talked to at a terminal, which writes as it goes and reads a line when it asks for one:
+  mj run --live --globals DATA --save DATA MENU.m
+
 A job that reads the lines of standard input, one that opens LIST and OUT, and one whose events are written down, a line each:
   mj run --stdin --start ^HELLO HELLO.m < NAMES
   mj run --device LIST=in:NAMES --device OUT=out:LETTER --start ^R R.m
   mj run --trace TRACE --start ^R R.m";
+
+/// What is said where a live run is to have several first jobs.
+pub const LIVE_STARTS: &str = "`--live` runs one job, so there may be only one `--start`";
 
 /// What stands below the help of `step`.
 pub const STEP_EXAMPLE: &str = "\

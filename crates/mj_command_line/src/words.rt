@@ -34,7 +34,7 @@ const COMMANDS: [Row; 8] = [
         about: "Runs jobs at the same time, by threads, and prints what they write",
         example: RUN_EXAMPLE,
         options: &[
-            WORKERS, EVENTS, HINTS, START, GLOBALS, SAVE, TRACE, STDIN, DEVICE,
+            WORKERS, LIVE, EVENTS, HINTS, START, GLOBALS, SAVE, TRACE, STDIN, DEVICE,
         ],
     },
     Row {
@@ -69,19 +69,19 @@ const COMMANDS: [Row; 8] = [
         name: "replay",
         about: "Says whether a trace is that of a run of these routines, or which line isn't",
         example: REPLAY_EXAMPLE,
-        options: &[RECORDED, GLOBALS, EVENTS],
+        options: &[RECORDED, GLOBALS, EVENTS, HINTS],
     },
     Row {
         name: "migrate",
         about: "Brings a trace to today's form, in which each event has the line of its command, if it is that of a run of these routines",
         example: MIGRATE_EXAMPLE,
-        options: &[RECORDED, OUT, GLOBALS, EVENTS],
+        options: &[RECORDED, OUT, GLOBALS, EVENTS, HINTS],
     },
     Row {
         name: "explain",
         about: "Tells what a trace shows: clashes, deadlocks and lost updates, and where they come from",
         example: EXPLAIN_EXAMPLE,
-        options: &[GLOBALS, HTML, EVENTS, RECORD],
+        options: &[GLOBALS, HTML, EVENTS, HINTS, RECORD],
     },
 ];
 
@@ -92,6 +92,15 @@ const WORKERS: Choice = Choice {
     action: ArgAction::Set,
     required: false,
     most: Some(WORKERS_LIMIT),
+};
+
+const LIVE: Choice = Choice {
+    name: "live",
+    value: None,
+    help: "Runs one job as at a terminal: writes what it writes at once, and reads standard input line by line, as the job asks for lines",
+    action: ArgAction::SetTrue,
+    required: false,
+    most: None,
 };
 
 const START: Choice = Choice {
@@ -169,7 +178,7 @@ const KEEP: Choice = Choice {
 const HINTS: Choice = Choice {
     name: "hints",
     value: None,
-    help: "Tells, where routines are refused, of all lines that are, and what helps; at a terminal it is told anyway",
+    help: "Tells, where something is refused or a run goes wrong, more of it and what helps; at a terminal it is told anyway",
     action: ArgAction::SetTrue,
     required: false,
     most: None,

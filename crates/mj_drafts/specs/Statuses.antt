@@ -4,6 +4,7 @@ use Rattle.mj_steps.specs.declared.drive.Ending.{Ending}
 use Rattle.mj_steps.specs.declared.drive.Ending.TheVariants as endings
 use Rattle.mj_steps.specs.declared.step.Refusal.{Refusal}
 use Rattle.mj_steps.specs.declared.step.Refusal.TheVariants as refusals
+use Rattle.mj_drafts.specs.declared.choice.Choice.{Choice}
 use Rattle.mj_drafts.specs.declared.stop.ProgramError.{ProgramError}
 use Rattle.mj_drafts.specs.declared.stop.ProgramError.TheVariants as stops
 
@@ -12,6 +13,7 @@ use Rattle.mj_drafts.specs.declared.stop.ProgramError.TheVariants as stops
 -- go on for too long, or where what workers did isn't one run
 abbrev pub status_of : ProgramError → ℕ
 status_of (stops.Value value) = 3
+status_of (stops.Chosen option value) = 3
 status_of (stops.File file) = 4
 status_of (stops.Busy file) = 4
 status_of (stops.Name file) = 2
@@ -26,6 +28,11 @@ status_of stops.Full = 4
 status_of stops.Long = 4
 status_of (stops.Differs job) = 4
 status_of stops.Memory = 4
+
+-- the same, and of a value that isn't of its form, that it is the one of this option
+abbrev pub chosen : ProgramError → Choice → ProgramError
+chosen (stops.Value value) option = stops.Chosen option value
+chosen stop option = stop
 
 -- why the program stops where a step isn't made: an event too many, refused memory, or the step of this number
 abbrev pub stop_at : Refusal → ℕ → ProgramError

@@ -1,8 +1,9 @@
 // Why the program ends before its end.
 
 ghost use Rattle.std.specs.Prelude.{◌≡◌, ◌≤◌};
-ghost use Rattle.mj_drafts.specs.Statuses.{status_of, stop_of};
+ghost use Rattle.mj_drafts.specs.Statuses.{chosen, status_of, stop_of};
 
+use crate::choice::Choice;
 use mj_gfile::ReadError;
 use mj_rou::LoadError;
 use mj_steps::{Ending, Refusal, StepsError};
@@ -18,6 +19,9 @@ pub enum ProgramError<'a> {
     /// a value on the command line isn't of its form
     #[error("bad {0}")]
     Value(&'a str),
+    /// the value of this option isn't of its form
+    #[error("bad {value}")]
+    Chosen { option: Choice, value: &'a str },
     /// a file can't be read or written
     #[error("file {0}")]
     File(&'a str),
@@ -80,6 +84,16 @@ pub const WORDS: u8 = 3;
 pub const FAILED: u8 = 4;
 
 impl<'a> ProgramError<'a> {
+    /// The same, and if a value isn't of its form, that it is the one of this option.
+    pub fn of_choice(self, option: Choice) -> ProgramError<'a>
+        ensures { result ≡ chosen self.entry option }
+    {
+        match self {
+            ProgramError::Value(value) => ProgramError::Chosen { option, value },
+            other => other,
+        }
+    }
+
     /// Why stepping ended before its end, if it did.
     pub fn of_ending(ending: Ending) -> Option<ProgramError<'a>>
         ensures { result ≡ stop_of ending }
@@ -113,7 +127,7 @@ impl ProgramError<'_> {
             | ProgramError::Twice(_)
             | ProgramError::Listing(_) => REFUSED,
             ProgramError::Trace(_) | ProgramError::Steps(_) | ProgramError::Step { .. } => REFUSED,
-            ProgramError::Value(_) => WORDS,
+            ProgramError::Value(_) | ProgramError::Chosen { .. } => WORDS,
             ProgramError::File(_)
             | ProgramError::Busy(_)
             | ProgramError::Stuck

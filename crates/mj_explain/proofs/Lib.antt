@@ -7,7 +7,4 @@ pub mod Places
 pub mod Owning
 pub mod Between
 pub mod Numbered
-pub mod Putting
-pub mod Rounds
-pub mod Regrouped
 pub mod Losing

@@ -3,7 +3,4 @@ pub mod Landings
 pub mod Clashes
 pub mod Losses
 pub mod Waiting
-pub mod Words
-pub mod Escaped
 pub mod Stories
-pub mod Elsewhere

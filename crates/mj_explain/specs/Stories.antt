@@ -2,11 +2,20 @@
 use Rattle.std.specs.Prelude.{◌≡◌, ℕ, true, List, All, length, take}
 use Rattle.mj_store.specs.Questions.{Content}
 use Rattle.mj_ask.specs.declared.noted.Noted.{Noted}
+use Rattle.mj_explain.specs.declared.clashes.ToldClash.{ToldClash}
+use Rattle.mj_explain.specs.declared.cycles.Wait.{Wait}
 use Rattle.mj_explain.specs.declared.losses.Loss.{Loss}
 use Rattle.mj_explain.specs.Clashes.{AreClashes, clash_places}
 use Rattle.mj_explain.specs.Losses.{AreLosses}
 use Rattle.mj_explain.specs.Waiting.{Asked, Hold, is_deadlock}
-use Rattle.mj_explain.specs.Words.{Story}
+
+-- what is told: the first clashes and how many there are, the deadlocks at the end, the first lost updates and how many were found
+pub record Story : Type 0 where
+  pub clashes : List ToldClash
+  pub all_clashes : ℕ
+  pub deadlocks : List (List Wait)
+  pub losses : List Loss
+  pub all_losses : ℕ
 
 -- the first so many of a list of updates that were lost are told, and how many are in it
 pub record AreFirstLosses (es : List Noted) (most : ℕ) (told : List Loss) (count : ℕ) : Type 0 where

@@ -3,7 +3,7 @@
 // All of it is found in the events of a trace. Where transactions began and when changes of globals were made is said by `specs/Events.antt` and
 // `specs/Landings.antt`; why a commit clashed by `specs/Clashes.antt` (`IsClash`), what a lost update is by `specs/Losses.antt` (`IsLoss`), and what a deadlock
 // is by `specs/Waiting.antt` (`is_deadlock`). `story_of` finds them, and its contract (`IsStory` in `specs/Stories.antt`) says that each is one, and how many
-// clashes there are. `words` tells them, as `specs/Words.antt` says.
+// clashes there are. `mj_describe` tells them.
 // Lost updates and deadlocks are looked for in some way or other, and what was found is then tested.
 #![tactic(auto)]
 
@@ -11,25 +11,17 @@ mod begins;
 mod causes;
 mod clashes;
 mod cycles;
-mod deadlocks;
-mod draw;
-mod elsewhere;
-mod escape;
 mod events;
 mod finding;
 mod landings;
 mod losses;
-mod pages;
 mod search;
 mod story;
-mod wording;
 
+pub use begins::begins_of;
 pub use clashes::{ToldClash, Why};
-pub use cycles::{Asked, Hold, Wait};
-pub use deadlocks::Standing;
-pub use elsewhere::first_elsewhere;
+pub use cycles::{Asked, Hold, Wait, wanted_by};
+pub use events::began_after;
 pub use landings::Landing;
 pub use losses::Loss;
-pub use pages::{Held, page};
-pub use story::{Story, story_of, words};
-pub use wording::{Shown, Spot};
+pub use story::{Story, story_of};

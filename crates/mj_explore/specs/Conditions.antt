@@ -1,9 +1,14 @@
--- Expressions that are judged over globals (this profile).
+-- Expressions that are judged over globals (this profile). `^` is byte 94.
 use Rattle.std.specs.Prelude.{◌≡◌, ℕ, ◌==◌, Bool, true, false, ◌&&◌, List, [], ◌∷◌, ◌++◌, length, None, codes}
+use Rattle.std.specs.List.{list_any}
 use Rattle.mj_ask.specs.Started.{Started}
 use Rattle.mj_ast.specs.Syntax.{Command, If, Write, Line, LineCommand, Routine}
 use Rattle.mj_rou.specs.Read.{IsRoutineRead}
 use Rattle.mj_explore.specs.Scripts.{Scripted}
+
+-- a `^` is among these bytes, without which no global is named
+abbrev pub has_caret : List ℕ → Bool
+has_caret bytes = list_any (λ b. b == 94) bytes
 
 -- the name of the routine of an expression
 abbrev pub unit_name : List ℕ

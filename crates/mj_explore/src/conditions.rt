@@ -6,7 +6,7 @@ ghost use Rattle.mj_ast.specs.Trees.{routine_of, line_of as tree_of};
 ghost use Rattle.mj_rou.specs.Read.{IsRoutineRead};
 ghost use Rattle.mj_sys.specs.Shared.{are_global};
 ghost use Rattle.mj_explore.specs.Scripts.{opening_in};
-ghost use Rattle.mj_explore.specs.Conditions.{IsConditionOf, condition_line, judge_start, unit_name, judges, line_judges};
+ghost use Rattle.mj_explore.specs.Conditions.{IsConditionOf, condition_line, has_caret, judge_start, unit_name, judges, line_judges};
 ghost use Rattle.mj_explore.specs.Found.{IsJudged};
 
 use crate::marks::is_over;
@@ -25,10 +25,15 @@ const NAME: &[u8] = b"UNTIL";
 // The most steps of such a routine.
 const STEPS: usize = 10_000;
 
-/// The script of an expression: one job, which writes 1 where the expression is true over the globals. None where the bytes spell no expression.
+/// The script of an expression: one job, which writes 1 where the expression is true over the globals. None where the bytes spell no expression, or one
+/// without a `^`, which names no global: it comes to the same behind every run, as a word that is spelled wrongly does.
 pub fn condition(alloc: Global, expression: &[u8]) -> Result<Option<Script>, AllocError>
-    ensures { IfOk result (λ found. IfSome found (IsConditionOf expression.now)) }
+    ensures script { IfOk result (λ found. IfSome found (IsConditionOf expression.now)) }
+    ensures global { IfOk result (λ found. IfSome found (λ script. has_caret expression.now ≡ true)) }
 {
+    if !has_caret(expression) {
+        return Ok(None);
+    }
     let bytes = line_of(alloc, expression)?;
     if !is_condition(alloc, &bytes)? {
         return Ok(None);
@@ -44,6 +49,13 @@ pub fn condition(alloc: Global, expression: &[u8]) -> Result<Option<Script>, All
         Err(Unread::Memory) => Err(AllocError),
         Err(_) => Ok(None),
     }
+}
+
+// Whether a `^` is among these bytes.
+fn has_caret(bytes: &[u8]) -> bool
+    ensures { result ≡ has_caret bytes.now }
+{
+    bytes.iter().any(|byte| *byte == b'^')
 }
 
 // The line that judges an expression.

@@ -11,7 +11,7 @@ use Rattle.mj_ast.specs.declared.keyword.Keyword.TheVariants as keyword
 use Rattle.mj_ast.specs.declared.keyword.Verb.{Verb}
 use Rattle.mj_ast.specs.declared.keyword.Verb.TheVariants.{Of, HaltOrHang}
 use Rattle.mj_ast.specs.declared.sign.Sign.TheVariants.{Close}
-use Rattle.mj_ast.specs.Tokens.{Token, Quoted, Signed, Blank, Comment, Unclosed, Lexeme, lexemes, is_blank}
+use Rattle.mj_ast.specs.Tokens.{Token, Digits, Quoted, Signed, Blank, Comment, Unclosed, Lexeme, lexemes, is_blank}
 use Rattle.mj_ast.specs.Expressions.{callee_of}
 use Rattle.mj_ast.specs.Commands.{capital, verb_of}
 use Rattle.mj_ast.specs.LeftOut.{has_verb, has_callee}
@@ -170,7 +170,39 @@ abbrev pub is_blank_inside : List ℕ → List ℕ → Bool
 is_blank_inside before there =
     (begins_blank there && (begins_joint (past_blanks there) || ends_joint before)) || (ends_blank before && begins_joint there)
 
+-- the verb is that of TROLLBACK
+abbrev pub is_rollback_verb : Option Verb → Bool
+is_rollback_verb (Some (Of keyword.TRollback)) = true
+is_rollback_verb v = false
+
+-- an argument of TROLLBACK would stand there
+abbrev pub is_rolled : List ℕ → Bool
+is_rolled before = ends_blank before && is_rollback_verb (verb_of (command_part (last_part (parts_before before))))
+
+-- a `*` stands there where an argument or an actual begins
+abbrev pub is_alias : List ℕ → List ℕ → Bool
+is_alias before there =
+    starts_with nat_eq there (codes "*")
+    && ((ends_with nat_eq before (codes "(") || ends_with nat_eq before (codes ","))
+    || (ends_blank before && is_command (last_part (parts_before before))))
+
+-- a value is given, and no SET stands before it: to the word that stands there, which is no command's, or to the one before the column, which is
+abbrev pub lacks_set : Option Construct → List ℕ → List ℕ → List ℕ → Bool
+lacks_set None before there word = starts_with nat_eq there (codes ":=") || (starts_with nat_eq there (codes "=") && is_command (last_part before))
+lacks_set (Some construct.Command) before there word = starts_with nat_eq (drop (length word) there) (codes "=")
+lacks_set (Some c) before there word = false
+
+-- a value is given to `$X` or `$Y` there
+abbrev pub is_column : List ℕ → Bool
+is_column there =
+    starts_with nat_eq there (codes "$X=")
+    || (starts_with nat_eq there (codes "$x=") || (starts_with nat_eq there (codes "$Y=") || starts_with nat_eq there (codes "$y=")))
+
 -- ---- signs of other languages
+
+-- a byte order mark
+abbrev pub is_mark : List ℕ → Bool
+is_mark there = starts_with nat_eq there (239 ∷ 187 ∷ 191 ∷ [])
 
 -- these bytes, the first before the column and the others there, or all there
 abbrev pub is_across : List ℕ → List ℕ → List ℕ → List ℕ → List ℕ → Bool
@@ -194,7 +226,8 @@ is_increase there =
 
 abbrev pub foreign_help : List ℕ → List ℕ → Option Help
 foreign_help before there =
-    if is_comment_mark before there then Some (Said hint.Semicolon)
+    if is_mark there then Some (Said hint.Mark)
+    else if is_comment_mark before there then Some (Said hint.Semicolon)
     else if is_brace there then Some (Said hint.Braces)
     else if is_across before there (codes "<") (codes "=") (codes "<=") then Some (Said hint.AtMost)
     else if is_across before there (codes ">") (codes "=") (codes ">=") then Some (Said hint.AtLeast)
@@ -220,7 +253,15 @@ abbrev pub is_trap : List ℕ → Bool
 is_trap word =
     is_one word (codes "$ECODE") (codes "$EC")
     || (is_one word (codes "$ETRAP") (codes "$ET")
-    || (is_one word (codes "$STACK") (codes "$ST") || (is_one word (codes "$ESTACK") (codes "$ES") || is_one word (codes "$ZTRAP") (codes "$ZT"))))
+    || (is_one word (codes "$STACK") (codes "$ST") || (is_one word (codes "$ESTACK") (codes "$ES")
+    || (is_one word (codes "$ZTRAP") (codes "$ZT") || is_one word (codes "$ZSTATUS") (codes "$ZS")))))
+
+abbrev pub is_clock : List ℕ → Bool
+is_clock word =
+    is_one word (codes "$HOROLOG") (codes "$H") || (is_one word (codes "$ZHOROLOG") (codes "$ZH") || bytes_eq word (codes "$ZUT"))
+
+abbrev pub is_raised : List ℕ → Bool
+is_raised word = is_one word (codes "$INCREMENT") (codes "$I") || is_one word (codes "$ZINCREMENT") (codes "$ZINCR")
 
 -- the name of a function, where nothing stands behind it that would make it one
 abbrev pub is_function : List ℕ → Bool
@@ -230,10 +271,11 @@ is_function (b ∷ word) = has_callee (callee_of word)
 -- what is said of a variable that the language leaves out, by its word in capitals
 abbrev pub variable_help : List ℕ → Help
 variable_help word =
-    if is_one word (codes "$HOROLOG") (codes "$H") then Said hint.Clock
+    if is_clock word then Said hint.Clock
     else if is_trap word then Said hint.Trap
     else if is_one word (codes "$PRINCIPAL") (codes "$P") then Said hint.Principal
     else if is_function word then Said hint.Directly
+    else if is_one word (codes "$ZEOF") (codes "$ZEO") then Said hint.InputEnd
     else if starts_with nat_eq word (codes "$Z") then Said hint.Passed
     else nearly_or (near_of word variable_names) hint.Variables
 
@@ -247,18 +289,27 @@ function_help word =
     if is_one word (codes "$TEXT") (codes "$T") then Said hint.Lines
     else if is_one word (codes "$RANDOM") (codes "$R") then Said hint.Chance
     else if is_one word (codes "$FNUMBER") (codes "$FN") then Said hint.Format
-    else if is_one word (codes "$INCREMENT") (codes "$I") then Said hint.Raised
+    else if is_raised word then Said hint.Raised
     else if is_one word (codes "$NEXT") (codes "$N") then Said hint.Next
+    else if is_one word (codes "$ZPREVIOUS") (codes "$ZP") then Said hint.Back
+    else if is_one word (codes "$ZDATE") (codes "$ZD") then Said hint.Dated
+    else if is_one word (codes "$ZCONVERT") (codes "$ZCO") then Said hint.Letters
     else other_function_help word
+
+-- the word of a command that keeps what is below
+abbrev pub is_kept : List ℕ → Bool
+is_kept word = is_one word (codes "ZKILL") (codes "ZK") || is_one word (codes "ZWITHDRAW") (codes "ZWI")
 
 -- what is said of a word that is no command's
 abbrev pub command_help : List ℕ → Help
 command_help word =
     if is_one word (codes "XECUTE") (codes "X") then Said hint.Execute
     else if is_one word (codes "ZWRITE") (codes "ZWR") then Said hint.Listed
+    else if is_kept word then Said hint.Kept
     else if is_one word (codes "VIEW") (codes "V") || starts_with nat_eq word (codes "Z") then Said hint.Extended
     else if bytes_eq word (codes "THEN") then Said hint.Then
     else if bytes_eq word (codes "RETURN") then Said hint.Returned
+    else if bytes_eq word (codes "PRINT") then Nearly (codes "WRITE")
     else nearly_or (near_of word command_names) hint.Commands
 
 -- what is said of a construct that it leaves out, by the word that stands there
@@ -280,17 +331,22 @@ token_help (Some (Comment text, slice)) before = if ends_blank before then Some 
 token_help (Some (Unclosed text, slice)) before = Some (Said hint.Quote)
 token_help (Some (Quoted text, slice)) before = Some (Said hint.Joined)
 token_help (Some (Blank, slice)) before = if is_inside before then Some (Said hint.Parenthesis) else None
-token_help (Some (Signed Close, slice)) before = if is_inside before then None else Some (Said hint.Closed)
+token_help (Some (Signed Close, slice)) before = if is_inside before then Some (Said hint.Fewer) else Some (Said hint.Closed)
+token_help (Some (Digits digits, slice)) before = if nat_lt 18 (length digits) then Some (Said hint.LongNumber) else None
 token_help (Some (t, slice)) before = None
 
 -- what is said of a blank too much or too few inside arguments, of a byte that means something else in other languages, or else of the token
 abbrev pub plain_help : List ℕ → List ℕ → Option Help
 plain_help before there =
     if is_second_blank before there then Some (Said hint.OneBlank)
+    else if is_rolled before then Some (Said hint.Rollback)
+    else if is_alias before there then Some (Said hint.Alias)
     else if is_blank_inside before there then Some (Said hint.NoBlank)
     else if starts_with nat_eq there (codes "'") then Some (Said hint.Apostrophe)
     else if starts_with nat_eq there (codes "[") then Some (Said hint.Brackets)
     else if starts_with nat_eq there (codes "%") then Some (Said hint.Remainder)
+    else if is_column there then Some (Said hint.Column)
+    else if list_all is_blank before && starts_with nat_eq there (codes "$$") then Some (Said hint.Invoked)
     else token_help (front_there there) before
 
 abbrev pub named_help : Option Construct → List ℕ → List ℕ → Option Help
@@ -303,9 +359,10 @@ may_hide None = true
 may_hide (Some construct.Command) = true
 may_hide (Some c) = false
 
--- What helps where a line can't go on behind these bytes with what stands there, which is left out by this name or by none: first where a blank is missing, then
--- by signs of other languages, then by the name, then by the rest.
+-- What helps where a line can't go on behind these bytes with what stands there, which is left out by this name or by none: first where a blank is missing, or
+-- SET is, then by signs of other languages, then by the name, then by the rest.
 unfoldable pub help_at : Option Construct → List ℕ → List ℕ → Option Help
 help_at c before there =
     if may_hide c && (lacks_blank before (slice_of (front_there there)) || lacks_blank_there before there) then Some (Said hint.TwoBlanks)
+    else if lacks_set c before there (slice_of (front_there there)) then Some (Said hint.Valued)
     else first_of (foreign_help before there) (named_help c before there)

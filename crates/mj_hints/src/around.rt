@@ -7,6 +7,7 @@ ghost use Rattle.mj_ast.specs.LeftOut.{has_verb};
 ghost use Rattle.mj_ast.specs.Tokens.{is_blank as the_blank};
 ghost use Rattle.mj_hints.specs.Hints.{begins_blank as the_begins_blank, begins_joint as the_begins_joint, command_part as the_command_part};
 ghost use Rattle.mj_hints.specs.Hints.{is_dot_byte, is_no_colon};
+ghost use Rattle.mj_hints.specs.Hints.{is_alias as the_alias, is_rollback_verb, is_rolled as the_rolled};
 ghost use Rattle.mj_hints.specs.Hints.{ends_blank as the_ends_blank, ends_joint as the_ends_joint, is_across as the_across, is_bare as the_bare};
 ghost use Rattle.mj_hints.specs.Hints.{is_blank_inside as the_blank_inside, is_command as the_command, is_inside as the_inside, is_second_blank};
 ghost use Rattle.mj_hints.specs.Hints.{joins as the_joins, joins_or_opens, lacks_blank as the_lacks_blank, lacks_blank_there as the_lacks_blank_there};
@@ -185,6 +186,39 @@ pub fn is_blank_twice(before: &[u8], there: &[u8]) -> bool
     ensures { result ≡ is_second_blank before.now there.now }
 {
     begins_blank(there) && (ends_blank(before) && is_command(last_part(parts_before(before))))
+}
+
+/// Whether the word of a command stands before the column.
+pub fn ends_command(before: &[u8]) -> bool
+    ensures { result ≡ the_command (the_last_part before.now) }
+{
+    is_command(last_part(before))
+}
+
+/// Whether a verb is that of TROLLBACK.
+fn is_rollback(verb: Option<Verb>) -> bool
+    ensures { result ≡ is_rollback_verb verb }
+{
+    match verb {
+        Some(Verb::Of(Keyword::TRollback)) => true,
+        _ => false,
+    }
+}
+
+/// Whether an argument of TROLLBACK would stand there.
+pub fn is_rolled(before: &[u8]) -> bool
+    ensures { result ≡ the_rolled before.now }
+{
+    ends_blank(before) && is_rollback(verb_of(command_part(last_part(parts_before(before)))))
+}
+
+/// Whether a `*` stands there where an argument or an actual begins.
+pub fn is_alias(before: &[u8], there: &[u8]) -> bool
+    ensures { result ≡ the_alias before.now there.now }
+{
+    there.starts_with(b"*")
+        && ((before.ends_with(b"(") || before.ends_with(b","))
+            || (ends_blank(before) && is_command(last_part(parts_before(before)))))
 }
 
 /// Whether a byte joins two parts of arguments.

@@ -6,22 +6,28 @@ ghost use Rattle.mj_ast.specs.Commands.{capital};
 ghost use Rattle.mj_lex.specs.Seen.{token_seen};
 ghost use Rattle.mj_hints.specs.Hints.{Said, command_help, construct_help, end_help, foreign_help, front_there, function_help, help_at, help_seen};
 ghost use Rattle.mj_hints.specs.Hints.{is_brace as the_brace, is_comment_mark as the_comment_mark, is_function as the_function};
+ghost use Rattle.mj_hints.specs.Hints.{is_clock as the_clock, is_column as the_column, is_kept as the_kept, is_mark, is_raised as the_raised};
 ghost use Rattle.mj_hints.specs.Hints.{is_increase as the_increase, is_one as the_one, is_trap as the_trap, is_unequal as the_unequal, named_help};
+ghost use Rattle.mj_hints.specs.Hints.{lacks_set as the_lacks_set};
 ghost use Rattle.mj_hints.specs.Hints.{may_hide as the_hidden, nearly_or, other_function_help, plain_help, slice_of, token_help, variable_help};
 ghost use Rattle.mj_hints.specs.Near.{near_of};
 
 use crate::around::{
-    are_blanks, ends_blank, is_across, is_blank_inside, is_blank_twice, is_inside, lacks_blank,
-    lacks_blank_there,
+    are_blanks, ends_blank, ends_command, is_across, is_alias, is_blank_inside, is_blank_twice,
+    is_inside, is_rolled, lacks_blank, lacks_blank_there,
 };
 use crate::names::{COMMANDS, FUNCTIONS, VARIABLES};
 use crate::near::{capitals, nearest};
 use crate::phrases::Hint;
+use crate::text::from;
 use crate::token::front;
 use mj_ast::{Construct, Sign};
 use mj_expr::callee;
 use mj_lex::Token;
 use std::alloc::{AllocError, Global};
+
+/// The most digits of a number.
+const NUMBER: usize = 18;
 
 /// What helps where a line can't go on behind some bytes with what stands there, which the language leaves out by this name or by none.
 #[tactic(auto, unfolding(crate::specs::Hints::help_at))]
@@ -38,6 +44,9 @@ pub fn hint_at(
         && (lacks_blank(before, slice(front)) || lacks_blank_there(before, there))
     {
         return Ok(Some(Hint::TwoBlanks));
+    }
+    if lacks_set(construct, before, there, slice(front)) {
+        return Ok(Some(Hint::Valued));
     }
     if let Some(hint) = foreign(before, there) {
         return Ok(Some(hint));
@@ -58,6 +67,17 @@ fn may_hide(construct: Option<Construct>) -> bool
     }
 }
 
+// Whether a value is given, and no SET stands before it: to the word that stands there, which is no command's, or to the one before the column, which is.
+fn lacks_set(construct: Option<Construct>, before: &[u8], there: &[u8], word: &[u8]) -> bool
+    ensures { result ≡ the_lacks_set construct before.now there.now word.now }
+{
+    match construct {
+        None => there.starts_with(b":=") || (there.starts_with(b"=") && ends_command(before)),
+        Some(Construct::Command) => from(there, word.len()).starts_with(b"="),
+        Some(_) => false,
+    }
+}
+
 // The bytes of what stands there.
 fn slice<'a>(front: Option<(Token<'a>, &'a [u8])>) -> &'a [u8]
     ensures { result.now ≡ slice_of (option_map (λ x. (token_seen x.0, x.1.now)) front.entry) }
@@ -72,7 +92,9 @@ fn slice<'a>(front: Option<(Token<'a>, &'a [u8])>) -> &'a [u8]
 fn foreign(before: &[u8], there: &[u8]) -> Option<Hint>
     ensures { option_map help_seen result ≡ foreign_help before.now there.now }
 {
-    if is_comment_mark(before, there) {
+    if there.starts_with(b"\xEF\xBB\xBF") {
+        Some(Hint::Mark)
+    } else if is_comment_mark(before, there) {
         Some(Hint::Semicolon)
     } else if is_brace(there) {
         Some(Hint::Braces)
@@ -129,6 +151,12 @@ fn plain<'a>(before: &[u8], there: &'a [u8], front: Option<(Token<'a>, &'a [u8])
     if is_blank_twice(before, there) {
         return Some(Hint::OneBlank);
     }
+    if is_rolled(before) {
+        return Some(Hint::Rollback);
+    }
+    if is_alias(before, there) {
+        return Some(Hint::Alias);
+    }
     if is_blank_inside(before, there) {
         return Some(Hint::NoBlank);
     }
@@ -141,7 +169,21 @@ fn plain<'a>(before: &[u8], there: &'a [u8], front: Option<(Token<'a>, &'a [u8])
     if there.starts_with(b"%") {
         return Some(Hint::Remainder);
     }
+    if is_column(there) {
+        return Some(Hint::Column);
+    }
+    if are_blanks(before) && there.starts_with(b"$$") {
+        return Some(Hint::Invoked);
+    }
     at_token(front, before)
+}
+
+// Whether a value is given to `$X` or `$Y` there.
+fn is_column(there: &[u8]) -> bool
+    ensures { result ≡ the_column there.now }
+{
+    there.starts_with(b"$X=")
+        || (there.starts_with(b"$x=") || (there.starts_with(b"$Y=") || there.starts_with(b"$y=")))
 }
 
 // What helps at a token.
@@ -170,9 +212,16 @@ fn at_token<'a>(front: Option<(Token<'a>, &'a [u8])>, before: &[u8]) -> Option<H
         }
         Token::Sign(Sign::Close) => {
             if is_inside(before) {
-                None
+                Some(Hint::Fewer)
             } else {
                 Some(Hint::Closed)
+            }
+        }
+        Token::Digits(digits) => {
+            if digits.len() > NUMBER {
+                Some(Hint::LongNumber)
+            } else {
+                None
             }
         }
         _ => None,
@@ -218,7 +267,28 @@ fn is_trap(word: &[u8]) -> bool
     is_one(word, b"$ECODE", b"$EC")
         || (is_one(word, b"$ETRAP", b"$ET")
             || (is_one(word, b"$STACK", b"$ST")
-                || (is_one(word, b"$ESTACK", b"$ES") || is_one(word, b"$ZTRAP", b"$ZT"))))
+                || (is_one(word, b"$ESTACK", b"$ES")
+                    || (is_one(word, b"$ZTRAP", b"$ZT") || is_one(word, b"$ZSTATUS", b"$ZS")))))
+}
+
+fn is_clock(word: &[u8]) -> bool
+    ensures { result ≡ the_clock word.now }
+{
+    is_one(word, b"$HOROLOG", b"$H")
+        || (is_one(word, b"$ZHOROLOG", b"$ZH") || word == b"$ZUT".as_slice())
+}
+
+fn is_raised(word: &[u8]) -> bool
+    ensures { result ≡ the_raised word.now }
+{
+    is_one(word, b"$INCREMENT", b"$I") || is_one(word, b"$ZINCREMENT", b"$ZINCR")
+}
+
+// Whether it is the word of a command that keeps what is below.
+fn is_kept(word: &[u8]) -> bool
+    ensures { result ≡ the_kept word.now }
+{
+    is_one(word, b"ZKILL", b"ZK") || is_one(word, b"ZWITHDRAW", b"ZWI")
 }
 
 fn is_function(word: &[u8]) -> bool
@@ -245,7 +315,7 @@ fn near_or(word: &[u8], names: &[&'static [u8]], other: Hint) -> Hint
 fn variable(word: &[u8]) -> Hint
     ensures { help_seen result ≡ variable_help word.now }
 {
-    if is_one(word, b"$HOROLOG", b"$H") {
+    if is_clock(word) {
         Hint::Clock
     } else if is_trap(word) {
         Hint::Trap
@@ -253,6 +323,8 @@ fn variable(word: &[u8]) -> Hint
         Hint::Principal
     } else if is_function(word) {
         Hint::Directly
+    } else if is_one(word, b"$ZEOF", b"$ZEO") {
+        Hint::InputEnd
     } else if word.starts_with(b"$Z") {
         Hint::Passed
     } else {
@@ -270,10 +342,16 @@ fn function(word: &[u8]) -> Hint
         Hint::Chance
     } else if is_one(word, b"$FNUMBER", b"$FN") {
         Hint::Format
-    } else if is_one(word, b"$INCREMENT", b"$I") {
+    } else if is_raised(word) {
         Hint::Raised
     } else if is_one(word, b"$NEXT", b"$N") {
         Hint::Next
+    } else if is_one(word, b"$ZPREVIOUS", b"$ZP") {
+        Hint::Back
+    } else if is_one(word, b"$ZDATE", b"$ZD") {
+        Hint::Dated
+    } else if is_one(word, b"$ZCONVERT", b"$ZCO") {
+        Hint::Letters
     } else {
         other_function(word)
     }
@@ -298,12 +376,16 @@ fn command(word: &[u8]) -> Hint
         Hint::Execute
     } else if is_one(word, b"ZWRITE", b"ZWR") {
         Hint::Listed
+    } else if is_kept(word) {
+        Hint::Kept
     } else if is_one(word, b"VIEW", b"V") || word.starts_with(b"Z") {
         Hint::Extended
     } else if word == b"THEN".as_slice() {
         Hint::Then
     } else if word == b"RETURN".as_slice() {
         Hint::Returned
+    } else if word == b"PRINT".as_slice() {
+        Hint::Near(b"WRITE")
     } else {
         near_or(word, &COMMANDS, Hint::Commands)
     }

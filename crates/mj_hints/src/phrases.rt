@@ -18,12 +18,20 @@ pub enum Hint {
     OneBlank,
     /// a blank stands inside arguments
     NoBlank,
+    /// an argument of `TROLLBACK`
+    Rollback,
+    /// a `*` before a name that no byte is read into or written of
+    Alias,
     /// a function's name has no `(` directly behind it
     Directly,
     /// a `;` directly behind a word
     CommentBlank,
     /// `//` and the like
     Semicolon,
+    /// a byte order mark
+    Mark,
+    /// a value is given, and no `SET` stands before it
+    Valued,
     /// `{` or `}`
     Braces,
     /// `[` behind a name
@@ -54,6 +62,14 @@ pub enum Hint {
     Parenthesis,
     /// a `)` too many
     Closed,
+    /// a `)` too early
+    Fewer,
+    /// a number of more than 18 digits
+    LongNumber,
+    /// `$X` or `$Y` where a value is given to it
+    Column,
+    /// `$$F` where a command may begin
+    Invoked,
     /// the line ends too early
     Ends,
     /// a label that an earlier line has
@@ -74,7 +90,9 @@ pub enum Hint {
     Trap,
     /// the variable of the principal device
     Principal,
-    /// a variable that begins with Z
+    /// `$ZEOF`
+    InputEnd,
+    /// any other variable that begins with Z
     Passed,
     /// any other variable
     Variables,
@@ -88,12 +106,20 @@ pub enum Hint {
     Raised,
     /// `$NEXT`
     Next,
+    /// `$ZPREVIOUS`
+    Back,
+    /// `$ZDATE`
+    Dated,
+    /// `$ZCONVERT`
+    Letters,
     /// any other function
     Functions,
     /// `XECUTE`
     Execute,
     /// `ZWRITE`
     Listed,
+    /// `ZKILL`
+    Kept,
     /// any other Z command, and `VIEW`
     Extended,
     /// `THEN`
@@ -118,10 +144,16 @@ impl Hint {
             Hint::OneBlank => "one blank stands between a command and its arguments: `SET X=1`",
             Hint::NoBlank =>
                 "no blank stands inside arguments, or beside a comma of theirs: `SET X=1,Y=2`",
+            Hint::Rollback => "`TROLLBACK` has no argument, and rolls all levels back",
+            Hint::Alias =>
+                "there are no aliases: `MERGE X=Y` copies; a `*` that multiplies has no blank before it",
             Hint::Directly => "the `(` of a function stands directly behind its name: `$LENGTH(X)`",
             Hint::CommentBlank => "a blank stands before the `;` of a comment",
             Hint::Semicolon =>
                 "a comment begins with `;`, and a quotient without its fraction is `X\\Y`",
+            Hint::Mark =>
+                "a byte order mark stands there, which isn't seen: save the file without it",
+            Hint::Valued => "a value is given by `SET`: `SET X=1`",
             Hint::Braces =>
                 "there are no braces: `DO`, with two blanks behind it, runs the lines below that begin with ` .`",
             Hint::Brackets => "subscripts stand in parentheses: `X(1)`",
@@ -139,6 +171,11 @@ impl Hint {
                 "texts are joined by `_`, and written one after the other by `WRITE X,Y`",
             Hint::Parenthesis => "a `(` before it isn't closed",
             Hint::Closed => "no `(` is open there",
+            Hint::Fewer => "something is missing before it: an argument, or a value",
+            Hint::LongNumber => "a number has at most 18 digits",
+            Hint::Column => "`$X` and `$Y` can't be set: `WRITE ?5` moves to column 5",
+            Hint::Invoked =>
+                "a function stands in an argument: `SET X=$$F(1)`; `DO F(1)` runs lines that give no value",
             Hint::Ends => "something is missing: arguments, or a value",
             Hint::Again => "an earlier line has this label",
             Hint::LongLine => "a line has at most 8,192 bytes",
@@ -150,8 +187,10 @@ impl Hint {
             Hint::Clock => "there is no clock: pass the time in, by `--stdin` or `--globals`",
             Hint::Trap => "nothing traps a fault: test first, by `$DATA`, `$GET` or `IF`",
             Hint::Principal => "the principal device is \"0\"",
+            Hint::InputEnd =>
+                "at the end of the input a timed `READ` makes `$TEST` 0: `READ X:0 QUIT:'$TEST`",
             Hint::Passed =>
-                "Z variables are left out: what is to be known can come by `--stdin` or `--globals`",
+                "Z variables are left out: leave it out, or pass in what is to be known, by `--stdin` or `--globals`",
             Hint::Variables =>
                 "the variables are `$IO`, `$JOB`, `$TEST`, `$TLEVEL`, `$TRESTART`, `$X` and `$Y`",
             Hint::Lines =>
@@ -161,12 +200,19 @@ impl Hint {
             Hint::Format => "`$JUSTIFY`, `$EXTRACT` and `_` can make the text",
             Hint::Raised => "it can be written `LOCK +^C SET (^C,N)=$GET(^C)+1 LOCK -^C`",
             Hint::Next => "`$ORDER` does it, and ends with the empty text",
+            Hint::Back => "`$ORDER(X(S),-1)` goes back",
+            Hint::Dated =>
+                "a date is worked out from the number of its day by `\\` and `#`, or passed in as a text",
+            Hint::Letters =>
+                "letters are changed by `$TRANSLATE(X,\"abc\",\"ABC\")`, with all of them in both texts",
             Hint::Functions =>
                 "the functions are `$A $C $D $E $F $G $J $L $NA $O $P $QL $QS $Q $RE $S $TR`, or whole: `$LENGTH`",
-            Hint::Execute => "no text is run: `DO` runs the lines behind a label",
+            Hint::Execute => "no text is run: write it as lines behind a label, and `DO` runs them",
             Hint::Listed =>
                 "`--save FILE` lists the globals, and `g` and `v 1` of `mj debug` list globals and locals",
-            Hint::Extended => "Z commands and `VIEW` are left out",
+            Hint::Kept =>
+                "what is below is kept so: `MERGE T=^A KILL ^A`, and `MERGE ^A(S)=T(S)` for each S",
+            Hint::Extended => "Z commands and `VIEW` are left out, and nothing stands for them",
             Hint::Then =>
                 "there is no `THEN`: the commands follow behind a blank, `IF X=1 SET Y=2`",
             Hint::Returned => "`QUIT` returns",
@@ -185,15 +231,15 @@ fn instead(construct: Construct) -> &'static str
             "a name is written as it is; `V(N)` has values by names, and `DO A:N=\"A\",B:N=\"B\"` chooses",
         Construct::Fraction =>
             "numbers are whole: count in smaller units, as 150 hundredths for 1.5",
-        Construct::Exponent => "write the number in full: `100000`",
+        Construct::Exponent => "write the number in full: `1E3` is `1000`, and `1E5` is `100000`",
         Construct::Power => "multiply: `SET P=1 FOR I=1:1:3 SET P=P*X`",
         Construct::Pattern =>
-            "test it by functions: `IF X'=\"\",$TRANSLATE(X,\"0123456789\")=\"\"` is true of digits",
+            "test by functions: `X'=\"\"&($TRANSLATE(X,\"0123456789\")=\"\")` is true of digits; with letters instead, of letters",
         Construct::Naked => "write the whole name: `^A(1)`",
         Construct::Environment => "a subscript more can have the environment: `^A(\"E\",1)`",
         Construct::Structured => "it is left out, and nothing stands for it",
         Construct::ByReference =>
-            "`DO A` and `$$A` see the locals of their caller, so both can use one",
+            "leave it out of the call and the label's formals: `DO A` and `$$A` see their caller's locals by name",
         Construct::EntryOffset => "that line can have a label of its own",
         Construct::ReadLength => "`READ *C` reads a byte, and `$CHAR(C)` is its text",
         Construct::DeviceParameters =>

@@ -10,7 +10,7 @@ ghost use Rattle.mj_hints.specs.Shown.{shown_byte as the_shown_byte, shown_bytes
 
 use crate::hint::hint_at;
 use crate::phrases::Hint;
-use crate::text::line_at;
+use crate::text::{from, line_at};
 use crate::token::front;
 use mj_ast::{Construct, LINE_LIMIT, ROUTINE_LIMIT};
 use mj_rou::LoadError;
@@ -105,8 +105,8 @@ fn put_at(
     put_caret(alloc, bytes, line, column, hint)
 }
 
-// Puts the line of the source, from so many bytes on.
-fn put_source(bytes: &mut Vec<u8>, line: &[u8], start: usize) -> Result<(), AllocError>
+/// Puts a line of the source to the end of some bytes, from so many of its bytes on, behind a margin. Where memory is refused a part of it may stand there.
+pub fn put_source(bytes: &mut Vec<u8>, line: &[u8], start: usize) -> Result<(), AllocError>
     ensures { OnOk result (bytes.new.items ≡ bytes.old.items ++ source_line start line.now) }
 {
     if start == 0 {
@@ -141,8 +141,8 @@ fn put_caret(
     Ok(())
 }
 
-// Puts what stands before the caret.
-fn put_front(bytes: &mut Vec<u8>, line: &[u8], column: usize) -> Result<(), AllocError>
+/// Puts what stands before a caret under a column of a line to the end of some bytes. Where memory is refused a part of it may stand there.
+pub fn put_front(bytes: &mut Vec<u8>, line: &[u8], column: usize) -> Result<(), AllocError>
     ensures { OnOk result (bytes.new.items ≡ bytes.old.items ++ caret_front (start_of column) column line.now) }
 {
     let start = column.saturating_sub(NEAR);
@@ -278,16 +278,5 @@ fn up_to(bytes: &[u8], count: usize) -> &[u8]
         &bytes[..count]
     } else {
         bytes
-    }
-}
-
-// The bytes behind the first, so many of them as there are.
-fn from(bytes: &[u8], count: usize) -> &[u8]
-    ensures { result.now ≡ drop count bytes.now }
-{
-    if count < bytes.len() {
-        &bytes[count..]
-    } else {
-        &bytes[bytes.len()..]
     }
 }

@@ -1,6 +1,6 @@
 // The lines of a text.
 
-ghost use Rattle.std.specs.Prelude.{◌≡◌, ◌∷◌, ◌++◌, ◌≤◌, ◌<◌, [], IfNone, IfOk, IfSome, MatchOption, length, position};
+ghost use Rattle.std.specs.Prelude.{◌≡◌, ◌∷◌, ◌++◌, ◌≤◌, ◌<◌, [], IfNone, IfOk, IfSome, MatchOption, drop, length, position};
 ghost use Rattle.mj_ast.specs.Routines.{lines_of};
 ghost use Rattle.mj_hints.specs.Refusals.{IsCutBehind, IsEmptied, IsOneLine, line_at as the_line, only_line};
 
@@ -85,5 +85,16 @@ fn cut(bytes: &[u8]) -> Option<(&[u8], &[u8])>
     match newline(bytes) {
         None => None,
         Some(end) => Some((&bytes[..end], &bytes[end + 1..])),
+    }
+}
+
+/// The bytes behind the first, so many of them as there are.
+pub fn from(bytes: &[u8], count: usize) -> &[u8]
+    ensures { result.now ≡ drop count bytes.now }
+{
+    if count < bytes.len() {
+        &bytes[count..]
+    } else {
+        &bytes[bytes.len()..]
     }
 }

@@ -1,4 +1,6 @@
 mod Joined
+mod Latest
 mod Heads
 mod Migrations
+mod Typing
 mod Waiting

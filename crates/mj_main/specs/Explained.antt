@@ -18,9 +18,9 @@ use Rattle.mj_trace.specs.Trace.{Traced}
 use Rattle.mj_retrace.specs.Retraced.{Spot, IsRetraced}
 use Rattle.mj_retrace.specs.declared.retracing.Retraced.{Retraced}
 use Rattle.mj_explain.specs.declared.story.TheConstants.{MOST}
-use Rattle.mj_explain.specs.Elsewhere.{IsFirstElsewhere}
-use Rattle.mj_explain.specs.Words.{Shown, Standing, Story, line_of, story_text}
-use Rattle.mj_explain.specs.Stories.{IsStory}
+use Rattle.mj_explain.specs.Stories.{Story, IsStory}
+use Rattle.mj_describe.specs.Elsewhere.{IsFirstElsewhere}
+use Rattle.mj_describe.specs.Words.{Shown, Standing, line_of, story_text}
 use Rattle.std.specs.Prelude.{Option, Some, None}
 use Rattle.mj_main.specs.Printed.{event_line, verdict_text}
 use Rattle.mj_main.specs.Statuses.{verdict_status}

@@ -23,6 +23,30 @@ wait_line job what holder place = codes "job " ++ decimal job ++ codes " waits f
 abbrev pub idle_line : ℕ → List ℕ
 idle_line job = codes "job " ++ decimal job ++ codes " waits for input" ++ 10 ∷ []
 
+-- the end of a line, with a place
+abbrev pub at_line : List ℕ → Option (List ℕ × ℕ) → List ℕ
+at_line words place = words ++ place_text place ++ 10 ∷ []
+
+-- the line on where a job took what another waits for
+abbrev pub taken_line : ℕ → List ℕ → Option (List ℕ × ℕ) → List ℕ
+taken_line job what place = codes "    job " ++ decimal job ++ codes " took " ++ what ++ at_line (codes " at ") place
+
+-- the line on a job that hasn't ended: where it asked last
+abbrev pub last_line : ℕ → Option (List ℕ × ℕ) → List ℕ
+last_line job place = codes "    job " ++ decimal job ++ at_line (codes " asked last at ") place
+
+-- the line on as many steps in turn as there may be
+abbrev pub turns_line : List ℕ
+turns_line = codes "    1000000 steps were made in turn, as many as there may be; these jobs haven't ended:" ++ 10 ∷ []
+
+-- the line on a run of as many events as there may be
+abbrev pub events_line : ℕ → List ℕ
+events_line most = codes "    there are " ++ decimal most ++ codes " events, as many as there may be; `--events` allows more; these jobs haven't ended:" ++ 10 ∷ []
+
+-- the line on jobs that all wait
+abbrev pub stuck_line : List ℕ
+stuck_line = codes "    `mj step --why` tells what each job waits for, and `mj explain` of a `--trace` since when" ++ 10 ∷ []
+
 -- the line of a trace on which an event stands, which counts from 0. Lines count from 1: before the events stand those that tell the form, and one for each
 -- device and each start. No number is greater than the greatest of 64 bits
 abbrev pub event_line : Traced → ℕ → ℕ

@@ -11,7 +11,7 @@ ghost use Rattle.mj_main.specs.Statuses.{found_status};
 use mj_begin::{Beginning, begin, file_bytes, refused, routine_bytes, routine_name};
 use mj_chance::put_steps;
 use mj_command_line::Explore;
-use mj_drafts::{Lockable, ProgramError, Word, print, stopped, tell_trouble, write_file};
+use mj_drafts::{Choice, Lockable, ProgramError, Word, print, stopped, tell_trouble, write_file};
 use mj_explore::{Explored, Goal, Script, Search, Source, Supply, Unread, condition};
 use mj_files::{BYTES_LIMIT, Side, Trouble, read_device, whole};
 use mj_globs::Globals;
@@ -46,7 +46,24 @@ where
             drop(explored);
             status
         }
-        Err(stop) => refused(&rt, &order.run.files, order.run.hints, &stop, err),
+        Err(stop) => {
+            let stop = of_keep(stop);
+            refused(&rt, &order.run, &stop, err)
+        }
+    }
+}
+
+// Why it stops, by the words of this command: the file that the steps go to stands for that of the trace.
+fn of_keep<'a>(stop: ProgramError<'a>) -> ProgramError<'a> {
+    match stop {
+        ProgramError::Chosen {
+            option: Choice::Trace,
+            value,
+        } => ProgramError::Chosen {
+            option: Choice::Keep,
+            value,
+        },
+        other => other,
     }
 }
 
@@ -85,7 +102,10 @@ fn goal_of<'a>(alloc: Global, until: Option<&'a str>) -> Result<Option<Goal>, Pr
         "clash" => Ok(Some(Goal::Clash)),
         _ => match condition(alloc, word.as_bytes())? {
             Some(script) => Ok(Some(Goal::False(script))),
-            None => Err(ProgramError::Value(word)),
+            None => Err(ProgramError::Chosen {
+                option: Choice::Until,
+                value: word,
+            }),
         },
     }
 }
@@ -169,7 +189,10 @@ fn supplies<'a, R: Files + AllocGlobal>(
     let mut supplies = Vec::new(rt.alloc());
     for word in words {
         let Some(device) = read_device(rt.alloc(), *word)? else {
-            return Err(ProgramError::Value(*word));
+            return Err(ProgramError::Chosen {
+                option: Choice::Device,
+                value: *word,
+            });
         };
         let bytes = match device.side {
             Side::In => file_bytes(rt, device.file)?,

@@ -15,15 +15,18 @@ ghost use Rattle.mj_recorded.specs.Traces.{entries_of};
 ghost use Rattle.mj_report.specs.Traced.{IsHead};
 ghost use Rattle.mj_begin.specs.Words.{WereGiven};
 
+use crate::ends::{tell_devices, tell_end};
 use crate::explains::explain;
 use crate::explores::explore;
+use crate::faults::{kept_starts, tell_faults};
 use crate::jobs::waits;
+use crate::lives::live;
 use crate::migrates::migrated;
 use crate::replays::replayed;
 use crate::telling::{tell_run, tell_trace};
 use crate::workers::with_workers;
-use mj_ask::EVENTS_LIMIT;
-use mj_begin::{Beginning, Outlet, begin, loaded, refused};
+use mj_ask::{EVENTS_LIMIT, Start};
+use mj_begin::{Beginning, Outlet, begin, loaded, refused, refused_files, refused_record};
 use mj_command_line::{Migrate, NoOrder, Order, Replay, Run, read_words};
 use mj_core::Core;
 use mj_dev::Device;
@@ -49,10 +52,11 @@ use std::thread::Threads;
 /// Does what the words ask for, of which the first is the program's name, and gives the exit status: 0; 1 where a job faulted, a trace isn't that of a run, or
 /// a run by chance shows what is looked for; 2 where a routine, a listing, a trace, a file of steps or a step is refused; 3 where the words are wrong; 4 where
 /// memory or a file fails, where all jobs wait, or where they went on for too long; the greatest where several apply. What the jobs write goes to `out`; a
-/// refusal goes to `err`, on one line, but the text on wrong words, which is clap's. Behind the refusal of a routine the words may ask for hints, and to check
-/// routines is to ask for them. Where the words ask for it, `input` is read whole before the run, and its lines are those of the first job's principal session.
-/// The globals that are left, the trace of the run and steps that are kept are written after the output. Of a debugger the input has the commands, each of
-/// which is answered on `out` before the next is read.
+/// refusal goes to `err`, on one line, but the text on wrong words, which is clap's. Behind that, and behind a run of which a job faulted, the words may ask
+/// for hints, and to check routines is to ask for them. Where the words ask for it, `input` is read whole before the run, and its lines are those of the first
+/// job's principal session; of a live run they are read one by one, as that session asks for them, and what it takes goes to `out` as it is taken. The globals
+/// that are left, the trace of the run and steps that are kept are written after the output. Of a debugger the input has the commands, each of which is
+/// answered on `out` before the next is read.
 pub fn run<R, S, I, O, E>(rt: &R, words: &[S], input: &mut I, out: &mut O, err: &mut E) -> u8
 where
     R: Files + AllocGlobal + Clock + Threads + Wait + Sync,
@@ -66,24 +70,25 @@ where
 {
     match read_words(rt.alloc(), words) {
         Ok(Order::Run { run, workers }) => run_order(rt, &run, Some(workers), input, out, err),
+        Ok(Order::Live(order)) => live(rt, &order, input, out, err),
         Ok(Order::Step(order)) => run_order(rt, &order, None, input, out, err),
         Ok(Order::Explore(order)) => explore(rt, &order, input, out, err),
         Ok(Order::Debug(order)) => debug(rt, &order, input, out, err),
         Ok(Order::Check { files }) => match check(rt, &files, out, err) {
             Ok(status) => status,
-            Err(stop) => refused(rt, &files, true, &stop, err),
+            Err(stop) => refused_files(rt, &files, &stop, err),
         },
         Ok(Order::Replay(order)) => match replay(rt, &order, out) {
             Ok(status) => status,
-            Err(stop) => stopped(&stop, err),
+            Err(stop) => refused_record(rt, &order, None, &stop, err),
         },
         Ok(Order::Migrate(order)) => match migrate(rt, &order, out) {
             Ok(status) => status,
-            Err(stop) => stopped(&stop, err),
+            Err(stop) => refused_record(rt, &order.record, Some(order.out), &stop, err),
         },
         Ok(Order::Explain(order)) => match explain(rt, &order, out) {
             Ok(status) => status,
-            Err(stop) => stopped(&stop, err),
+            Err(stop) => refused_record(rt, &order.record, order.html, &stop, err),
         },
         Err(refusal) => match tell(&refusal, out, err) {
             Ok(status) => status,
@@ -112,7 +117,7 @@ where
 {
     match begin(rt, order, input) {
         Ok((beginning, outlet)) => run_from(rt, order, workers, beginning, outlet, out, err),
-        Err(stop) => refused(&rt, &order.files, order.hints, &stop, err),
+        Err(stop) => refused(&rt, order, &stop, err),
     }
 }
 
@@ -187,9 +192,10 @@ where
         None => None,
         Some(steps) => Some(steps.as_slice()),
     };
+    let kept = kept_starts(rt.alloc(), &starts, order.hints);
     let status = match run_jobs::<D, G>(rt.alloc(), image, globals, pool, starts, list) {
         Ok((mut core, ending)) => {
-            let status = finish(rt, &mut core, ending, order, outlet, out, err);
+            let status = finish(rt, &mut core, ending, order, outlet, &kept, out, err);
             forget(core);
             status
         }
@@ -202,13 +208,15 @@ where
     status
 }
 
-// Tells of the run of a core, then what each job waits for, if that was asked for, and gives the exit status.
+// Tells of the run of a core, then what each job waits for, if that was asked for, then where jobs faulted, if the starts were kept for that, and gives
+// the exit status.
 fn finish<R, O, E, D, G>(
     rt: &R,
     core: &mut Core<D, Sessions<D>, G>,
     ending: Ending,
     order: &Run<'_>,
     outlet: &Outlet<'_, R::File>,
+    kept: &Option<Vec<Start>>,
     out: &mut O,
     err: &mut E,
 ) -> u8
@@ -228,8 +236,9 @@ where
     // To ask what each job waits for is to step it once more, so it comes last. Behind the steps of a file it isn't known yet whether all wait.
     let may_wait = ending == Ending::Stuck || order.steps.is_some() && ending == Ending::Over;
     if may_wait && order.why {
-        tell_waits(rt, core, err);
+        tell_waits(rt, core, order.hints, err);
     }
+    tell_more(rt, core, ending, order, kept, err);
     status
 }
 
@@ -263,8 +272,8 @@ where
     }
 }
 
-// Writes the trace of a core, if there is to be one, and gives the exit status of that. Only then its places take memory.
-fn trace_core<R, E, D, G>(
+/// Writes the trace of a core, if there is to be one, and gives the exit status of that. Only then its places take memory.
+pub(crate) fn trace_core<R, E, D, G>(
     rt: &R,
     core: &Core<D, Sessions<D>, G>,
     outlet: &Outlet<'_, R::File>,
@@ -291,15 +300,38 @@ where
     tell_trace::<R, E, Core<D, Sessions<D>, G>, G>(rt, outlet, image, core, &places, err)
 }
 
-// Says what each job waits for.
-fn tell_waits<R, E, D, G>(rt: &R, core: &mut Core<D, Sessions<D>, G>, err: &mut E)
+/// Tells more of the run of a core, where hints are wanted: what helps at such an end; where jobs faulted, if the starts were kept for that; and what the
+/// system says of devices that failed.
+pub(crate) fn tell_more<R, E, D, G>(
+    rt: &R,
+    core: &Core<D, Sessions<D>, G>,
+    ending: Ending,
+    order: &Run<'_>,
+    kept: &Option<Vec<Start>>,
+    err: &mut E,
+)
 where
     R: Files + AllocGlobal,
     E: Write,
     D: Device,
     G: Opening,
 {
-    if let Some(lines) = waits(rt.alloc(), core) {
+    if order.hints {
+        tell_end(rt, core, ending, order, err);
+    }
+    tell_faults(rt, order, core.image(), kept, core, err);
+    tell_devices(rt, core, order, err);
+}
+
+// Says what each job waits for, and where that was taken, if that is to be told.
+fn tell_waits<R, E, D, G>(rt: &R, core: &mut Core<D, Sessions<D>, G>, since: bool, err: &mut E)
+where
+    R: Files + AllocGlobal,
+    E: Write,
+    D: Device,
+    G: Opening,
+{
+    if let Some(lines) = waits(rt.alloc(), core, since) {
         // Where this can't be written, the status alone tells.
         let _ = err.write_all(&lines);
     }

@@ -17,9 +17,7 @@ use mj_sys::Opening;
 use std::io::Write;
 use std::rt::Files;
 
-/// Writes what so many jobs wrote, then why they were stopped, if they were, then the globals that they left, and gives the exit status, the greatest where
-/// several apply, and whether the trace is to be written behind that. Where memory was refused to the jobs the files stay as they are. Where the globals can't
-/// be written the trace still is. Where memory is refused here there is no status.
+/// Writes what so many jobs wrote, then tells the rest of their run.
 pub fn tell_run<R, O, E, H>(
     rt: &R,
     order: &Run<'_>,
@@ -44,6 +42,28 @@ where
         Err(ProgramError::Memory) => return None,
         Err(stop) => stopped(&stop, err),
     };
+    tell_rest(rt, order, outlet, shown, globals, stop, err)
+}
+
+/// Tells, behind what jobs wrote, why they were stopped, if they were, and writes the globals that they left. Gives the exit status, the greatest where several
+/// apply, that of their output among them, and whether the trace is to be written behind that. Where memory was refused to the jobs the files stay as they are.
+/// Where the globals can't be written the trace still is. Where memory is refused here there is no status.
+pub fn tell_rest<R, E>(
+    rt: &R,
+    order: &Run<'_>,
+    outlet: &Outlet<'_, R::File>,
+    shown: u8,
+    globals: &Globals,
+    stop: Option<ProgramError<'_>>,
+    err: &mut E,
+) -> Option<(u8, bool)>
+where
+    R: Files + AllocGlobal,
+    R::File: Lockable,
+    E: Write,
+    requires { shown ≤ 4 }
+    ensures { IfSome result (λ told. told.0 ≤ 4) }
+{
     let is_for_memory = matches!(&stop, Some(ProgramError::Memory));
     let ended = tell_stop(stop, err);
     if is_for_memory {

@@ -2,7 +2,7 @@
 
 ghost use Rattle.std.specs.Prelude.{◌≡◌, ◌++◌, OnOk, decimal};
 ghost use Rattle.std.specs.Option.{option_map};
-ghost use Rattle.mj_main.specs.Printed.{wait_line, held_by, idle_line, place_text};
+ghost use Rattle.mj_main.specs.Printed.{at_line, wait_line, held_by, idle_line, last_line, place_text, taken_line};
 
 use itoa::Buffer;
 use mj_text::{Digits, Text};
@@ -33,6 +33,44 @@ pub fn put_idle(bytes: &mut Vec<u8>, job: u32) -> Result<(), AllocError>
     bytes.extend_from_slice(b" waits for input\n")
 }
 
+/// Puts a line to the end of some bytes: where a job took what it has. Where memory is refused a part of it may stand there.
+pub fn put_taken(
+    bytes: &mut Vec<u8>,
+    job: u32,
+    what: &[u8],
+    place: Option<(&Text, u32)>,
+) -> Result<(), AllocError>
+    ensures { OnOk result (bytes.new.items ≡ bytes.old.items ++ taken_line job what.now (option_map (λ p. (p.0.now, p.1)) place.entry)) }
+{
+    put_numbered(bytes, b"    job ", job)?;
+    bytes.extend_from_slice(b" took ")?;
+    bytes.extend_from_slice(what)?;
+    put_at(bytes, b" at ", place)
+}
+
+/// Puts a line to the end of some bytes: where a job asked last. Where memory is refused a part of it may stand there.
+pub fn put_last(
+    bytes: &mut Vec<u8>,
+    job: u32,
+    place: Option<(&Text, u32)>,
+) -> Result<(), AllocError>
+    ensures { OnOk result (bytes.new.items ≡ bytes.old.items ++ last_line job (option_map (λ p. (p.0.now, p.1)) place.entry)) }
+{
+    put_numbered(bytes, b"    job ", job)?;
+    put_at(bytes, b" asked last at ", place)?;
+    Ok(())
+}
+
+// Writes some words, a place, and the end of the line.
+fn put_at(bytes: &mut Vec<u8>, words: &[u8], place: Option<(&Text, u32)>) -> Result<(), AllocError>
+    ensures { OnOk result (bytes.new.items ≡ bytes.old.items ++ at_line words.now (option_map (λ p. (p.0.now, p.1)) place.entry)) }
+{
+    bytes.extend_from_slice(words)?;
+    put_place(bytes, place)?;
+    bytes.push(b'\n')?;
+    Ok(())
+}
+
 // Writes the rest of a line: who has it.
 fn put_holder(
     bytes: &mut Vec<u8>,
@@ -48,8 +86,8 @@ fn put_holder(
     Ok(())
 }
 
-// Writes some words and a number.
-fn put_numbered(bytes: &mut Vec<u8>, words: &[u8], number: u32) -> Result<(), AllocError>
+/// Puts some words and a number to the end of some bytes.
+pub fn put_numbered(bytes: &mut Vec<u8>, words: &[u8], number: u32) -> Result<(), AllocError>
     ensures { OnOk result (bytes.new.items ≡ bytes.old.items ++ (words.now ++ decimal number)) }
 {
     bytes.extend_from_slice(words)?;

@@ -16,7 +16,10 @@ ghost use Rattle.mj_report.specs.Traced.{IsHead};
 ghost use Rattle.mj_begin.specs.Words.{WereGiven};
 ghost use Rattle.mj_main.specs.Statuses.{cut_stop, ungathered_stop};
 
+use crate::ends::{tell_cut, tell_devices};
+use crate::faults::{kept_starts, tell_faults};
 use crate::telling::{tell_run, tell_trace};
+use mj_ask::Start;
 use mj_begin::{Beginning, Outlet, save};
 use mj_command_line::Run;
 use mj_dev::Device;
@@ -68,9 +71,10 @@ where
     } = beginning;
     drop(steps);
     let n = workers.max(1).min(WORKERS_LIMIT);
+    let kept = kept_starts(rt.alloc(), &starts, order.hints);
     let status = match run_together::<D, G, R>(rt, rt.alloc(), n, &image, globals, pool, starts) {
         Ok(ended) => {
-            let status = tell_ended(rt, order, outlet, &image, &ended, out, err);
+            let status = tell_ended(rt, order, outlet, &image, &ended, &kept, out, err);
             forget(ended);
             match status {
                 Some(status) => status,
@@ -91,6 +95,7 @@ fn tell_ended<R, O, E, D, G>(
     outlet: &Outlet<'_, R::File>,
     image: &Image,
     ended: &Ended<'_, D, G>,
+    kept: &Option<Vec<Start>>,
     out: &mut O,
     err: &mut E,
 ) -> Option<u8>
@@ -108,7 +113,8 @@ where
     let globals = ended.system.globals();
     match gather(rt.alloc(), &ended.system, &ended.rans) {
         Ok(run) => {
-            let stop = cut_stop(cut_of(&ended.rans, ended.short));
+            let cut = cut_of(&ended.rans, ended.short);
+            let stop = cut_stop(cut);
             let jobs = ended.system.rows() as u32;
             let told = tell_run(rt, order, outlet, &run, jobs, globals, stop, out, err);
             let status = match told {
@@ -123,6 +129,11 @@ where
                 Some((status, false)) => Some(status),
                 None => None,
             };
+            if order.hints {
+                tell_cut(rt, &run, cut, run.places(), order, err);
+            }
+            tell_faults(rt, order, image, kept, &run, err);
+            tell_devices(rt, &run, order, err);
             forget(run);
             status
         }

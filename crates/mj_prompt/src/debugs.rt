@@ -8,7 +8,6 @@ ghost use Rattle.mj_begin.specs.Words.{WereGiven};
 use crate::prompts::{Prompt, prompt_of};
 use mj_begin::{Beginning, Outlet, begin, refused, save, write_record};
 use mj_command_line::{Debug, Run};
-use mj_core::Core;
 use mj_debug::Debugger;
 use mj_dev::Device;
 use mj_dialogue::{Command, Unanswered, answer};
@@ -35,7 +34,7 @@ where
 {
     match begin(rt, &order.run, input) {
         Ok((beginning, outlet)) => debug_from(rt, order, beginning, outlet, input, out, err),
-        Err(stop) => refused(&rt, &order.run.files, order.run.hints, &stop, err),
+        Err(stop) => refused(&rt, &order.run, &stop, err),
     }
 }
 
@@ -264,38 +263,6 @@ where
         Err(ProgramError::Memory) => return stopped(&ProgramError::Memory, err),
         done => tell_trouble(done, err),
     };
-    let traced = trace_core(rt, core, outlet, err);
+    let traced = tell_trouble(write_record(rt, &outlet.trace, core), err);
     told.max(faulted).max(saved).max(traced)
-}
-
-// Writes the trace of a core, if there is to be one, and gives the exit status of that. Only then its places take memory.
-fn trace_core<R, E, D, G>(
-    rt: &R,
-    core: &Core<D, Sessions<D>, G>,
-    outlet: &Outlet<'_, R::File>,
-    err: &mut E,
-) -> u8
-where
-    R: Files + AllocGlobal,
-    R::File: Lockable,
-    E: Write,
-    D: Device,
-    G: Opening,
-    ensures { result ≤ 4 }
-{
-    if outlet.trace.is_none() {
-        return 0;
-    }
-    let Ok(places) = core.all_places() else {
-        return stopped(&ProgramError::Memory, err);
-    };
-    let trace = &outlet.trace;
-    let written = write_record::<R, G, Core<D, Sessions<D>, G>>(
-        rt,
-        trace,
-        core.image(),
-        core,
-        &places,
-    );
-    tell_trouble(written, err)
 }

@@ -7,6 +7,7 @@ pub mod Rounds
 pub mod Telling
 pub mod Standing
 pub mod Spotting
+pub mod Seeking
 pub mod Viewing
 pub mod Whole
 pub mod Pools

@@ -25,9 +25,9 @@ use Rattle.mj_core.specs.Runs.{IsRun, start_in}
 use Rattle.mj_replica.specs.Replays.{event_of, history_of, IsUnmade}
 use Rattle.mj_replica.specs.Shows.{Stood, HasStood}
 use Rattle.mj_replica.specs.Playing.{Playing, AreStaged}
-use Rattle.mj_replica.specs.Placed.{spot_place, spot_for, CameFrom, AllCameFrom, IsElsewhere, IsFirstApart, AreLocated, place_in}
+use Rattle.mj_replica.specs.Placed.{spot_place, spot_for, CameFrom, AllCameFrom, IsElsewhere, IsFirstApart, place_in}
 use Rattle.mj_replica.proofs.Staging.{row_of, is_run}
-use Rattle.mj_replica.proofs.Rounds.{take_on, take_past}
+use Rattle.mj_replica.proofs.Rounds.{take_on}
 
 -- a place is read as it is written
 pub same_spot : (place : Option Place) → spot_place (spot_for place) ≡ place
@@ -116,7 +116,7 @@ module _ (program : Program) (opening : Shared) where
       → CameFrom program opening (history_of events) (event_of e) (spot_place e.spot) → AllCameFrom program opening [] (events ++ e ∷ [])
   one_from events e all is = more_from [] events e all is
 
-history_take : (events : List Noted) (n : ℕ) → history_of (take n events) ≡ take n (history_of events)
+pub history_take : (events : List Noted) (n : ℕ) → history_of (take n events) ≡ take n (history_of events)
 history_take events zero = refl
 history_take [] (suc n) = refl
 history_take (e ∷ events) (suc n) = ap (λ (h : History). event_of e ∷ h) (history_take events n)
@@ -180,15 +180,3 @@ take_whole [] zero le = refl
 take_whole [] (suc n) le = refl
 take_whole (e ∷ events) zero le = absurd (omega (arith, le))
 take_whole (e ∷ events) (suc n) le = ap (λ l. e ∷ l) (take_whole events n (omega (arith, le)))
-
--- all were found
-pub all_located : (image : Loaded) (opening : Shared) (events new : List Noted) (at : ℕ) (system : Recorded) (jobs : List Playing) → length events ≤ at
-    → AreStaged image opening (take at (history_of events)) system jobs → history_of new ≡ take at (history_of events)
-    → AllCameFrom (program_of image) opening [] new → AreLocated (program_of image) opening events new
-all_located image opening events new at system jobs past staged so all =
-    let P : History → Type 0 = λ h. IsRun (program_of image) opening h in
-    record {
-      run = subst P (sym so) (is_run image opening (take at (history_of events)) system jobs staged);
-      same = so ∙ take_past event_of at events past;
-      from = all;
-    }

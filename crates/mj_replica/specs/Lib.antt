@@ -6,3 +6,4 @@ pub mod Replicas
 pub mod InTurn
 pub mod Views
 pub mod Laws
+pub mod Walks

@@ -17,6 +17,7 @@ mod placing;
 mod playing;
 mod replaying;
 mod replica;
+mod walking;
 
 pub use laws::fronts_are_runs;
 pub use placing::{Located, locate, replay_placed, spot_for};

@@ -10,15 +10,17 @@ ghost use Rattle.mj_sys.specs.Opening.{opening_of, are_bare};
 ghost use Rattle.mj_sys.specs.Shared.{are_global};
 ghost use Rattle.mj_sys.specs.System.{history_limit};
 ghost use Rattle.mj_replica.specs.Placed.{spot_place, spot_for, place_in, SaysPlaced, Locates};
+ghost use Rattle.mj_replica.specs.Walks.{Looks};
 
 use crate::playing::Played;
-use crate::replaying::{Verdict, make_event};
+use crate::replaying::Verdict;
+use crate::walking::{Sought, walk};
 use mj_ask::{Noted, Spot, Start};
 use mj_dev::{Device, Pool};
 use mj_globs::Globals;
 use mj_jobvm::Job;
 use mj_load::Image;
-use mj_sys::{Opening, System};
+use mj_sys::Opening;
 use mj_text::Text;
 use std::alloc::{AllocError, Global};
 
@@ -49,32 +51,17 @@ pub fn replay_placed<D: Device, O: Opening>(
     requires short { length events.now ≤ history_limit }
     ensures { IfOk result (λ verdict. SaysPlaced (program_of image.now) O.opening events.now verdict) }
 {
-    let mut system = match System::<D, O>::new(alloc, globals, pool, starts) {
-        Ok(system) => system,
-        Err(back) => {
-            drop(back);
-            return Err(AllocError);
-        }
-    };
-    let mut jobs = Vec::new(alloc);
-    for at in 0..events.len() {
-        let event = &events[at];
-        if !make_event(
-            alloc,
-            image,
-            &mut system,
-            &mut jobs,
-            event.job,
-            &event.ask,
-            &event.reply,
-        )? {
-            return Ok(Verdict::Differs(at));
-        }
-        if !came_from(&jobs, event.job, event.spot.as_ref()) {
-            return Ok(Verdict::Differs(at));
-        }
-    }
-    Ok(Verdict::Same)
+    let mut none = Vec::new(alloc);
+    walk::<D, O>(
+        alloc,
+        image,
+        globals,
+        pool,
+        starts,
+        events,
+        Sought::Recorded,
+        &mut none,
+    )
 }
 
 /// Replays recorded events as `replay` does, and where they are a run, gives them again, each with the place where its ask came from. What is recorded of
@@ -96,33 +83,43 @@ pub fn locate<D: Device, O: Opening>(
     requires short { length events.now ≤ history_limit }
     ensures { IfOk result (λ located. Locates (program_of image.now) O.opening events.now located) }
 {
-    let mut system = match System::<D, O>::new(alloc, globals, pool, starts) {
-        Ok(system) => system,
-        Err(back) => {
-            drop(back);
-            return Err(AllocError);
-        }
-    };
-    let mut jobs = Vec::new(alloc);
-    let mut placed = Vec::new(alloc);
-    for at in 0..events.len() {
-        let event = &events[at];
-        if !make_event(
-            alloc,
-            image,
-            &mut system,
-            &mut jobs,
-            event.job,
-            &event.ask,
-            &event.reply,
-        )? {
-            return Ok(Located::Differs(at));
-        }
-        let spot = spot_of(&jobs, event.job)?;
-        let again = noted_at(event, spot)?;
-        placed.push(again)?;
+    let mut found = Vec::new(alloc);
+    let verdict = walk::<D, O>(
+        alloc,
+        image,
+        globals,
+        pool,
+        starts,
+        events,
+        Sought::All,
+        &mut found,
+    )?;
+    match verdict {
+        Verdict::Same => Ok(Located::To(found)),
+        Verdict::Differs(at) => Ok(Located::Differs(at)),
     }
-    Ok(Located::To(placed))
+}
+
+// Looks where an event that was just made came from, as far as that is sought, and says whether it agrees with what is recorded. Where all places are
+// sought, the event is added to what was found, with its own.
+pub fn look(
+    what: Sought,
+    jobs: &[Played],
+    event: &Noted,
+    found: &mut Vec<Noted>,
+) -> Result<bool, AllocError>
+    ensures { IfOk result (λ agrees. Looks what jobs.now event.now found.old.items agrees found.new.items) }
+{
+    match what {
+        Sought::Nothing => Ok(true),
+        Sought::Recorded => Ok(came_from(jobs, event.job, event.spot.as_ref())),
+        Sought::All => {
+            let spot = spot_of(jobs, event.job)?;
+            let noted = noted_at(event, spot)?;
+            found.push(noted)?;
+            Ok(true)
+        }
+    }
 }
 
 // Whether a job that was started stands where this says.

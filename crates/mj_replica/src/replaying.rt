@@ -14,6 +14,7 @@ ghost use Rattle.mj_replica.specs.Replays.{event_of, history_of, Says};
 ghost use Rattle.mj_replica.specs.Playing.{AreStaged, Stages};
 
 use crate::playing::{Played, play};
+use crate::walking::{Sought, walk};
 use mj_ask::{Ask, Noted, Reply, Start};
 use mj_dev::{Device, Pool};
 use mj_expect::Heeds;
@@ -52,29 +53,17 @@ pub fn replay<D: Device, O: Opening>(
     requires short { length events.now ≤ history_limit }
     ensures { IfOk result (λ verdict. Says (program_of image.now) O.opening (history_of events.now) verdict) }
 {
-    let mut system = match System::<D, O>::new(alloc, globals, pool, starts) {
-        Ok(system) => system,
-        Err(back) => {
-            drop(back);
-            return Err(AllocError);
-        }
-    };
-    let mut jobs = Vec::new(alloc);
-    for at in 0..events.len() {
-        let event = &events[at];
-        if !make_event(
-            alloc,
-            image,
-            &mut system,
-            &mut jobs,
-            event.job,
-            &event.ask,
-            &event.reply,
-        )? {
-            return Ok(Verdict::Differs(at));
-        }
-    }
-    Ok(Verdict::Same)
+    let mut none = Vec::new(alloc);
+    walk::<D, O>(
+        alloc,
+        image,
+        globals,
+        pool,
+        starts,
+        events,
+        Sought::Nothing,
+        &mut none,
+    )
 }
 
 // Makes an event again, if it is the next.

@@ -182,16 +182,11 @@ module _ (s : Shared) (job : ℕ) where
   -- an ask that changes nothing of who holds what
   same_locks : (a : SharedAsk) → changes_locks (asks.Shared a) ≡ false → Leaves (answered s job a true)
   same_locks (shared_asks.Access a) isnt = refl
-  same_locks (shared_asks.Try names timeout) isnt = absurd (true_not isnt)
-  same_locks (shared_asks.Unlock names) isnt = absurd (true_not isnt)
-  same_locks shared_asks.UnlockAll isnt = absurd (true_not isnt)
   same_locks (shared_asks.Begin kind) isnt = refl
-  same_locks shared_asks.Commit isnt = absurd (true_not isnt)
-  same_locks shared_asks.Rollback isnt = absurd (true_not isnt)
   same_locks (shared_asks.Open name timeout) isnt = named_leaves name timeout
   same_locks (shared_asks.Close name) isnt = refl
   same_locks (shared_asks.Start start timeout) isnt = start_leaves start
-  same_locks (shared_asks.Halt fault) isnt = absurd (true_not isnt)
+  same_locks _ isnt = absurd (true_not isnt)
 
   -- a try of names: by what is in their way, and by whether a limit is passed
   module _ (names : List Name) (timeout : Option ℤ) (reply : Reply) (t : Shared) where

@@ -16,14 +16,14 @@ Note = ℕ × Name × ℕ
 abbrev pub Gone : Type 0
 Gone = ℕ × Name × ℕ × ℕ
 
--- whether an ask may change who holds what
+-- whether an ask may change who holds what: any that all jobs share, but those of which it is known that they don't
 abbrev pub changes_locks : Ask → Bool
-changes_locks (asks.Shared (shared_asks.Try names timeout)) = true
-changes_locks (asks.Shared (shared_asks.Unlock names)) = true
-changes_locks (asks.Shared shared_asks.UnlockAll) = true
-changes_locks (asks.Shared shared_asks.Commit) = true
-changes_locks (asks.Shared shared_asks.Rollback) = true
-changes_locks (asks.Shared (shared_asks.Halt fault)) = true
+changes_locks (asks.Shared (shared_asks.Access access)) = false
+changes_locks (asks.Shared (shared_asks.Begin kind)) = false
+changes_locks (asks.Shared (shared_asks.Open name timeout)) = false
+changes_locks (asks.Shared (shared_asks.Close name)) = false
+changes_locks (asks.Shared (shared_asks.Start start timeout)) = false
+changes_locks (asks.Shared _) = true
 changes_locks _ = false
 
 -- whether what is noted is held still

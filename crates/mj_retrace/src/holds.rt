@@ -52,12 +52,12 @@ fn changes_locks(ask: &Ask) -> bool
     ensures { result ≡ changes_locks ask.now }
 {
     match ask {
-        Ask::Shared(SharedAsk::Try(_, _))
-        | Ask::Shared(SharedAsk::Unlock(_))
-        | Ask::Shared(SharedAsk::UnlockAll)
-        | Ask::Shared(SharedAsk::Commit)
-        | Ask::Shared(SharedAsk::Rollback)
-        | Ask::Shared(SharedAsk::Halt(_)) => true,
+        Ask::Shared(SharedAsk::Access(_))
+        | Ask::Shared(SharedAsk::Begin(_))
+        | Ask::Shared(SharedAsk::Open(_, _))
+        | Ask::Shared(SharedAsk::Close(_))
+        | Ask::Shared(SharedAsk::Start(_, _)) => false,
+        Ask::Shared(_) => true,
         _ => false,
     }
 }

@@ -1,6 +1,6 @@
 // Limits of what jobs share, as the program tells of them.
 
-use mj_test_runs::{Runner, comes_to, folder, gives, judge_file, remove, write};
+use mj_test_runs::{Runner, comes_to, folder, gives, judge_file, remove, repeated, write};
 use std::alloc::{AllocError, Global};
 use std::test::Fail;
 
@@ -156,22 +156,6 @@ fn full(rt: &impl Runner, folder: &str, words: &str, out: &str) -> Result<(), Fa
     let told = comes_to(rt, folder, words.as_str(), b"", out, "full\n", 4);
     drop(words);
     told
-}
-
-/// A text of a head, of a line so many times, and of a tail.
-pub fn repeated(
-    alloc: Global,
-    head: &str,
-    times: u32,
-    line: &str,
-    tail: &str,
-) -> Result<String, AllocError> {
-    let mut text = String::from_str(alloc, head)?;
-    for _ in 0..times {
-        text.push_str(line)?;
-    }
-    text.push_str(tail)?;
-    Ok(text)
 }
 
 // There are at most 255 jobs, and those that have ended count. To start one more is a fault of the job that does.

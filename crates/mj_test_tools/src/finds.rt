@@ -89,6 +89,26 @@ fn jobs_get_stuck(rt: &impl Runner, folder: &str) -> Result<(), Fail> {
     remove(rt, folder)
 }
 
+// Steps may end before a job asked for what it waits for: it stands where it asks for it all the same.
+#[test]
+fn jobs_stand_where_they_wait(rt: HostRuntime) -> Result<(), Fail> {
+    let folder = folder(&rt, "stand")?;
+    let told = both_stand_there(&rt, folder.as_str());
+    drop(folder);
+    told
+}
+
+fn both_stand_there(rt: &impl Runner, folder: &str) -> Result<(), Fail> {
+    let routine = b"A LOCK +^X\n LOCK +^Y\n QUIT\nB LOCK +^Y\n LOCK +^X\n QUIT\n";
+    write(rt, folder, "R.m", routine)?;
+    write(rt, folder, "steps", b"1\n1\n2\n2\n")?;
+    let words = "step|--why|--steps|DIR/steps|--start|A^R|--start|B^R|DIR/R.m";
+    let why =
+        "job 1 waits for ^Y, held by job 2 at R:5\njob 2 waits for ^X, held by job 1 at R:2\n";
+    comes_to(rt, folder, words, b"", "--- job 1\n--- job 2\n", why, 0)?;
+    remove(rt, folder)
+}
+
 const DOCTORS: &str = "mj-globals 1\n^ON(1)=\"1\"\n^ON(2)=\"1\"\n";
 
 const SKEWED: &str =

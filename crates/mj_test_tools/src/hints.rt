@@ -1,6 +1,6 @@
 // What `check` shows of lines that are refused: a row for each phrase that helps, then what else is told of a file.
 
-use mj_test_runs::{Runner, Wanted, comes_to, folder, judge, remove, write};
+use mj_test_runs::{Runner, Wanted, comes_to, folder, hold, judge, remove, run_text, write};
 use std::test::Fail;
 
 #[test]
@@ -54,6 +54,34 @@ fn signs_of_other_languages_are_hinted(rt: HostRuntime) -> Result<(), Fail> {
 }
 
 #[test]
+fn arguments_are_hinted(rt: HostRuntime) -> Result<(), Fail> {
+    let rows =
+        " QUIT *X => L2 R:1:7 =>       ^ *: there are no aliases: `MERGE X=Y` copies; a `*` that multiplies has no blank before it
+ SET *X=Y => L2 R:1:6 =>      ^ *: there are no aliases: `MERGE X=Y` copies; a `*` that multiplies has no blank before it
+ KILL *X => L2 R:1:7 =>       ^ *: there are no aliases: `MERGE X=Y` copies; a `*` that multiplies has no blank before it
+ DO F(*X) => L2 R:1:7 =>       ^ *: there are no aliases: `MERGE X=Y` copies; a `*` that multiplies has no blank before it
+ SET (X,Y)=1,*Z=X => L2 R:1:14 =>              ^ *: there are no aliases: `MERGE X=Y` copies; a `*` that multiplies has no blank before it
+ WRITE 2 *X => L2 R:1:10 =>          ^ *: no blank stands inside arguments, or beside a comma of theirs: `SET X=1,Y=2`
+ TROLLBACK 1 => L2 R:1:12 =>            ^ 1: `TROLLBACK` has no argument, and rolls all levels back
+ TROLLBACK:X -1 => L2 R:1:14 =>              ^ -: `TROLLBACK` has no argument, and rolls all levels back
+ SET $X=5 => L2 R:1:6 =>      ^ $X: `$X` and `$Y` can't be set: `WRITE ?5` moves to column 5
+ SET $y=5 => L2 R:1:6 =>      ^ $y: `$X` and `$Y` can't be set: `WRITE ?5` moves to column 5
+ SET X:=1 => L2 R:1:7 =>       ^ :: a value is given by `SET`: `SET X=1`
+ SET X=1 D=2 => L2 R:1:11 =>           ^ =: a value is given by `SET`: `SET X=1`
+ X=1 => L7 R:1:2 command =>  ^ X: a value is given by `SET`: `SET X=1`
+ SET Y=1 XYZ=Y => L7 R:1:10 command =>          ^ XYZ: a value is given by `SET`: `SET X=1`
+ SET D==1 => L2 R:1:8 =>        ^ =: \"equal\" is written `X=Y`
+ $$F(1) => L2 R:1:2 =>  ^ $$F: a function stands in an argument: `SET X=$$F(1)`; `DO F(1)` runs lines that give no value
+A $$F(1) => L2 R:1:3 =>   ^ $$F
+ WRITE $PIECE(X) => L2 R:1:16 =>                ^ ): something is missing before it: an argument, or a value
+ WRITE (1+) => L2 R:1:11 =>           ^ ): something is missing before it: an argument, or a value
+ WRITE 1234567890123456789 => L2 R:1:8 =>        ^ 1234567890123456789: a number has at most 18 digits
+ WRITE 1 2 => L2 R:1:10 =>          ^ 2
+";
+    judge(&rt, "hints_arguments", Wanted::Hinted, rows)
+}
+
+#[test]
 fn words_are_hinted(rt: HostRuntime) -> Result<(), Fail> {
     let rows =
         " WRITE $LENGHT(\"a\") => L7 R:1:8 function =>        ^ $LENGHT: did you mean `$LENGTH`?
@@ -63,24 +91,51 @@ fn words_are_hinted(rt: HostRuntime) -> Result<(), Fail> {
  WRITE $FN(1,\",\") => L7 R:1:8 function =>        ^ $FN: `$JUSTIFY`, `$EXTRACT` and `_` can make the text
  WRITE $INCREMENT(X) => L7 R:1:8 function =>        ^ $INCREMENT: it can be written `LOCK +^C SET (^C,N)=$GET(^C)+1 LOCK -^C`
  WRITE $NEXT(X(1)) => L7 R:1:8 function =>        ^ $NEXT: `$ORDER` does it, and ends with the empty text
- WRITE $ZDATE(1) => L7 R:1:8 function =>        ^ $ZDATE: the functions are `$A $C $D $E $F $G $J $L $NA $O $P $QL $QS $Q $RE $S $TR`, or whole: \
+ WRITE $VIEW(1) => L7 R:1:8 function =>        ^ $VIEW: the functions are `$A $C $D $E $F $G $J $L $NA $O $P $QL $QS $Q $RE $S $TR`, or whole: \
 `$LENGTH`
  WRITE $TSET => L7 R:1:8 variable =>        ^ $TSET: did you mean `$TEST`?
  WRITE $HOROLOG => L7 R:1:8 variable =>        ^ $HOROLOG: there is no clock: pass the time in, by `--stdin` or `--globals`
- WRITE $ZGBLDIR => L7 R:1:8 variable =>        ^ $ZGBLDIR: Z variables are left out: what is to be known can come by `--stdin` or `--globals`
+ WRITE $ZGBLDIR => L7 R:1:8 variable =>        ^ $ZGBLDIR: Z variables are left out: leave it out, or pass in what is to be known, by `--stdin` \
+or `--globals`
  SET $ETRAP=\"x\" => L7 R:1:6 variable =>      ^ $ETRAP: nothing traps a fault: test first, by `$DATA`, `$GET` or `IF`
  USE $PRINCIPAL => L7 R:1:6 variable =>      ^ $PRINCIPAL: the principal device is \"0\"
  WRITE $KEY => L7 R:1:8 variable =>        ^ $KEY: the variables are `$IO`, `$JOB`, `$TEST`, `$TLEVEL`, `$TRESTART`, `$X` and `$Y`
  WRIT 1 => L7 R:1:2 command =>  ^ WRIT: did you mean `WRITE`?
- XECUTE \"X\" => L7 R:1:2 command =>  ^ XECUTE: no text is run: `DO` runs the lines behind a label
+ XECUTE \"X\" => L7 R:1:2 command =>  ^ XECUTE: no text is run: write it as lines behind a label, and `DO` runs them
  ZWRITE => L7 R:1:2 command =>  ^ ZWRITE: `--save FILE` lists the globals, and `g` and `v 1` of `mj debug` list globals and locals
- VIEW 1 => L7 R:1:2 command =>  ^ VIEW: Z commands and `VIEW` are left out
+ VIEW 1 => L7 R:1:2 command =>  ^ VIEW: Z commands and `VIEW` are left out, and nothing stands for them
  IF X THEN WRITE 1 => L7 R:1:7 command =>       ^ THEN: there is no `THEN`: the commands follow behind a blank, `IF X=1 SET Y=2`
  RETURN 1 => L7 R:1:2 command =>  ^ RETURN: `QUIT` returns
  LET X=1 => L7 R:1:2 command =>  ^ LET: did you mean `SET`?
- PRINT 1 => L7 R:1:2 command =>  ^ PRINT: a command's word is whole, or as short as it can be: `WRITE`, `W`
+ PRINT 1 => L7 R:1:2 command =>  ^ PRINT: did you mean `WRITE`?
+ CALL A => L7 R:1:2 command =>  ^ CALL: a command's word is whole, or as short as it can be: `WRITE`, `W`
 ";
     judge(&rt, "hints_words", Wanted::Hinted, rows)
+}
+
+#[test]
+fn words_with_z_are_hinted(rt: HostRuntime) -> Result<(), Fail> {
+    let rows =
+        " WRITE $ZPREVIOUS(X) => L7 R:1:8 function =>        ^ $ZPREVIOUS: `$ORDER(X(S),-1)` goes back
+ WRITE $zp(X) => L7 R:1:8 function =>        ^ $zp: `$ORDER(X(S),-1)` goes back
+ WRITE $ZDATE(1) => L7 R:1:8 function =>        ^ $ZDATE: a date is worked out from the number of its day by `\\` and `#`, or passed in as a text
+ WRITE $ZD(1) => L7 R:1:8 function =>        ^ $ZD: a date is worked out from the number of its day by `\\` and `#`, or passed in as a text
+ WRITE $ZCONVERT(X,\"U\") => L7 R:1:8 function =>        ^ $ZCONVERT: letters are changed by `$TRANSLATE(X,\"abc\",\"ABC\")`, with all of them in both texts
+ WRITE $ZCO(X,\"U\") => L7 R:1:8 function =>        ^ $ZCO: letters are changed by `$TRANSLATE(X,\"abc\",\"ABC\")`, with all of them in both texts
+ WRITE $ZINCREMENT(X) => L7 R:1:8 function =>        ^ $ZINCREMENT: it can be written `LOCK +^C SET (^C,N)=$GET(^C)+1 LOCK -^C`
+ WRITE $ZEXTRACT(X) => L7 R:1:8 function =>        ^ $ZEXTRACT: did you mean `$EXTRACT`?
+ WRITE $ZTRNLNM(\"X\") => L7 R:1:8 function =>        ^ $ZTRNLNM: the functions are `$A $C $D $E $F $G $J $L $NA $O $P $QL $QS $Q $RE $S $TR`, \
+or whole: `$LENGTH`
+ WRITE $ZEOF => L7 R:1:8 variable =>        ^ $ZEOF: at the end of the input a timed `READ` makes `$TEST` 0: `READ X:0 QUIT:'$TEST`
+ WRITE $ZHOROLOG => L7 R:1:8 variable =>        ^ $ZHOROLOG: there is no clock: pass the time in, by `--stdin` or `--globals`
+ WRITE $ZUT => L7 R:1:8 variable =>        ^ $ZUT: there is no clock: pass the time in, by `--stdin` or `--globals`
+ WRITE $ZSTATUS => L7 R:1:8 variable =>        ^ $ZSTATUS: nothing traps a fault: test first, by `$DATA`, `$GET` or `IF`
+ WRITE $ZVERSION => L7 R:1:8 variable =>        ^ $ZVERSION: Z variables are left out: leave it out, or pass in what is to be known, by `--stdin` or `--globals`
+ ZKILL ^A => L7 R:1:2 command =>  ^ ZKILL: what is below is kept so: `MERGE T=^A KILL ^A`, and `MERGE ^A(S)=T(S)` for each S
+ ZWITHDRAW ^A => L7 R:1:2 command =>  ^ ZWITHDRAW: what is below is kept so: `MERGE T=^A KILL ^A`, and `MERGE ^A(S)=T(S)` for each S
+ ZHALT => L7 R:1:2 command =>  ^ ZHALT: Z commands and `VIEW` are left out, and nothing stands for them
+";
+    judge(&rt, "hints_z", Wanted::Hinted, rows)
 }
 
 #[test]
@@ -88,13 +143,14 @@ fn what_is_left_out_is_hinted(rt: HostRuntime) -> Result<(), Fail> {
     let rows =
         " SET @X=1 => L7 R:1:6 indirection =>      ^ @: a name is written as it is; `V(N)` has values by names, and `DO A:N=\"A\",B:N=\"B\"` chooses
  WRITE 1.5 => L7 R:1:9 fraction =>         ^ .: numbers are whole: count in smaller units, as 150 hundredths for 1.5
- WRITE 1E5 => L7 R:1:9 exponent =>         ^ E5: write the number in full: `100000`
+ WRITE 1E5 => L7 R:1:9 exponent =>         ^ E5: write the number in full: `1E3` is `1000`, and `1E5` is `100000`
  WRITE 2**3 => L7 R:1:10 power =>          ^ *: multiply: `SET P=1 FOR I=1:1:3 SET P=P*X`
- IF X?1N => L7 R:1:6 pattern =>      ^ ?: test it by functions: `IF X'=\"\",$TRANSLATE(X,\"0123456789\")=\"\"` is true of digits
+ IF X?1N => L7 R:1:6 pattern =>      ^ ?: test by functions: `X'=\"\"&($TRANSLATE(X,\"0123456789\")=\"\")` is true of digits; with letters instead, \
+of letters
  WRITE ^(1) => L7 R:1:9 naked =>         ^ (: write the whole name: `^A(1)`
  WRITE ^[\"E\"]X => L7 R:1:9 environment =>         ^ [: a subscript more can have the environment: `^A(\"E\",1)`
  WRITE ^$JOB => L7 R:1:9 structured =>         ^ $JOB: it is left out, and nothing stands for it
- DO A(.X) => L7 R:1:7 by reference =>       ^ .: `DO A` and `$$A` see the locals of their caller, so both can use one
+ DO A(.X) => L7 R:1:7 by reference =>       ^ .: leave it out of the call and the label's formals: `DO A` and `$$A` see their caller's locals by name
  DO A+1 => L7 R:1:6 entry offset =>      ^ +: that line can have a label of its own
  READ X#5 => L7 R:1:8 read length =>        ^ #: `READ *C` reads a byte, and `$CHAR(C)` is its text
  USE \"F\":X => L7 R:1:9 device parameters =>         ^ :: they are left out: `--device NAME=in:FILE` and `=out:FILE` say what a device is
@@ -194,6 +250,27 @@ fn twenty(rt: &impl Runner, folder: &str) -> Result<(), Fail> {
     comes_to(rt, folder, "check|DIR/R.m", b"", "", told.as_str(), 2)?;
     drop(lines);
     drop(told);
+    remove(rt, folder)
+}
+
+#[test]
+fn a_mark_is_hinted(rt: HostRuntime) -> Result<(), Fail> {
+    let folder = folder(&rt, "hints_mark")?;
+    let told = mark(&rt, folder.as_str());
+    drop(folder);
+    told
+}
+
+// The first byte of the mark is shown as it is, which is no text in UTF-8.
+fn mark(rt: &impl Runner, folder: &str) -> Result<(), Fail> {
+    write(rt, folder, "R.m", b"\xEF\xBB\xBF WRITE 1\n")?;
+    let ran = run_text(rt, folder, "check|DIR/R.m", b"")?;
+    let told =
+        b"L2 R:1:1\n    \xEF\xBB\xBF WRITE 1\n    ^ \xEF: a byte order mark stands there, which isn't seen: save the file without it\n";
+    let is = ran.err.as_slice() == told.as_slice() && ran.status == 2;
+    let done = hold(is, "a byte order mark", &ran);
+    drop(ran);
+    done?;
     remove(rt, folder)
 }
 

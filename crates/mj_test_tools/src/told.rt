@@ -256,6 +256,30 @@ fn a_run_without_any_is_told(rt: HostRuntime) -> Result<(), Fail> {
     )
 }
 
+// Nothing compares what a transaction without SERIAL has read, so no clash is told of it.
+#[test]
+fn transactions_without_serial_are_told(rt: HostRuntime) -> Result<(), Fail> {
+    tells(
+        &rt,
+        "--start|^R",
+        " TSTART ()\n TCOMMIT\n TSTART ():SERIAL\n TCOMMIT\n",
+        "mj-globals 1\n",
+        "",
+        "events: 7, clashes: 0, deadlocks: 0, lost updates: 0
+
+There are transactions without SERIAL. What they read may be out of date when they commit: nothing is compared then.
+",
+    )?;
+    tells(
+        &rt,
+        "--start|^R",
+        " TSTART ():SERIAL\n TCOMMIT\n",
+        "mj-globals 1\n",
+        "",
+        "events: 5, clashes: 0, deadlocks: 0, lost updates: 0\n",
+    )
+}
+
 // Of each kind 20 are told, and how many more there are.
 #[test]
 fn twenty_are_told(rt: HostRuntime) -> Result<(), Fail> {

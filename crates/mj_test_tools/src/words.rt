@@ -36,7 +36,7 @@ fn are_counted(rt: &impl Runner, folder: &str) -> Result<(), Fail> {
 // What isn't one expression is refused, before any file is read.
 #[test]
 fn what_is_looked_for_is_an_expression(rt: HostRuntime) -> Result<(), Fail> {
-    for until in ["^A=", "1 WRITE 2", "1,1", "1;", ""] {
+    for until in ["^A=", "1 WRITE ^A", "^A,1", "^A;", "deadlock", "X=1", ""] {
         is_refused(&rt, until)?;
     }
     let unknown = "explore|--until|^A=1|--start|R|no_folder/R.m";

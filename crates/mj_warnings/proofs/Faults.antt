@@ -5,7 +5,7 @@ use Rattle.mj_ast.specs.Trees.{target_of}
 use Rattle.mj_semantics.specs.Lines.{entry_in}
 use Rattle.mj_semantics.specs.Outcome.{Timed, fault}
 use Rattle.mj_pcode.specs.declared.instr.Instr.{Instr}
-use Rattle.mj_pcode.specs.declared.instr.Instr.TheVariants.{Line, Push, PushSpecial, Load, Unary, Binary, CallFunction, CheckNamed, CallNameFunction, CheckName, Store, SetPiece, Discard, Kill, KillExcept, MergeTake, MergePut, Write, WriteFormat, WriteTab, WriteByte, JumpUnless, Jump, SelectFails, Halt, CheckNumber, Hang, StartJob, UnlockAll, Lock, Unlock, OpenDevice, BeginSession, UseDevice, EndSession, GiveUpFailedDevice, GiveUpDevice, Read, SetTest, JumpUnlessTest, JumpIfTest, ForOpen, ForForever, ForBegin, ForAgain, ForClose, Do, DoBlock, Goto, Quit, Invoke, CheckFunction, FailQuit, GiveValue, New, NewExcept, StartTransaction, MarkRestart, Commit, RollBackForRestart, BeginRestart, RollBack}
+use Rattle.mj_pcode.specs.declared.instr.Instr.TheVariants.{Do, Invoke, Goto, StartJob}
 use Rattle.mj_pcode.specs.declared.instr.Unit as unit
 use Rattle.mj_pcode.specs.Context.{Context, Call as Suspended}
 use Rattle.mj_pcode.specs.Found.{Found, found}
@@ -67,61 +67,4 @@ doubts_fault units u (Invoke target shape) doubt next c pc stack leads e =
     call_faults units (entry_in u.name (target_of target)).routine true (found units (entry_in u.name (target_of target))) shape _ _ next doubt e
 doubts_fault units u (Goto entry) doubt next c pc stack leads e = jump_faults units entry.routine (found units entry) _ next doubt e
 doubts_fault units u (StartJob entry shape wait) doubt next c pc stack leads e = absurd leads
-doubts_fault units u (Line x) doubt next c pc stack leads e = absurd cc
-doubts_fault units u (Push x) doubt next c pc stack leads e = absurd cc
-doubts_fault units u (PushSpecial x) doubt next c pc stack leads e = absurd cc
-doubts_fault units u (Load x) doubt next c pc stack leads e = absurd cc
-doubts_fault units u (Unary x) doubt next c pc stack leads e = absurd cc
-doubts_fault units u (Binary x) doubt next c pc stack leads e = absurd cc
-doubts_fault units u (CallFunction x y) doubt next c pc stack leads e = absurd cc
-doubts_fault units u (CheckNamed x y) doubt next c pc stack leads e = absurd cc
-doubts_fault units u (CallNameFunction x y z) doubt next c pc stack leads e = absurd cc
-doubts_fault units u (CheckName x) doubt next c pc stack leads e = absurd cc
-doubts_fault units u (Store x y) doubt next c pc stack leads e = absurd cc
-doubts_fault units u (SetPiece x y z) doubt next c pc stack leads e = absurd cc
-doubts_fault units u (Discard x) doubt next c pc stack leads e = absurd cc
-doubts_fault units u (Kill x) doubt next c pc stack leads e = absurd cc
-doubts_fault units u (KillExcept x) doubt next c pc stack leads e = absurd cc
-doubts_fault units u (MergeTake x y) doubt next c pc stack leads e = absurd cc
-doubts_fault units u (MergePut x) doubt next c pc stack leads e = absurd cc
-doubts_fault units u Write doubt next c pc stack leads e = absurd cc
-doubts_fault units u (WriteFormat x) doubt next c pc stack leads e = absurd cc
-doubts_fault units u (WriteTab x) doubt next c pc stack leads e = absurd cc
-doubts_fault units u WriteByte doubt next c pc stack leads e = absurd cc
-doubts_fault units u (JumpUnless x) doubt next c pc stack leads e = absurd cc
-doubts_fault units u (Jump x) doubt next c pc stack leads e = absurd cc
-doubts_fault units u SelectFails doubt next c pc stack leads e = absurd cc
-doubts_fault units u Halt doubt next c pc stack leads e = absurd cc
-doubts_fault units u CheckNumber doubt next c pc stack leads e = absurd cc
-doubts_fault units u Hang doubt next c pc stack leads e = absurd cc
-doubts_fault units u UnlockAll doubt next c pc stack leads e = absurd cc
-doubts_fault units u (Lock x y) doubt next c pc stack leads e = absurd cc
-doubts_fault units u (Unlock x y) doubt next c pc stack leads e = absurd cc
-doubts_fault units u (OpenDevice x) doubt next c pc stack leads e = absurd cc
-doubts_fault units u BeginSession doubt next c pc stack leads e = absurd cc
-doubts_fault units u UseDevice doubt next c pc stack leads e = absurd cc
-doubts_fault units u EndSession doubt next c pc stack leads e = absurd cc
-doubts_fault units u GiveUpFailedDevice doubt next c pc stack leads e = absurd cc
-doubts_fault units u GiveUpDevice doubt next c pc stack leads e = absurd cc
-doubts_fault units u (Read x y) doubt next c pc stack leads e = absurd cc
-doubts_fault units u (SetTest x) doubt next c pc stack leads e = absurd cc
-doubts_fault units u (JumpUnlessTest x) doubt next c pc stack leads e = absurd cc
-doubts_fault units u (JumpIfTest x) doubt next c pc stack leads e = absurd cc
-doubts_fault units u (ForOpen x y z) doubt next c pc stack leads e = absurd cc
-doubts_fault units u ForForever doubt next c pc stack leads e = absurd cc
-doubts_fault units u (ForBegin x) doubt next c pc stack leads e = absurd cc
-doubts_fault units u ForAgain doubt next c pc stack leads e = absurd cc
-doubts_fault units u (ForClose x) doubt next c pc stack leads e = absurd cc
-doubts_fault units u (DoBlock x) doubt next c pc stack leads e = absurd cc
-doubts_fault units u Quit doubt next c pc stack leads e = absurd cc
-doubts_fault units u CheckFunction doubt next c pc stack leads e = absurd cc
-doubts_fault units u FailQuit doubt next c pc stack leads e = absurd cc
-doubts_fault units u GiveValue doubt next c pc stack leads e = absurd cc
-doubts_fault units u (New x) doubt next c pc stack leads e = absurd cc
-doubts_fault units u (NewExcept x) doubt next c pc stack leads e = absurd cc
-doubts_fault units u (StartTransaction x y) doubt next c pc stack leads e = absurd cc
-doubts_fault units u MarkRestart doubt next c pc stack leads e = absurd cc
-doubts_fault units u Commit doubt next c pc stack leads e = absurd cc
-doubts_fault units u RollBackForRestart doubt next c pc stack leads e = absurd cc
-doubts_fault units u BeginRestart doubt next c pc stack leads e = absurd cc
-doubts_fault units u RollBack doubt next c pc stack leads e = absurd cc
+doubts_fault units u _ doubt next c pc stack leads e = absurd cc

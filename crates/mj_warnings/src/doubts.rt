@@ -51,8 +51,8 @@ pub fn doubt_at(units: &[Unit], unit: &Unit, instr: &Instr) -> Option<Doubt>
     }
 }
 
-// Why a call fails that gives so many values to the line that was found.
-fn call_doubt(
+/// Why a call fails that gives so many values to the line that was found.
+pub fn call_doubt(
     units: &[Unit],
     routine: &Text,
     found: Option<Target<'_>>,

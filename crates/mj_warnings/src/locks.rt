@@ -1,6 +1,7 @@
 // Names that LOCK takes in two orders.
 //
-// From a line with a label on, up to the next one, it is noted which word is taken while others are held. Words alone are compared: `^A(1)` and `^A(2)` are one.
+// From a line with a label on, up to the next one, it is noted which word is taken while others are held. Words alone are compared: `^A(1)` and `^A(2)` are
+// one.
 
 use mj_load::Image;
 use mj_pcode::{Instr, Reference, Unit};

@@ -1,7 +1,7 @@
 // Lines that nothing reaches.
 //
-// A line is reached that has a label, or is the first; that follows one of its level whose end is reached; or that begins a block for which a DO stands in a line
-// that is reached. Which values there are isn't looked at: `IF 0` ends no line.
+// A line is reached that has a label, or is the first; that follows one of its level whose end is reached; or that begins a block for which a DO stands in
+// a line that is reached. Which values there are isn't looked at: `IF 0` ends no line.
 
 use mj_ast::Line;
 use mj_pcode::{Instr, Unit};

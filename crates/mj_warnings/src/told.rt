@@ -1,12 +1,12 @@
 // What is told of doubtful routines.
 
-use crate::doubts::{Doubt, doubt_at};
+use crate::doubts::{Doubt, call_doubt, doubt_at};
 use crate::locks::{Pair, pairs, turned, was_told};
 use crate::reached::reached_lines;
 use mj_ask::Entry;
-use mj_ast::{Routine, Scope};
+use mj_ast::{Routine, Scope, Target as Named};
 use mj_load::Image;
-use mj_pcode::{Instr, Reference, Unit};
+use mj_pcode::{Instr, Reference, Unit, find_line};
 use mj_text::{Digits, Text};
 use std::alloc::{AllocError, Global};
 
@@ -34,7 +34,7 @@ fn put_doubts(
         }
         if let Some(doubt) = doubt_at(units, unit, instr) {
             put_place(alloc, bytes, &unit.name, number)?;
-            put_doubt(alloc, bytes, unit, instr, doubt)?;
+            put_doubt(alloc, bytes, units, unit, instr, doubt)?;
         }
     }
     Ok(())
@@ -62,23 +62,33 @@ fn put_text(bytes: &mut Vec<u8>, text: &Text) -> Result<(), AllocError> {
 fn put_doubt(
     alloc: Global,
     bytes: &mut Vec<u8>,
+    units: &[Unit],
     unit: &Unit,
     instr: &Instr,
     doubt: Doubt,
 ) -> Result<(), AllocError> {
     match instr {
-        Instr::Do(entry, _) => put_of(alloc, bytes, "DO names ", entry, doubt),
-        Instr::StartJob(entry, _, _) => put_of(alloc, bytes, "JOB names ", entry, doubt),
-        Instr::Goto(entry) => put_of(alloc, bytes, "GOTO names ", entry, doubt),
-        Instr::Invoke(target, _) => {
-            bytes.extend_from_slice(b"a function is called as $$")?;
-            put_label(bytes, &target.label)?;
-            bytes.push(b'^')?;
-            match &target.routine {
-                None => put_text(bytes, &unit.name)?,
-                Some(routine) => put_text(bytes, routine)?,
-            }
-            put_why(bytes, doubt)
+        Instr::Do(entry, shape) => {
+            put_of(alloc, bytes, "DO names ", entry)?;
+            put_why(bytes, units, doubt, first_of(entry), shape.as_slice().len())
+        }
+        Instr::StartJob(entry, shape, _) => {
+            put_of(alloc, bytes, "JOB names ", entry)?;
+            put_why(bytes, units, doubt, first_of(entry), shape.as_slice().len())
+        }
+        Instr::Goto(entry) => {
+            put_of(alloc, bytes, "GOTO names ", entry)?;
+            put_why(bytes, units, doubt, None, 0)
+        }
+        Instr::Invoke(target, shape) => {
+            put_function(bytes, unit, target)?;
+            put_why(
+                bytes,
+                units,
+                doubt,
+                first_called(target),
+                shape.as_slice().len(),
+            )
         }
         _ => {
             bytes.push(b'\n')?;
@@ -87,20 +97,45 @@ fn put_doubt(
     }
 }
 
-// Puts what is doubtful of an entry to the end.
+// Puts a command and the entry that it names to the end.
 fn put_of(
     alloc: Global,
     bytes: &mut Vec<u8>,
     command: &str,
     entry: &Entry,
-    doubt: Doubt,
 ) -> Result<(), AllocError> {
     bytes.extend_from_slice(command.as_bytes())?;
     let spelled = entry.spell(alloc)?;
     let done = bytes.extend_from_slice(spelled.as_slice());
     drop(spelled);
-    done?;
-    put_why(bytes, doubt)
+    done
+}
+
+// Puts the function that a unit calls to the end.
+fn put_function(bytes: &mut Vec<u8>, unit: &Unit, target: &Named) -> Result<(), AllocError> {
+    bytes.extend_from_slice(b"a function is called as $$")?;
+    put_label(bytes, &target.label)?;
+    bytes.push(b'^')?;
+    match &target.routine {
+        None => put_text(bytes, &unit.name),
+        Some(routine) => put_text(bytes, routine),
+    }
+}
+
+// The routine whose first line an entry is, if it is one.
+fn first_of(entry: &Entry) -> Option<&Text> {
+    match &entry.label {
+        None => Some(&entry.routine),
+        Some(_) => None,
+    }
+}
+
+// The routine at whose first line a function begins, if it begins at one.
+fn first_called(target: &Named) -> Option<&Text> {
+    match (&target.label, &target.routine) {
+        (None, Some(routine)) => Some(routine),
+        _ => None,
+    }
 }
 
 fn put_label(bytes: &mut Vec<u8>, label: &Option<Text>) -> Result<(), AllocError> {
@@ -110,14 +145,57 @@ fn put_label(bytes: &mut Vec<u8>, label: &Option<Text>) -> Result<(), AllocError
     }
 }
 
-// Puts what is wrong to the end, and ends the line.
-fn put_why(bytes: &mut Vec<u8>, doubt: Doubt) -> Result<(), AllocError> {
-    bytes.extend_from_slice(match doubt {
-        Doubt::NoRoutine => b", and none of these routines has that name\n".as_slice(),
-        Doubt::NoLine => b", and the routine has no such label\n".as_slice(),
-        Doubt::Deeper => b", which stands in a block\n".as_slice(),
-        Doubt::Values => b", which has fewer formals than there are values\n".as_slice(),
-    })
+// Puts what is wrong to the end, and ends the line. Where it is the first line of this routine, or of none, that is called with so many values.
+fn put_why(
+    bytes: &mut Vec<u8>,
+    units: &[Unit],
+    doubt: Doubt,
+    first: Option<&Text>,
+    count: usize,
+) -> Result<(), AllocError> {
+    match (doubt, first) {
+        (Doubt::NoRoutine, _) => {
+            bytes.extend_from_slice(b", and none of these routines has that name\n")
+        }
+        (Doubt::NoLine, _) => bytes.extend_from_slice(b", and the routine has no such label\n"),
+        (Doubt::Deeper, _) => bytes.extend_from_slice(b", which stands in a block\n"),
+        (Doubt::Values, None) => {
+            bytes.extend_from_slice(b", which has fewer formals than there are values\n")
+        }
+        (Doubt::Values, Some(routine)) => put_first_line(bytes, units, routine, count),
+    }
+}
+
+// Puts to the end that the first line of a routine has too few formals for so many values, and what to write if its own name is a label that has enough.
+fn put_first_line(
+    bytes: &mut Vec<u8>,
+    units: &[Unit],
+    routine: &Text,
+    count: usize,
+) -> Result<(), AllocError> {
+    bytes.extend_from_slice(b", the first line of ")?;
+    put_text(bytes, routine)?;
+    bytes.extend_from_slice(b", which has fewer formals than there are values")?;
+    if takes(units, routine, count)? {
+        bytes.extend_from_slice(b": write ")?;
+        put_text(bytes, routine)?;
+        bytes.push(b'^')?;
+        put_text(bytes, routine)?;
+    }
+    bytes.push(b'\n')?;
+    Ok(())
+}
+
+// Whether the label of a routine that has its own name takes so many values.
+fn takes(units: &[Unit], routine: &Text, count: usize) -> Result<bool, AllocError> {
+    let label = routine.try_clone()?;
+    let entry = Entry {
+        label: Some(label),
+        routine: routine.try_clone()?,
+    };
+    let doubt = call_doubt(units, routine, find_line(units, &entry), count);
+    drop(entry);
+    Ok(doubt.is_none())
 }
 
 // Puts the first of each run of lines that nothing reaches to the end.

@@ -31,7 +31,8 @@ pub returns-in-Ok-clause-read : goal.returns-in-Ok-clause-read
 returns-in-Ok-clause-read g c =
     let P : List Routine → Type 0 = λ rs. WereRead c.args.files.now rs in
     let l = c.loop-file in
-    subst P (sym (ap (λ (i : Loaded). i.routines) c.with_events.ensures ∙ c.in-Ok.ensures.ok)) (subst (λ files. WereRead files l.routines.items) (take_all l.file-index c.args.files.now (omega (arith, c.loop-file-test.false))) l.invariant.were)
+    subst P (sym (ap (λ (i : Loaded). i.routines) c.with_events.ensures ∙ c.in-Ok.ensures.ok))
+    (subst (λ files. WereRead files l.routines.items) (take_all l.file-index c.args.files.now (omega (arith, c.loop-file-test.false))) l.invariant.were)
 
 pub returns-in-Ok-clause-limit : goal.returns-in-Ok-clause-limit
 returns-in-Ok-clause-limit g c = ap (λ (i : Loaded). i.bounds.limit) c.with_events.ensures ∙ ap (λ (b : Bounds). b.limit) c.in-Ok.ensures.bounds

@@ -1,75 +1,7 @@
-use Rattle.std.proofs.Common.{◌≡◌, ℕ, ◌≤◌, [], ◌∷◌, ◌++◌, List, length, Bool, true, false, Option, Some, inl, refl, sym, ap, ◌∙◌, subst, arith}
-use Rattle.std.specs.Prelude.{slice_get, take}
-use Rattle.std.proofs.lemmas.Option.{slice_get-get_or}
-use Rattle.mj_ask.specs.declared.noted.Noted.{Noted}
-use Rattle.mj_ask.specs.declared.noted.Spot.{Spot}
-use Rattle.mj_load.specs.Image.{program_of}
-use Rattle.mj_sys.specs.System.{history_limit}
-use Rattle.mj_replica.specs.Replays.{event_of, history_of}
-use Rattle.mj_replica.specs.Playing.{Playing, Stages}
-use Rattle.mj_replica.specs.Placed.{spot_place, AllCameFrom, place_in}
-use Rattle.mj_replica.proofs.Staging.{is_run}
-use Rattle.mj_replica.proofs.Rounds.{room_left, round_on, all_made}
-use Rattle.mj_replica.proofs.Spotting.{from_on, from_off, take_whole}
+use Rattle.std.proofs.lemmas.Result.{IfOk-weaker}
+use Rattle.mj_replica.proofs.Seeking.{says_placed}
 use Rattle.mj_replica.proofs.placing.replay_placed.Goals as goal
-
-pub make_event-requires-clause-staged : goal.make_event-requires-clause-staged
-make_event-requires-clause-staged g c = (take c.loop-at.at (history_of c.args.events.now), c.loop-at.invariant.0)
-
-pub make_event-requires-clause-room : goal.make_event-requires-clause-room
-make_event-requires-clause-room g c =
-    room_left c.args.image.now g.O.Opening.opening c.args.events.now c.loop-at.at history_limit c.loop-at.system c.loop-at.jobs.items c.loop-at.invariant.0 c.loop-at-test.true c.requires.short
-
-pub returns-then-not-branch : goal.returns-then-not-branch
-returns-then-not-branch g c =
-    let events = c.args.events.now in
-    let at = c.loop-at.at in
-    let e : Noted = c.index-events-at.result in
-    let is : slice_get events at ≡ Some e = slice_get-get_or events at e c.loop-at-test.true ∙ ap Some (sym c.index-events-at.is) in
-    let opening = g.O.Opening.opening in
-    let P : Bool → Type 0 = λ b. Stages c.args.image.now opening (take at (history_of events)) (event_of e) b c.make_event.new.system c.make_event.new.jobs.items in
-    record {
-      event = e;
-      there = is;
-      before = is_run c.args.image.now opening (take at (history_of events)) c.loop-at.system c.loop-at.jobs.items c.loop-at.invariant.0;
-      from = c.loop-at.invariant.1;
-      apart = inl (subst P c.if-not-branch.true (c.in_ok-make_event.ensures (take at (history_of events)) c.loop-at.invariant.0));
-    }
-
-pub returns-then-not-came_from : goal.returns-then-not-came_from
-returns-then-not-came_from g c =
-    let events = c.args.events.now in
-    let at = c.loop-at.at in
-    let e : Noted = c.index-events-at.result in
-    let is : slice_get events at ≡ Some e = slice_get-get_or events at e c.loop-at-test.true ∙ ap Some (sym c.index-events-at.is) in
-    let opening = g.O.Opening.opening in
-    let P : Bool → Type 0 = λ b. Stages c.args.image.now opening (take at (history_of events)) (event_of e) b c.make_event.new.system c.make_event.new.jobs.items in
-    let staged = subst P c.if-not-branch.false (c.in_ok-make_event.ensures (take at (history_of events)) c.loop-at.invariant.0) in
-    from_off c.args.image.now opening events at e is c.make_event.new.system c.make_event.new.jobs.items staged
-    (is_run c.args.image.now opening (take at (history_of events)) c.loop-at.system c.loop-at.jobs.items c.loop-at.invariant.0) c.loop-at.invariant.1
-    (λ there. absurd (let no : false ≡ true = c.if-not-came_from.ensures.1
-    (ap (λ (l : List Playing). place_in l e.job) c.deref.ensures.value ∙ there ∙ ap (λ (s : Option Spot). Some (spot_place s)) (sym c.as_ref.ensures.value)) in cc))
-
-pub loop-at-preserved : goal.loop-at-preserved
-loop-at-preserved g c =
-    let events = c.args.events.now in
-    let at = c.loop-at.at in
-    let e : Noted = c.index-events-at.result in
-    let is : slice_get events at ≡ Some e = slice_get-get_or events at e c.loop-at-test.true ∙ ap Some (sym c.index-events-at.is) in
-    let opening = g.O.Opening.opening in
-    let P : Bool → Type 0 = λ b. Stages c.args.image.now opening (take at (history_of events)) (event_of e) b c.make_event.new.system c.make_event.new.jobs.items in
-    let staged = subst P c.if-not-branch.false (c.in_ok-make_event.ensures (take at (history_of events)) c.loop-at.invariant.0) in (
-      round_on c.args.image.now opening events at e is c.loop-at.system c.loop-at.jobs.items c.loop-at.invariant.0 c.make_event.new.system c.make_event.new.jobs.items staged,
-      from_on c.args.image.now opening events at e is c.make_event.new.system c.make_event.new.jobs.items staged c.loop-at.invariant.1
-          (sym (ap (λ (l : List Playing). place_in l e.job) c.deref.ensures.value) ∙ c.if-not-came_from.ensures.0 refl
-          ∙ ap (λ (s : Option Spot). Some (spot_place s)) c.as_ref.ensures.value),
-    )
 
 pub returns : goal.returns
 returns g c =
-    let events = c.args.events.now in
-    let past : length events ≤ c.loop-at.at = (let t = c.loop-at-test.false in omega (arith, t)) in
-    let opening = g.O.Opening.opening in (
-      all_made c.args.image.now opening events c.loop-at.at c.loop-at.system c.loop-at.jobs.items past c.loop-at.invariant.0,
-      subst (λ (l : List Noted). AllCameFrom (program_of c.args.image.now) opening [] l) (take_whole events c.loop-at.at past) c.loop-at.invariant.1,
-    )
+    IfOk-weaker c.walk.result _ _ (λ verdict walks. says_placed c.args.image.now g.O.Opening.opening c.args.events.now c.walk.new.found.items verdict walks) c.walk.ensures

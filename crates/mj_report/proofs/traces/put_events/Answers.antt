@@ -29,7 +29,8 @@ events-preserved g c =
     let spot : c.in_ok-spot.spot ≡ spot_for (slice_index_or (places e.job) (length (log_of e.job (take c.events.at history))) None) =
     c.in_ok-spot.ensures ∙ ap (λ n. spot_for (slice_index_or (places e.job) n None)) before in
     record {
-      lines = lines_on places history c.events.at e there c.events.bytes.items c.put_event.new.bytes.items _ c.events.invariant.lines (line_with e c.events.bytes.items _ _ _ (c.as_ref.ensures.value ∙ spot) c.in_ok-put_event.ensures.text);
+      lines = lines_on places history c.events.at e there c.events.bytes.items c.put_event.new.bytes.items _ c.events.invariant.lines
+          (line_with e c.events.bytes.items _ _ _ (c.as_ref.ensures.value ∙ spot) c.in_ok-put_event.ensures.text);
       fits = fits_on places history c.events.at e there (fits_with e _ _ (c.as_ref.ensures.value ∙ spot) c.in_ok-put_event.ensures.fits) ∙ c.events.invariant.fits;
       counted = counts_on places history c.events.at e there (count_in c.events.counts.items) (count_in c.count_one.new.counts.items) c.events.invariant.counted c.in_ok-before.ensures.counted;
     }

@@ -1,0 +1,3 @@
+pub mod Putting
+pub mod Rounds
+pub mod Regrouped

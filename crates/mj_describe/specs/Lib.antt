@@ -1,0 +1,3 @@
+pub mod Words
+pub mod Escaped
+pub mod Elsewhere

@@ -1,6 +1,0 @@
-use Rattle.std.proofs.Common.{◌≡◌, ◌++◌, drop}
-use Rattle.mj_explain.specs.Words.{apart, loss_text}
-use Rattle.mj_explain.proofs.story.put_losses.Given as goal
-
-abbrev pub invariant-loop-loss : goal.invariant-loop-loss
-invariant-loop-loss l = l.bytes.items ++ apart (loss_text l.shown) (drop l.loss-index l.losses) ≡ l.fn.bytes.items ++ apart (loss_text l.shown) l.losses

@@ -1,0 +1,7 @@
+pub mod Dropped
+pub mod Walking
+pub mod Walked
+pub mod Faulting
+pub mod Framing
+pub mod Pieces
+pub mod Telling

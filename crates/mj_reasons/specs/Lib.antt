@@ -1,0 +1,5 @@
+pub mod Parts
+pub mod Fields
+pub mod Words
+pub mod Reasons
+pub mod Systems

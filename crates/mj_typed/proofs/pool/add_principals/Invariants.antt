@@ -1,0 +1,7 @@
+use Rattle.std.proofs.Common.{◌≡◌}
+use Rattle.mj_files.specs.Named.{with_principals}
+use Rattle.mj_typed.proofs.pool.add_principals.Given as goal
+
+-- those that are added
+abbrev pub invariant-principals : goal.invariant-principals
+invariant-principals g l = l.pool ≡ with_principals l.counter
