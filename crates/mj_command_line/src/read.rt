@@ -5,7 +5,7 @@ ghost use Rattle.std.specs.Prelude.{◌<◌};
 use crate::order::{
     Debug, EVENTS, Explain, Explore, Migrate, NoOrder, Order, RUNS, Replay, Run, SEED, WORKERS,
 };
-use crate::texts::LIVE_STARTS;
+use crate::texts::{LIVE_STARTS, LIVE_STDIN, LIVE_WORKERS};
 use crate::words::command;
 use clap::error::ErrorKind;
 use clap::{ArgMatches, Command, Error};
@@ -104,19 +104,33 @@ fn run_order<'a>(
     })
 }
 
-// Standard input isn't read before such a run.
+// Standard input isn't read before such a run, and its job is stepped, so words for either are refused instead of passed over.
 fn live_order<'a>(
     alloc: Global,
     command: &mut Command<'a>,
     found: &ArgMatches<'a>,
 ) -> Result<Order<'a>, Error> {
-    let mut run = run_of(alloc, found)?;
-    if run.starts.len() > 1 {
-        drop(run);
-        return Err(command.error(ErrorKind::ArgumentConflict, LIVE_STARTS)?);
+    let run = run_of(alloc, found)?;
+    match unfit_live(&run, found) {
+        None => Ok(Order::Live(run)),
+        Some(why) => {
+            drop(run);
+            Err(command.error(ErrorKind::ArgumentConflict, why)?)
+        }
     }
-    run.stdin = false;
-    Ok(Order::Live(run))
+}
+
+// Why the words ask for more than a live run has, if they do.
+fn unfit_live(run: &Run<'_>, found: &ArgMatches<'_>) -> Option<&'static str> {
+    if run.starts.len() > 1 {
+        Some(LIVE_STARTS)
+    } else if run.stdin {
+        Some(LIVE_STDIN)
+    } else if found.get_one::<u32>("workers").is_some() {
+        Some(LIVE_WORKERS)
+    } else {
+        None
+    }
 }
 
 // What may be written by a run is the file of the steps alone, where one is named, and standard input is read behind all files.

@@ -40,10 +40,21 @@ A job that is talked to at a terminal, which writes as it goes and reads a line 
 A job that reads the lines of standard input, one that opens LIST and OUT, and one whose events are written down, a line each:
   mj run --stdin --start ^HELLO HELLO.m < NAMES
   mj run --device LIST=in:NAMES --device OUT=out:LETTER --start ^R R.m
-  mj run --trace TRACE --start ^R R.m";
+  mj run --trace TRACE --start ^R R.m
+
+Jobs that all wait for each other wait until they are interrupted, and then no file is written. These tell which jobs wait, and why:
+  mj step --why --start A^R --start B^R R.m
+  mj explore --until stuck --start A^R --start B^R R.m";
 
 /// What is said where a live run is to have several first jobs.
 pub const LIVE_STARTS: &str = "`--live` runs one job, so there may be only one `--start`";
+
+/// What is said where the input of a live run is to be read before it.
+pub const LIVE_STDIN: &str =
+    "`--live` reads standard input line by line, so `--stdin` can't stand beside it";
+
+/// What is said where a live run is to have workers.
+pub const LIVE_WORKERS: &str = "`--live` steps its job, so `--workers` can't stand beside it";
 
 /// What stands below the help of `step`.
 pub const STEP_EXAMPLE: &str = "\

@@ -1,6 +1,2 @@
-mod Joined
-mod Latest
 mod Heads
-mod Migrations
 mod Typing
-mod Waiting

@@ -1,5 +1,1 @@
-pub mod Migrations
-pub mod Printed
 pub mod Statuses
-pub mod Explained
-pub mod Taken

@@ -1,7 +1,5 @@
--- Why the program stops where workers ran jobs, and the exit status of a replay and of runs by chance.
-use Rattle.std.specs.Prelude.{ℕ, Option, Some, None}
-use Rattle.mj_replica.specs.declared.replaying.Verdict.{Verdict}
-use Rattle.mj_replica.specs.declared.replaying.Verdict.TheVariants as verdicts
+-- Why the program stops where workers ran jobs.
+use Rattle.std.specs.Prelude.{Option, Some, None}
 use Rattle.mj_gather.specs.declared.gathering.Ungathered.{Ungathered}
 use Rattle.mj_gather.specs.declared.gathering.Ungathered.TheVariants as ungathered
 use Rattle.mj_threads.specs.declared.cuts.Cut.{Cut}
@@ -21,13 +19,3 @@ abbrev pub ungathered_stop : Ungathered → ProgramError
 ungathered_stop (ungathered.Differs job place) = stops.Differs job
 ungathered_stop (ungathered.Twice job) = stops.Differs job
 ungathered_stop ungathered.Memory = stops.Memory
-
--- the status of what a replay says
-abbrev pub verdict_status : Verdict → ℕ
-verdict_status verdicts.Same = 0
-verdict_status (verdicts.Differs at) = 1
-
--- the status of runs by chance, where one showed what is looked for, and where none did
-abbrev pub found_status : {A : Type 0} → Option A → ℕ
-found_status None = 0
-found_status (Some found) = 1

@@ -16,9 +16,6 @@ ghost use Rattle.mj_report.specs.Faults.{has_faulted};
 ghost use Rattle.mj_report.specs.Traced.{IsHead};
 ghost use Rattle.mj_begin.specs.Words.{WereGiven};
 
-use crate::faults::kept_starts;
-use crate::program::{tell_more, trace_core};
-use crate::telling::tell_rest;
 use mj_ask::Start;
 use mj_begin::{Beginning, Outlet, begin, refused};
 use mj_command_line::Run;
@@ -26,6 +23,7 @@ use mj_core::Core;
 use mj_dev::{Device, Pool};
 use mj_drafts::{FAULTED, Lockable, ProgramError, print, stopped};
 use mj_files::{Port, Trouble};
+use mj_finish::{kept_starts, tell_more, tell_rest, trace_core};
 use mj_jobs::ROWS_LIMIT;
 use mj_live::{Lived, run_live};
 use mj_report::{Events, has_faulted, printed};

@@ -12,31 +12,22 @@ ghost use Rattle.mj_trace.specs.declared.form.Form.TheVariants.{Second};
 ghost use Rattle.mj_trace.specs.Trace.{opening_text};
 ghost use Rattle.mj_trace.specs.Sized.{device_count_fits};
 ghost use Rattle.mj_recorded.specs.Traces.{entries_of};
-ghost use Rattle.mj_report.specs.Traced.{IsHead};
 ghost use Rattle.mj_begin.specs.Words.{WereGiven};
 
-use crate::ends::{tell_devices, tell_end};
-use crate::explains::explain;
-use crate::explores::explore;
-use crate::faults::{kept_starts, tell_faults};
-use crate::jobs::waits;
 use crate::lives::live;
-use crate::migrates::migrated;
-use crate::replays::replayed;
-use crate::telling::{tell_run, tell_trace};
 use crate::workers::with_workers;
-use mj_ask::{EVENTS_LIMIT, Start};
+use mj_ask::EVENTS_LIMIT;
 use mj_begin::{Beginning, Outlet, begin, loaded, refused, refused_files, refused_record};
-use mj_command_line::{Migrate, NoOrder, Order, Replay, Run, read_words};
-use mj_core::Core;
+use mj_command_line::{NoOrder, Order, Run, read_words};
 use mj_dev::Device;
 use mj_drafts::{Lockable, ProgramError, WORDS, print, stopped};
 use mj_files::Port;
+use mj_finish::{finish, kept_starts};
 use mj_load::Image;
 use mj_prompt::debug;
+use mj_recall::{explain, migrate, replay};
 use mj_run::run_jobs;
-use mj_sessions::Sessions;
-use mj_steps::Ending;
+use mj_search::explore;
 use mj_sys::Opening;
 use mj_text::Limit;
 use mj_warnings::put_warnings;
@@ -78,15 +69,15 @@ where
             Ok(status) => status,
             Err(stop) => refused_files(rt, &files, &stop, err),
         },
-        Ok(Order::Replay(order)) => match replay(rt, &order, out) {
+        Ok(Order::Replay(order)) => match replay(rt, &order, out, err) {
             Ok(status) => status,
             Err(stop) => refused_record(rt, &order, None, &stop, err),
         },
-        Ok(Order::Migrate(order)) => match migrate(rt, &order, out) {
+        Ok(Order::Migrate(order)) => match migrate(rt, &order, out, err) {
             Ok(status) => status,
             Err(stop) => refused_record(rt, &order.record, Some(order.out), &stop, err),
         },
-        Ok(Order::Explain(order)) => match explain(rt, &order, out) {
+        Ok(Order::Explain(order)) => match explain(rt, &order, out, err) {
             Ok(status) => status,
             Err(stop) => refused_record(rt, &order.record, order.html, &stop, err),
         },
@@ -208,135 +199,6 @@ where
     status
 }
 
-// Tells of the run of a core, then what each job waits for, if that was asked for, then where jobs faulted, if the starts were kept for that, and gives
-// the exit status.
-fn finish<R, O, E, D, G>(
-    rt: &R,
-    core: &mut Core<D, Sessions<D>, G>,
-    ending: Ending,
-    order: &Run<'_>,
-    outlet: &Outlet<'_, R::File>,
-    kept: &Option<Vec<Start>>,
-    out: &mut O,
-    err: &mut E,
-) -> u8
-where
-    R: Files + AllocGlobal,
-    R::File: Lockable,
-    O: Write,
-    E: Write,
-    D: Device,
-    G: Opening,
-    requires { IfSome outlet.now.trace (λ t. IsHead core.old.image G.opening t.opening.items) }
-    ensures { result ≤ 4 }
-{
-    let Some(status) = tell_core(rt, core, ending, order, outlet, out, err) else {
-        return stopped(&ProgramError::Memory, err);
-    };
-    // To ask what each job waits for is to step it once more, so it comes last. Behind the steps of a file it isn't known yet whether all wait.
-    let may_wait = ending == Ending::Stuck || order.steps.is_some() && ending == Ending::Over;
-    if may_wait && order.why {
-        tell_waits(rt, core, order.hints, err);
-    }
-    tell_more(rt, core, ending, order, kept, err);
-    status
-}
-
-// Tells of the run of a core. Where memory was refused for that, there is no status.
-fn tell_core<R, O, E, D, G>(
-    rt: &R,
-    core: &Core<D, Sessions<D>, G>,
-    ending: Ending,
-    order: &Run<'_>,
-    outlet: &Outlet<'_, R::File>,
-    out: &mut O,
-    err: &mut E,
-) -> Option<u8>
-where
-    R: Files + AllocGlobal,
-    R::File: Lockable,
-    O: Write,
-    E: Write,
-    D: Device,
-    G: Opening,
-    requires { IfSome outlet.now.trace (λ t. IsHead core.now.image G.opening t.opening.items) }
-    ensures { IfSome result (λ status. status ≤ 4) }
-{
-    let jobs = core.jobs() as u32;
-    let stop = ProgramError::of_ending(ending);
-    let globals = core.globals();
-    match tell_run(rt, order, outlet, core, jobs, globals, stop, out, err) {
-        Some((status, true)) => Some(status.max(trace_core(rt, core, outlet, err))),
-        Some((status, false)) => Some(status),
-        None => None,
-    }
-}
-
-/// Writes the trace of a core, if there is to be one, and gives the exit status of that. Only then its places take memory.
-pub(crate) fn trace_core<R, E, D, G>(
-    rt: &R,
-    core: &Core<D, Sessions<D>, G>,
-    outlet: &Outlet<'_, R::File>,
-    err: &mut E,
-) -> u8
-where
-    R: Files + AllocGlobal,
-    R::File: Lockable,
-    E: Write,
-    D: Device,
-    G: Opening,
-    requires { IfSome outlet.now.trace (λ t. IsHead core.now.image G.opening t.opening.items) }
-    ensures { result ≤ 4 }
-{
-    if outlet.trace.is_none() {
-        return 0;
-    }
-    // its history is a run
-    let _run = core.len(); // for the proof
-    let Ok(places) = core.all_places() else {
-        return stopped(&ProgramError::Memory, err);
-    };
-    let image = core.image();
-    tell_trace::<R, E, Core<D, Sessions<D>, G>, G>(rt, outlet, image, core, &places, err)
-}
-
-/// Tells more of the run of a core, where hints are wanted: what helps at such an end; where jobs faulted, if the starts were kept for that; and what the
-/// system says of devices that failed.
-pub(crate) fn tell_more<R, E, D, G>(
-    rt: &R,
-    core: &Core<D, Sessions<D>, G>,
-    ending: Ending,
-    order: &Run<'_>,
-    kept: &Option<Vec<Start>>,
-    err: &mut E,
-)
-where
-    R: Files + AllocGlobal,
-    E: Write,
-    D: Device,
-    G: Opening,
-{
-    if order.hints {
-        tell_end(rt, core, ending, order, err);
-    }
-    tell_faults(rt, order, core.image(), kept, core, err);
-    tell_devices(rt, core, order, err);
-}
-
-// Says what each job waits for, and where that was taken, if that is to be told.
-fn tell_waits<R, E, D, G>(rt: &R, core: &mut Core<D, Sessions<D>, G>, since: bool, err: &mut E)
-where
-    R: Files + AllocGlobal,
-    E: Write,
-    D: Device,
-    G: Opening,
-{
-    if let Some(lines) = waits(rt.alloc(), core, since) {
-        // Where this can't be written, the status alone tells.
-        let _ = err.write_all(&lines);
-    }
-}
-
 // Loads the routines of these files, and says how many they are.
 fn check<'a, R: Files + AllocGlobal, O: Write, E: Write>(
     rt: &R,
@@ -361,34 +223,6 @@ fn warn<E: Write>(alloc: Global, image: &Image, err: &mut E) {
         let _ = err.write_all(&bytes);
     }
     drop(bytes);
-}
-
-// Replays a trace, and says whether it is that of a run.
-fn replay<'a, R: Files + AllocGlobal, O: Write>(
-    rt: &R,
-    order: &Replay<'a>,
-    out: &mut O,
-) -> Result<u8, ProgramError<'a>>
-    ensures { IfOk result (λ status. status ≤ 1) }
-{
-    let (told, status) = replayed(rt, order)?;
-    print(told.as_bytes(), out)?;
-    Ok(status)
-}
-
-// Brings a trace to today's form, and says how many events it has.
-fn migrate<'a, R: Files + AllocGlobal, O: Write>(
-    rt: &R,
-    order: &Migrate<'a>,
-    out: &mut O,
-) -> Result<u8, ProgramError<'a>>
-where
-    R::File: Lockable,
-    ensures { IfOk result (λ status. status ≤ 1) }
-{
-    let (told, status) = migrated(rt, order)?;
-    print(told.as_bytes(), out)?;
-    Ok(status)
 }
 
 // Prints the text on words that are no order: help, which was asked for, or what is wrong.

@@ -16,14 +16,12 @@ ghost use Rattle.mj_report.specs.Traced.{IsHead};
 ghost use Rattle.mj_begin.specs.Words.{WereGiven};
 ghost use Rattle.mj_main.specs.Statuses.{cut_stop, ungathered_stop};
 
-use crate::ends::{tell_cut, tell_devices};
-use crate::faults::{kept_starts, tell_faults};
-use crate::telling::{tell_run, tell_trace};
 use mj_ask::Start;
 use mj_begin::{Beginning, Outlet, save};
 use mj_command_line::Run;
 use mj_dev::Device;
 use mj_drafts::{Lockable, ProgramError, stopped, tell_trouble};
+use mj_finish::{kept_starts, tell_devices, tell_faults, tell_full, tell_run, tell_trace};
 use mj_gather::{Ungathered, gather};
 use mj_load::Image;
 use mj_sys::Opening;
@@ -129,8 +127,8 @@ where
                 Some((status, false)) => Some(status),
                 None => None,
             };
-            if order.hints {
-                tell_cut(rt, &run, cut, run.places(), order, err);
+            if order.hints && matches!(cut, Some(Cut::Full)) {
+                tell_full(rt, &run, run.places(), order, err);
             }
             tell_faults(rt, order, image, kept, &run, err);
             tell_devices(rt, &run, order, err);

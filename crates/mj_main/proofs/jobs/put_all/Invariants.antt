@@ -1,6 +1,0 @@
-use Rattle.std.proofs.Common.{◌≡◌}
-use Rattle.mj_main.proofs.jobs.put_all.Given as goal
-
--- no event happened
-abbrev pub invariant-jobs : goal.invariant-jobs
-invariant-jobs g l = l.core.history ≡ l.fn.core.history

@@ -1,0 +1,4 @@
+pub mod Migrations
+pub mod Printed
+pub mod Statuses
+pub mod Explained

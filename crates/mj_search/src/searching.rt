@@ -1,0 +1,325 @@
+// Runs by chance.
+
+ghost use Rattle.std.specs.Prelude.{◌≡◌, ◌≢◌, ◌≤◌, ◌++◌, All, IfOk, IfNone, IfSome, length, option_map, true};
+ghost use Rattle.std.specs.String.{string_bytes};
+ghost use Rattle.mj_dev.specs.Shelves.{principal};
+ghost use Rattle.mj_sys.specs.Shared.{are_global};
+ghost use Rattle.mj_explore.specs.Scripts.{opening_in, supply_names};
+ghost use Rattle.mj_search.specs.Printed.{runs_line, found_line, goal_word};
+ghost use Rattle.mj_search.specs.Statuses.{found_status};
+
+use mj_begin::{Beginning, begin, file_bytes, refused, routine_bytes, routine_name};
+use mj_chance::put_steps;
+use mj_command_line::Explore;
+use mj_drafts::{Choice, Lockable, ProgramError, Word, print, stopped, tell_trouble, write_file};
+use mj_explore::{Explored, Goal, Script, Search, Source, Supply, Unread, condition};
+use mj_files::{BYTES_LIMIT, Side, Trouble, read_device, whole};
+use mj_globs::Globals;
+use mj_sys::Opening;
+use std::alloc::{AllocError, Global};
+use std::io::{Read, Write};
+use std::marker::Brand;
+use std::rt::Files;
+
+// The exit status where a run shows what is looked for.
+const FOUND: u8 = 1;
+
+/// Makes the runs that are ordered, tells of them, keeps the steps of one that shows what is looked for, and gives the exit status.
+pub fn explore<R, I, O, E>(
+    rt: R,
+    order: &Explore<'_>,
+    input: &mut I,
+    out: &mut O,
+    err: &mut E,
+) -> u8
+where
+    R: Files + AllocGlobal + Copy + Drop,
+    R::File: Lockable,
+    I: Read,
+    O: Write,
+    E: Write,
+    ensures { result ≤ 4 }
+{
+    match explored(rt, order, input) {
+        Ok(explored) => {
+            let status = tell(&rt, order, &explored, out, err);
+            drop(explored);
+            status
+        }
+        Err(stop) => {
+            let stop = of_keep(stop);
+            refused(&rt, &order.run, &stop, err)
+        }
+    }
+}
+
+// Why it stops, by the words of this command: the file that the steps go to stands for that of the trace.
+fn of_keep<'a>(stop: ProgramError<'a>) -> ProgramError<'a> {
+    match stop {
+        ProgramError::Chosen {
+            option: Choice::Trace,
+            value,
+        } => ProgramError::Chosen {
+            option: Choice::Keep,
+            value,
+        },
+        other => other,
+    }
+}
+
+// Makes the runs.
+fn explored<'a, R, I>(
+    rt: R,
+    order: &Explore<'a>,
+    input: &mut I,
+) -> Result<Explored, ProgramError<'a>>
+where
+    R: Files + AllocGlobal + Copy + Drop,
+    R::File: Lockable,
+    I: Read,
+{
+    let goal = goal_of(rt.alloc(), order.until)?;
+    let (script, globals) = script_of(rt, order, input)?;
+    let search = Search {
+        seed: order.seed,
+        runs: order.runs,
+    };
+    let explored = runs_over(rt.alloc(), &script, &globals, &goal, search);
+    drop(goal);
+    drop(script);
+    drop(globals);
+    Ok(explored?)
+}
+
+// What is looked for, by the word for it.
+fn goal_of<'a>(alloc: Global, until: Option<&'a str>) -> Result<Option<Goal>, ProgramError<'a>> {
+    let Some(word) = until else {
+        return Ok(None);
+    };
+    match word {
+        "fault" => Ok(Some(Goal::Fault)),
+        "stuck" => Ok(Some(Goal::Stuck)),
+        "clash" => Ok(Some(Goal::Clash)),
+        _ => match condition(alloc, word.as_bytes())? {
+            Some(script) => Ok(Some(Goal::False(script))),
+            None => Err(ProgramError::Chosen {
+                option: Choice::Until,
+                value: word,
+            }),
+        },
+    }
+}
+
+// What the runs begin with, read as for any run, and the globals. Standard input is read behind all files.
+fn script_of<'a, R, I>(
+    rt: R,
+    order: &Explore<'a>,
+    input: &mut I,
+) -> Result<(Script, Globals), ProgramError<'a>>
+where
+    R: Files + AllocGlobal + Copy + Drop,
+    R::File: Lockable,
+    I: Read,
+    ensures { IfOk result (λ r. are_global r.1.content ≡ true) }
+{
+    let (beginning, outlet) = begin(rt, &order.run, input)?;
+    drop(outlet);
+    let sources = sources(&rt, &order.run.files)?;
+    let supplies = supplies(&rt, &order.run.devices)?;
+    let lines = lines(rt.alloc(), order.stdin, input)?;
+    let Beginning {
+        steps,
+        image,
+        globals,
+        pool,
+        starts,
+    } = beginning;
+    drop(steps);
+    drop(image);
+    drop(pool);
+    match Script::new(rt.alloc(), sources, starts, lines, supplies) {
+        Ok(script) => Ok((script, globals)),
+        Err(Unread::Memory) => Err(ProgramError::Memory),
+        Err(Unread::Routine(refusal)) => Err(ProgramError::Routine(refusal)),
+        Err(Unread::Twice { name }) => Err(ProgramError::Twice(Word { name })),
+    }
+}
+
+// The bytes of standard input, where they are asked for.
+fn lines<'a, I: Read>(
+    alloc: Global,
+    stdin: bool,
+    input: &mut I,
+) -> Result<Vec<u8>, ProgramError<'a>> {
+    if !stdin {
+        return Ok(Vec::new(alloc));
+    }
+    match whole(alloc, input, BYTES_LIMIT) {
+        Ok(bytes) => Ok(bytes),
+        Err(Trouble::Memory) => Err(ProgramError::Memory),
+        Err(Trouble::Failed) => Err(ProgramError::File("-")),
+    }
+}
+
+// The routines in these files.
+fn sources<'a, R: Files + AllocGlobal>(
+    rt: &R,
+    files: &[&'a str],
+) -> Result<Vec<Source>, ProgramError<'a>> {
+    let mut sources = Vec::new(rt.alloc());
+    for file in files {
+        let source = Source {
+            name: routine_name(rt.alloc(), *file)?,
+            bytes: routine_bytes(rt, *file)?,
+        };
+        if sources.push(source).is_err() {
+            return Err(ProgramError::Memory);
+        }
+    }
+    Ok(sources)
+}
+
+// The devices that these words name. One that gives the lines of a file has them from now on, and what is written to another goes nowhere.
+fn supplies<'a, R: Files + AllocGlobal>(
+    rt: &R,
+    words: &[&'a str],
+) -> Result<Vec<Supply>, ProgramError<'a>>
+    ensures { IfOk result (λ supplies. All (λ name. name ≢ principal) (supply_names supplies.items)) }
+{
+    let mut supplies = Vec::new(rt.alloc());
+    for word in words {
+        let Some(device) = read_device(rt.alloc(), *word)? else {
+            return Err(ProgramError::Chosen {
+                option: Choice::Device,
+                value: *word,
+            });
+        };
+        let bytes = match device.side {
+            Side::In => file_bytes(rt, device.file)?,
+            Side::Out => Vec::new(rt.alloc()),
+        };
+        let supply = Supply {
+            name: device.name,
+            bytes,
+        };
+        if supplies.push(supply).is_err() {
+            return Err(ProgramError::Memory);
+        }
+    }
+    Ok(supplies)
+}
+
+// Makes the runs over these globals.
+fn runs_over(
+    alloc: Global,
+    script: &Script,
+    globals: &Globals,
+    goal: &Option<Goal>,
+    search: Search,
+) -> Result<Explored, AllocError>
+    requires { are_global globals.now.content ≡ true }
+{
+    runs_from::<Brand>(alloc, script, globals, goal, search)
+}
+
+// Makes the runs from an opening.
+fn runs_from<G: Opening>(
+    alloc: Global,
+    script: &Script,
+    globals: &Globals,
+    goal: &Option<Goal>,
+    search: Search,
+) -> Result<Explored, AllocError>
+    requires opening { opening_in script.now globals.now.content ≡ G.opening }
+    requires global { are_global globals.now.content ≡ true }
+{
+    mj_explore::explore::<G>(alloc, script, globals, goal.as_ref(), search)
+}
+
+// Prints what is told of the runs, and then keeps the steps that were found, where a file is named for them. Where the one can't be done the other still is,
+// unless memory was refused.
+fn tell<R, O, E>(rt: &R, order: &Explore<'_>, explored: &Explored, out: &mut O, err: &mut E) -> u8
+where
+    R: Files + AllocGlobal,
+    R::File: Lockable,
+    O: Write,
+    E: Write,
+    ensures { result ≤ 4 }
+{
+    let Ok((text, found)) = explored_text(rt.alloc(), explored, order.until) else {
+        return stopped(&ProgramError::Memory, err);
+    };
+    let printed = tell_trouble(print(&text, out), err);
+    drop(text);
+    let kept = tell_trouble(keep(rt, order, explored), err);
+    found.max(printed).max(kept)
+}
+
+// Writes the steps that were found to the file that is named for them.
+fn keep<'a, R: Files + AllocGlobal>(
+    rt: &R,
+    order: &Explore<'a>,
+    explored: &Explored,
+) -> Result<(), ProgramError<'a>>
+where
+    R::File: Lockable,
+{
+    let (Some(file), Some(steps)) = (order.keep, &explored.found) else {
+        return Ok(());
+    };
+    let bytes = put_steps(rt.alloc(), steps)?;
+    let kept = write_file(rt, file, &bytes);
+    drop(bytes);
+    kept
+}
+
+// What is printed of the runs, and the exit status: how many there were, and how many different ends they had; and behind that, where one showed what is
+// looked for, which it was, and how many steps are found to show it.
+fn explored_text(
+    alloc: Global,
+    explored: &Explored,
+    until: Option<&str>,
+) -> Result<(Vec<u8>, u8), AllocError>
+    ensures none { IfOk result (λ told. IfNone explored.now.found (told.0.items ≡ runs_line explored.now.runs explored.now.ends)) }
+    ensures some { IfOk result (λ told. IfSome explored.now.found (λ steps. told.0.items
+        ≡ runs_line explored.now.runs explored.now.ends
+        ++ found_line (goal_word (option_map (λ word. word.now) until.entry)) explored.now.runs (length steps.items))) }
+    ensures which { IfOk result (λ told. told.1 ≡ found_status explored.now.found) }
+    ensures bound { IfOk result (λ told. told.1 ≤ 1) }
+{
+    let mut text = Vec::new(alloc);
+    let counts = runs_line(alloc, explored.runs, explored.ends)?;
+    text.extend_from_slice(counts.as_bytes())?;
+    let Some(steps) = &explored.found else {
+        return Ok((text, 0));
+    };
+    let found = found_line(alloc, word_of(until), explored.runs, steps.len())?;
+    text.extend_from_slice(found.as_bytes())?;
+    Ok((text, FOUND))
+}
+
+// The line on how many runs there were, and how many different ends they had.
+fn runs_line(alloc: Global, runs: u32, ends: usize) -> Result<String, AllocError>
+    ensures { IfOk result (λ line. string_bytes line ≡ runs_line runs ends) }
+{
+    let line = format!(in alloc; "runs {runs}, ends {ends}\n")?;
+    Ok(line)
+}
+
+// The line on what the last run showed, and how many steps show it.
+fn found_line(alloc: Global, what: &str, run: u32, steps: usize) -> Result<String, AllocError>
+    ensures { IfOk result (λ line. string_bytes line ≡ found_line what.now run steps) }
+{
+    let line = format!(in alloc; "{what} in run {run}, steps {steps}\n")?;
+    Ok(line)
+}
+
+// The word for what was found.
+fn word_of<'a>(until: Option<&'a str>) -> &'a str
+    ensures { result.now ≡ goal_word (option_map (λ word. word.now) until.entry) }
+{
+    match until {
+        Some(word) if matches!(word, "fault" | "stuck" | "clash") => word,
+        _ => "untrue",
+    }
+}
