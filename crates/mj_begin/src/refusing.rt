@@ -116,12 +116,23 @@ fn tell_more<R: Files + AllocGlobal, E: Write>(
     if is_of_routines(stop) {
         tell(rt, files, stop, err)?;
     }
+    if is_of_one(files, stop) {
+        return Ok(());
+    }
     let mut bytes = Vec::new(rt.alloc());
     if put_reason(rt, &mut bytes, sources, stop).is_ok() {
         let _ = err.write_all(&bytes);
     }
     drop(bytes);
     Ok(())
+}
+
+// Whether it is one of these files that stops the program, of which is told then why it can't be read.
+fn is_of_one(files: &[&str], stop: &ProgramError<'_>) -> bool {
+    match stop {
+        ProgramError::File(stopped) => files.iter().any(|file| *file == *stopped),
+        _ => false,
+    }
 }
 
 // Puts why a value, a second file of a routine, or a file that is no routine is refused to the end.
@@ -247,7 +258,7 @@ fn told<R: Files + AllocGlobal>(rt: &R, files: &[&str]) -> Result<Vec<u8>, Alloc
     Ok(told)
 }
 
-// Puts what is refused in a file to the end.
+// Puts what is refused in a file to the end, or why it can't be read.
 fn put_file<R: Files + AllocGlobal>(
     rt: &R,
     told: &mut Vec<u8>,
@@ -262,7 +273,8 @@ fn put_file<R: Files + AllocGlobal>(
         Err(ProgramError::Memory) => Err(AllocError),
         Err(stop) => {
             let line = format!(in rt.alloc(); "{stop}\n")?;
-            told.extend_from_slice(line.as_bytes())
+            told.extend_from_slice(line.as_bytes())?;
+            put_trouble(rt, told, file, true, false)
         }
     }
 }

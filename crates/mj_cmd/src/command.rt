@@ -55,7 +55,7 @@ fn condition<'a, 't>(
 }
 
 /// Whether the word may have no arguments.
-fn may_be_bare(verb: Verb) -> bool
+pub fn may_be_bare(verb: Verb) -> bool
     ensures { result ≡ the_bare verb }
 {
     match verb {

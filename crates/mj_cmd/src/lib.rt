@@ -23,5 +23,6 @@ mod restart;
 mod set;
 mod write;
 
+pub use command::may_be_bare;
 pub use keyword::verb_of;
 pub use lines::line;

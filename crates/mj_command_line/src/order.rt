@@ -92,6 +92,8 @@ pub struct Debug<'a> {
     pub run: Run<'a>,
     /// whether a prompt is shown where a command is to be given
     pub prompt: bool,
+    /// the file of a trace whose run is opened in the place of one that begins
+    pub replay: Option<&'a str>,
 }
 
 /// A trace that is to be replayed.

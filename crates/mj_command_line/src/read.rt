@@ -5,7 +5,7 @@ ghost use Rattle.std.specs.Prelude.{◌<◌};
 use crate::order::{
     Debug, EVENTS, Explain, Explore, Migrate, NoOrder, Order, RUNS, Replay, Run, SEED, WORKERS,
 };
-use crate::texts::{LIVE_STARTS, LIVE_STDIN, LIVE_WORKERS};
+use crate::texts::{DEBUG_STEPS, LIVE_STARTS, LIVE_STDIN, LIVE_WORKERS};
 use crate::words::command;
 use clap::error::ErrorKind;
 use clap::{ArgMatches, Command, Error};
@@ -49,7 +49,7 @@ fn order_of<'a>(
         "run" => run_order(alloc, command, found),
         "step" => step_order(alloc, found),
         "explore" => explore_order(alloc, found),
-        "debug" => debug_order(alloc, found),
+        "debug" => debug_order(alloc, command, found),
         "check" => check_order(alloc, found),
         "replay" => replay_order(alloc, found),
         "migrate" => migrate_order(alloc, found),
@@ -162,10 +162,19 @@ fn step_order<'a>(alloc: Global, found: &ArgMatches<'a>) -> Result<Order<'a>, Er
     Ok(Order::Step(run_of(alloc, found)?))
 }
 
-fn debug_order<'a>(alloc: Global, found: &ArgMatches<'a>) -> Result<Order<'a>, Error> {
+// A debugger's steps are made by commands, or are those of a trace.
+fn debug_order<'a>(
+    alloc: Global,
+    command: &mut Command<'a>,
+    found: &ArgMatches<'a>,
+) -> Result<Order<'a>, Error> {
+    if found.get_str("steps").is_some() {
+        return Err(command.error(ErrorKind::ArgumentConflict, DEBUG_STEPS)?);
+    }
     Ok(Order::Debug(Debug {
         run: run_of(alloc, found)?,
         prompt: found.get_flag("prompt"),
+        replay: found.get_str("replay"),
     }))
 }
 

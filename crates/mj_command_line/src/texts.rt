@@ -71,7 +71,7 @@ Examples, of four jobs that each add 1 to ^C, and of two that take locks; the st
 
 /// What stands below the help of `debug`.
 pub const DEBUG_EXAMPLE: &str = "\
-Commands, one a line:
+Commands, one a line, of which `help` lists more at a prompt:
   s N         steps job N; `s N late` steps it where its timeout is over
   go K        steps the jobs in turn, up to K times or to a breakpoint
   b R:L       stops `go` at line L of the routine R; `d R:L` doesn't any more
@@ -80,9 +80,15 @@ Commands, one a line:
   k, g        show who holds which names, and the globals
   q           ends
 
-Examples, at a terminal, and by the commands in a file:
+Examples, at a terminal, of a run that was recorded, of the steps in a file, and by the commands in a file:
   mj debug --start ^R R.m
+  mj debug --replay TRACE R.m
+  mj step --steps STEPS --trace TRACE --start ^R R.m; mj debug --replay TRACE R.m
   mj debug --globals DATA --start A^R --start B^R R.m < COMMANDS";
+
+/// What is said where a debugger is to make the steps of a file.
+pub const DEBUG_STEPS: &str =
+    "`mj debug` takes no `--steps`: `mj step --steps FILE --trace TRACE` makes them, and `mj debug --replay TRACE` opens their run";
 
 /// What stands below the help of `check`.
 pub const CHECK_EXAMPLE: &str = "\

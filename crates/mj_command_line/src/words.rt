@@ -21,6 +21,7 @@ struct Choice {
     name: &'static str,
     // what the help has in place of a value; a flag has no value
     value: Option<&'static str>,
+    // what the help says of it; without that it isn't in the help, as it is refused
     help: &'static str,
     action: ArgAction,
     required: bool,
@@ -57,7 +58,9 @@ const COMMANDS: [Row; 8] = [
         name: "debug",
         about: "Steps jobs by the commands that standard input has, and prints what is answered to them",
         example: DEBUG_EXAMPLE,
-        options: &[PROMPT, EVENTS, HINTS, START, GLOBALS, SAVE, TRACE, DEVICE],
+        options: &[
+            PROMPT, REPLAY, EVENTS, HINTS, START, GLOBALS, SAVE, TRACE, DEVICE, NO_STEPS,
+        ],
     },
     Row {
         name: "check",
@@ -121,6 +124,16 @@ const STEPS: Choice = Choice {
     most: None,
 };
 
+// That a debugger doesn't take steps from a file is said where it is asked to.
+const NO_STEPS: Choice = Choice {
+    name: "steps",
+    value: Some("FILE"),
+    help: "",
+    action: ArgAction::Set,
+    required: false,
+    most: None,
+};
+
 const WHY: Choice = Choice {
     name: "why",
     value: None,
@@ -178,7 +191,7 @@ const KEEP: Choice = Choice {
 const HINTS: Choice = Choice {
     name: "hints",
     value: None,
-    help: "Tells, where something is refused or a run goes wrong, more of it and what helps; at a terminal it is told anyway",
+    help: "Tells, where something is refused, a job faults or a run goes wrong, more of it and what helps; at a terminal it is told anyway",
     action: ArgAction::SetTrue,
     required: false,
     most: None,
@@ -189,6 +202,15 @@ const PROMPT: Choice = Choice {
     value: None,
     help: "Shows, on standard error, where a job stands and a prompt before each command; at a terminal it is shown anyway",
     action: ArgAction::SetTrue,
+    required: false,
+    most: None,
+};
+
+const REPLAY: Choice = Choice {
+    name: "replay",
+    value: Some("FILE"),
+    help: "Opens the trace in FILE: its jobs, its devices and its steps; beside it only the globals and the prompt are given; `mj step --trace` writes one",
+    action: ArgAction::Set,
     required: false,
     most: None,
 };
@@ -315,6 +337,7 @@ fn arguments<'a>(alloc: Global, options: &[Choice]) -> Result<Vec<Arg<'a>>, Allo
 fn option<'a>(alloc: Global, row: &Choice) -> Arg<'a> {
     let option = Arg::new(alloc, row.name)
         .help(row.help)
+        .hide(row.help.is_empty())
         .action(row.action)
         .required(row.required);
     let option = if row.name == RECORD.name {

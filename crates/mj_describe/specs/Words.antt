@@ -116,12 +116,12 @@ clash_text s c = clash_head s c ++ why_text s c.why
 
 -- ---- lost updates
 
--- the two reads, in their order
-abbrev pub reads_text : Shown → ℕ → ℕ → List ℕ
-reads_text s a b = told_text s a ++ 46 ∷ 10 ∷ (told_text s b ++ 46 ∷ 10 ∷ [])
+-- the two looks, in their order
+abbrev pub looks_text : Shown → ℕ → ℕ → List ℕ
+looks_text s a b = told_text s a ++ 46 ∷ 10 ∷ (told_text s b ++ 46 ∷ 10 ∷ [])
 
 abbrev pub ordered_text : Shown → Loss → List ℕ
-ordered_text s l = if nat_lt l.second_read l.first_read then reads_text s l.second_read l.first_read else reads_text s l.first_read l.second_read
+ordered_text s l = if nat_lt l.second_look l.first_look then looks_text s l.second_look l.first_look else looks_text s l.first_look l.second_look
 
 abbrev pub loss_text : Shown → Loss → List ℕ
 loss_text s l = codes "Lost update: what " ++ job_text s l.first_write ++ codes " set is lost." ++ 10 ∷ (ordered_text s l

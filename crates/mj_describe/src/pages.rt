@@ -3,12 +3,13 @@
 // It has no script. What it says of events is escaped. Nothing is claimed of how it looks.
 
 use crate::deadlocks::Standing;
-use crate::draw::{arrow, bar, boxed, foot, head, label, lane, words_of};
-use crate::wording::Shown;
+use crate::draw::{arrow, bar, boxed, foot, head, label, lane, place, words_of};
+use crate::wording::{Shown, Spot, put_spot};
 use mj_ask::{Ask, Noted, SharedAsk};
 use mj_explain::{Hold, Loss, Story, ToldClash, Wait, began_after, begins_of, wanted_by};
 use mj_gfile::put_name;
 use mj_subs::Name;
+use mj_text::Text;
 use mj_trace::{Form, event_line};
 use std::alloc::{AllocError, Global};
 
@@ -40,6 +41,7 @@ pub fn page(
     drawn?;
     draw_holds(&mut page, standing.holds, past, rows)?;
     draw_events(alloc, &mut page, shown, rows)?;
+    draw_places(&mut page, shown.spots, rows)?;
     draw_clashes(&mut page, shown, &story.clashes, rows)?;
     draw_losses(&mut page, shown, &story.losses, rows)?;
     for waits in &story.deadlocks {
@@ -176,6 +178,29 @@ fn draw_events(
     Ok(())
 }
 
+// Draws where in the routines each event comes from, if it comes from there.
+fn draw_places(page: &mut Vec<u8>, spots: &[Spot], rows: usize) -> Result<(), AllocError> {
+    for (row, spot) in spots.iter().enumerate() {
+        if row >= rows {
+            break;
+        }
+        if let Some((routine, line)) = spot {
+            draw_place(page, row, routine, *line)?;
+        }
+    }
+    Ok(())
+}
+
+// Draws a routine and a line of it.
+fn draw_place(page: &mut Vec<u8>, row: usize, routine: &Text, line: u32) -> Result<(), AllocError> {
+    let mut spot = Vec::new(*page.allocator());
+    let named = put_spot(&mut spot, routine, line);
+    let drawn = place(page, row, &spot);
+    drop(spot);
+    named?;
+    drawn
+}
+
 // Draws an arrow from the change that gave a read another answer to the commit that clashed.
 fn draw_clashes(
     page: &mut Vec<u8>,
@@ -183,7 +208,7 @@ fn draw_clashes(
     clashes: &[ToldClash],
     rows: usize,
 ) -> Result<(), AllocError> {
-    for clash in clashes {
+    for (number, clash) in clashes.iter().enumerate() {
         if let Some(why) = &clash.why
             && let Some(landing) = why.cause
             && clash.commit < rows
@@ -191,6 +216,7 @@ fn draw_clashes(
             arrow(
                 page,
                 b"clash",
+                number,
                 lane_of(shown, landing.write),
                 landing.write,
                 lane_of(shown, clash.commit),
@@ -208,11 +234,12 @@ fn draw_losses(
     losses: &[Loss],
     rows: usize,
 ) -> Result<(), AllocError> {
-    for loss in losses {
+    for (number, loss) in losses.iter().enumerate() {
         if loss.second_write < rows {
             arrow(
                 page,
                 b"loss",
+                number.saturating_add(2),
                 lane_of(shown, loss.first_write),
                 loss.first_write,
                 lane_of(shown, loss.second_write),

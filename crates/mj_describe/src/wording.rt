@@ -5,7 +5,7 @@ ghost use Rattle.mj_ask.specs.declared.ask.Reply.TheVariants as replies;
 ghost use Rattle.mj_trace.specs.Spelling.{reply_text};
 ghost use Rattle.mj_describe.specs.Words.{where_text, spot_part, spot_at, spot_text, spot_of, line_of};
 ghost use Rattle.mj_describe.specs.Words.{job_of, ask_of, reply_of, job_text, asked_text, told_text};
-ghost use Rattle.mj_describe.specs.Words.{made_text, cause_text, clash_head, why_text, clash_text, reads_text, ordered_text, loss_text};
+ghost use Rattle.mj_describe.specs.Words.{made_text, cause_text, clash_head, why_text, clash_text, looks_text, ordered_text, loss_text};
 
 use itoa::Buffer;
 use mj_ask::{Noted, Reply};
@@ -52,8 +52,8 @@ pub(crate) fn put_number(bytes: &mut Vec<u8>, number: usize) -> Result<(), Alloc
     bytes.extend_from_slice(Buffer::new().format(number).as_bytes())
 }
 
-// Puts a routine and a line to the end.
-fn put_spot(bytes: &mut Vec<u8>, routine: &Text, line: u32) -> Result<(), AllocError>
+/// Puts a routine and a line to the end.
+pub(crate) fn put_spot(bytes: &mut Vec<u8>, routine: &Text, line: u32) -> Result<(), AllocError>
     ensures { OnOk result (bytes.new.items ≡ bytes.old.items ++ spot_text (routine.now, line)) }
 {
     bytes.extend_from_slice(routine.bytes(&mut Digits::new()))?;
@@ -262,15 +262,15 @@ pub(crate) fn put_clash(
     put_why(alloc, bytes, shown, clash.why.as_ref())
 }
 
-// Puts two reads to the end.
-fn put_reads(
+// Puts two looks to the end.
+fn put_looks(
     alloc: Global,
     bytes: &mut Vec<u8>,
     shown: &Shown<'_>,
     first: usize,
     second: usize,
 ) -> Result<(), AllocError>
-    ensures { OnOk result (bytes.new.items ≡ bytes.old.items ++ reads_text shown.now first second) }
+    ensures { OnOk result (bytes.new.items ≡ bytes.old.items ++ looks_text shown.now first second) }
 {
     put_told(alloc, bytes, shown, first)?;
     put(bytes, b".\n")?;
@@ -278,7 +278,7 @@ fn put_reads(
     put(bytes, b".\n")
 }
 
-// Puts the two reads of a lost update to the end, in their order.
+// Puts the two looks of a lost update to the end, in their order.
 fn put_ordered(
     alloc: Global,
     bytes: &mut Vec<u8>,
@@ -287,10 +287,10 @@ fn put_ordered(
 ) -> Result<(), AllocError>
     ensures { OnOk result (bytes.new.items ≡ bytes.old.items ++ ordered_text shown.now loss) }
 {
-    if loss.second_read < loss.first_read {
-        put_reads(alloc, bytes, shown, loss.second_read, loss.first_read)
+    if loss.second_look < loss.first_look {
+        put_looks(alloc, bytes, shown, loss.second_look, loss.first_look)
     } else {
-        put_reads(alloc, bytes, shown, loss.first_read, loss.second_read)
+        put_looks(alloc, bytes, shown, loss.first_look, loss.second_look)
     }
 }
 

@@ -8,7 +8,8 @@ use Rattle.std.specs.Prelude.{slice_get, ◌==◌}
 use Rattle.mj_subs.specs.Name.{Name}
 use Rattle.mj_explain.specs.declared.landings.Landing.{Landing}
 use Rattle.mj_ask.specs.declared.noted.Noted.{Noted}
-use Rattle.mj_explain.specs.Events.{AreBegins, began_by, access_in, change_in, change_of, change_at, reads, sets, is_read_of, is_set_of}
+use Rattle.mj_explain.specs.Events.{AreBegins, began_by, change_in, change_of, change_at, sets, is_set_of}
+use Rattle.mj_explain.specs.Looks.{looks, is_look_of}
 use Rattle.mj_explain.specs.Landings.{made_by, made_of, made_at}
 use Rattle.mj_explain.specs.Losses.{IsOutside}
 
@@ -42,10 +43,10 @@ got xs k (Some x) is = sym (slice_get_read xs (length xs) k x.now refl is.3.0 is
 pub change_there : (es : List Noted) (k : ℕ) (e : Noted) → slice_get es k ≡ Some e → change_at es k ≡ change_in e.ask e.reply
 change_there es k e there = ap change_of there
 
--- the event at which a job reads a name, or sets it
-own_read : (job : ℕ) (n : Name) (o : Option Noted) → is_read_of job n o ≡ true → (e : Noted) × (o ≡ Some e) × (e.job ≡ job)
-own_read job n None is = cc
-own_read job n (Some e) is = (e, refl, eqb-true e.job job (and_parts (e.job == job) (reads n (access_in e.ask e.reply)) is).0)
+-- the event at which a job looks at a name, or sets it
+own_look : (job : ℕ) (n : Name) (o : Option Noted) → is_look_of job n o ≡ true → (e : Noted) × (o ≡ Some e) × (e.job ≡ job)
+own_look job n None is = cc
+own_look job n (Some e) is = (e, refl, eqb-true e.job job (and_parts (e.job == job) (looks n e.ask e.reply) is).0)
 
 own_set : (job : ℕ) (n : Name) (o : Option Noted) → is_set_of job n o ≡ true → (e : Noted) × (o ≡ Some e) × (e.job ≡ job)
 own_set job n None is = cc
@@ -56,8 +57,8 @@ module _ (es : List Noted) (begins : List (Option ℕ)) (job : ℕ) (n : Name) (
   none_open : (e : Noted) → slice_get es k ≡ Some e → e.job ≡ job → began_by job (take k es) ≡ None
   none_open e there own = subst (λ j. began_by j (take k es) ≡ None) own (begun_at es begins k e None are there none)
 
-  pub read_outside : is_read_of job n (slice_get es k) ≡ true → IsOutside es job k (λ e. is_read_of job n e)
-  read_outside does = let e = own_read job n (slice_get es k) does in record { is = does; outside = none_open e.0 e.1 e.2 }
+  pub look_outside : is_look_of job n (slice_get es k) ≡ true → IsOutside es job k (λ e. is_look_of job n e)
+  look_outside does = let e = own_look job n (slice_get es k) does in record { is = does; outside = none_open e.0 e.1 e.2 }
 
   pub set_outside : is_set_of job n (slice_get es k) ≡ true → IsOutside es job k (λ e. is_set_of job n e)
   set_outside does = let e = own_set job n (slice_get es k) does in record { is = does; outside = none_open e.0 e.1 e.2 }

@@ -8,3 +8,5 @@ pub mod Owning
 pub mod Between
 pub mod Numbered
 pub mod Losing
+pub mod Looking
+pub mod Telling

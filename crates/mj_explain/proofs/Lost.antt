@@ -6,8 +6,8 @@ use Rattle.mj_ask.specs.declared.noted.Noted.{Noted}
 use Rattle.mj_explain.specs.Losses.{IsUpdate, IsUnchanged, IsLoss}
 
 pub lost : {E : Type 0} (es : List Noted) (l : Loss) (first second : ℕ) (name : Name) → first ≢ second
-    → IsUpdate es first name l.first_read l.first_write → IsUpdate es second name l.second_read l.second_write
-    → l.second_read < l.first_write → l.first_write < l.second_write
+    → IsUpdate es first name l.first_look l.first_write → IsUpdate es second name l.second_look l.second_write
+    → l.second_look < l.first_write → l.first_write < l.second_write
     → (r : Result Bool E) → IfOk r (λ is. is ≡ true → IsUnchanged es name l.first_write l.second_write) → IfOk r (λ is. is ≡ true → IsLoss es l)
 lost es l first second name differ one other early over (Ok is) kept = λ holds. record {
   first = first;

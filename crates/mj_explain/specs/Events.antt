@@ -14,6 +14,7 @@ use Rattle.mj_ask.specs.declared.ask.Reply.{Reply}
 use Rattle.mj_ask.specs.declared.ask.Reply.TheVariants as replies
 use Rattle.mj_ask.specs.declared.noted.Noted.{Noted}
 use Rattle.mj_txlog.specs.Accesses.{is_write}
+use Rattle.mj_explain.specs.Looks.{stands_along}
 
 -- ---- transactions
 
@@ -85,22 +86,17 @@ abbrev pub is_commit : Ask → Reply → Bool
 is_commit (asks.Shared shared_asks.Commit) replies.Done = true
 is_commit _ _ = false
 
--- whether an access, if there is one, is that of the text of a name
-abbrev pub reads : Name → Option Access → Bool
-reads n (Some (accesses.Value m)) = names_eq m n
-reads n _ = false
-
--- whether it gives a name a text
+-- whether an access, if there is one, gives a name a text
 abbrev pub sets : Name → Option Access → Bool
 sets n (Some (accesses.Set m text)) = names_eq m n
 sets n _ = false
 
--- Whether an access may tell of the text that a name has, or change it. `$ORDER` and `$QUERY` may tell of each name with the same word; of what a name has, all
--- others but the reading and the setting of a text may tell by a name above it or below it.
+-- Whether an access may tell of the text that a name has, or change it. `$ORDER` may tell of the names along which it looks, and of those below them, `$QUERY` of
+-- each name with the same word; of what a name has, all others but the reading and the setting of a text may tell by a name above it or below it.
 abbrev pub touches : Name → Access → Bool
 touches n (accesses.Value m) = names_eq m n
 touches n (accesses.Set m text) = names_eq m n
-touches n (accesses.Order m way) = same_word m n
+touches n (accesses.Order m way) = stands_along n m m.subscripts
 touches n (accesses.Query m) = same_word m n
 touches n a = overlaps (name_of a) n
 
@@ -128,11 +124,6 @@ is_change_of job (Some e) = (e.job == job) && is_some (change_in e.ask e.reply)
 abbrev pub is_counted_of : ℕ → Option Noted → Bool
 is_counted_of job None = false
 is_counted_of job (Some e) = (e.job == job) && is_counted e.ask e.reply
-
--- whether a job reads the text of a name there
-abbrev pub is_read_of : ℕ → Name → Option Noted → Bool
-is_read_of job n None = false
-is_read_of job n (Some e) = (e.job == job) && reads n (access_in e.ask e.reply)
 
 -- whether a job gives a name a text there
 abbrev pub is_set_of : ℕ → Name → Option Noted → Bool

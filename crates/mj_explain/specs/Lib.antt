@@ -1,3 +1,4 @@
+pub mod Looks
 pub mod Events
 pub mod Landings
 pub mod Clashes

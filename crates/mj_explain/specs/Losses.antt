@@ -1,4 +1,4 @@
--- Updates that were lost outside transactions: a job set a name over what another had set, after a read from before.
+-- Updates that were lost outside transactions: a job set a name over what another had set, after a look from before.
 use Rattle.std.specs.Prelude.{◌≡◌, ◌≢◌, ℕ, ◌<◌, Bool, true, false, List, All, take, slice_get, Option, Some, None}
 use Rattle.std.specs.List.{list_any}
 use Rattle.mj_subs.specs.Name.{Name}
@@ -6,7 +6,8 @@ use Rattle.mj_store.specs.declared.access.Access.{Access}
 use Rattle.mj_explain.specs.declared.landings.Landing.{Landing}
 use Rattle.mj_explain.specs.declared.losses.Loss.{Loss}
 use Rattle.mj_ask.specs.declared.noted.Noted.{Noted}
-use Rattle.mj_explain.specs.Events.{began_by, change_at, touches, is_read_of, is_set_of, is_touch_of}
+use Rattle.mj_explain.specs.Events.{began_by, change_at, touches, is_set_of, is_touch_of}
+use Rattle.mj_explain.specs.Looks.{is_look_of}
 use Rattle.mj_explain.specs.Landings.{made_at}
 
 -- ---- an update
@@ -20,13 +21,13 @@ pub record IsOutside (es : List Noted) (job place : ℕ) (does : Option Noted �
 abbrev pub IsUntouched : List Noted → ℕ → Name → ℕ → ℕ → Type 0
 IsUntouched es job name from end = (k : ℕ) → from < k → k < end → is_touch_of job name (slice_get es k) ≡ false
 
--- A job reads the text of a name at one place and sets it at a later one, both outside transactions. Between them it neither looks at the name nor changes it:
--- so the read is the last that it knew of the name, and counts for this setting alone.
-pub record IsUpdate (es : List Noted) (job : ℕ) (name : Name) (read write : ℕ) : Type 0 where
-  pub reads : IsOutside es job read (λ e. is_read_of job name e)
+-- A job looks at a name at one place and sets it at a later one, both outside transactions: it reads its text, or is told that it has none. Between them it has
+-- no access that may tell of the name, or change it: so the look is the last that it knew of the name, and counts for this setting alone.
+pub record IsUpdate (es : List Noted) (job : ℕ) (name : Name) (look write : ℕ) : Type 0 where
+  pub looks : IsOutside es job look (λ e. is_look_of job name e)
   pub sets : IsOutside es job write (λ e. is_set_of job name e)
-  pub order : read < write
-  pub untouched : IsUntouched es job name read write
+  pub order : look < write
+  pub untouched : IsUntouched es job name look write
 
 -- ---- a lost one
 
@@ -43,16 +44,16 @@ are_to es n ls = list_any (λ l. is_to n (change_at es l.write)) ls
 abbrev pub IsUnchanged : List Noted → Name → ℕ → ℕ → Type 0
 IsUnchanged es name from end = (k : ℕ) → from < k → k < end → are_to es name (made_at es k) ≡ false
 
--- Two jobs update a name. The second reads it before the first sets it, and sets it behind that, and between the two settings nobody changes it. So what the
--- first set is set over by the second, which hadn't looked at that name since.
+-- Two jobs update a name. The second looks at it before the first sets it, and sets it behind that, and between the two settings nobody changes it. So what the
+-- first set is set over by the second, which hadn't looked at that name since. Where the second had been told that the name has no text, that was so no more.
 pub record IsLoss (es : List Noted) (l : Loss) : Type 0 where
   pub first : ℕ
   pub second : ℕ
   pub name : Name
   pub differ : first ≢ second
-  pub one : IsUpdate es first name l.first_read l.first_write
-  pub other : IsUpdate es second name l.second_read l.second_write
-  pub early : l.second_read < l.first_write
+  pub one : IsUpdate es first name l.first_look l.first_write
+  pub other : IsUpdate es second name l.second_look l.second_write
+  pub early : l.second_look < l.first_write
   pub over : l.first_write < l.second_write
   pub unchanged : IsUnchanged es name l.first_write l.second_write
 

@@ -1,13 +1,13 @@
 // What the events of a trace are.
 
 ghost use Rattle.std.specs.Prelude.{◌≡◌, option_copied};
-ghost use Rattle.mj_store.specs.Questions.{same_word};
 ghost use Rattle.mj_ask.specs.Keeping.{is_limit};
 ghost use Rattle.mj_explain.specs.Events.{began_after, is_change, access_in, change_in, is_counted_access, is_unlock, is_counted, is_commit};
-ghost use Rattle.mj_explain.specs.Events.{reads, sets, touches, asks_of};
-ghost use Rattle.mj_explain.specs.Events.{change_at, is_change_of, is_counted_of, is_read_of, is_set_of, is_touch_of};
+ghost use Rattle.mj_explain.specs.Events.{sets, touches, asks_of};
+ghost use Rattle.mj_explain.specs.Events.{change_at, is_change_of, is_counted_of, is_set_of, is_touch_of};
 ghost use Rattle.mj_explain.specs.Clashes.{is_clash, IsClashOf};
 
+use crate::looks::{is_same_word, stands_along};
 use mj_ask::{Ask, Clash, Noted, Reply, SharedAsk};
 use mj_store::{Access, Answer};
 use mj_subs::Name;
@@ -117,17 +117,7 @@ pub fn clash_of<'a>(ask: &Ask, reply: &'a Reply) -> Option<&'a Clash>
     }
 }
 
-// Whether an access, if there is one, is that of the text of a name.
-fn reads(name: &Name, access: Option<&Access>) -> bool
-    ensures { result ≡ reads name.now (option_copied access.entry) }
-{
-    match access {
-        Some(Access::Value(other)) => other == name,
-        _ => false,
-    }
-}
-
-// Whether it gives a name a text.
+// Whether an access, if there is one, gives a name a text.
 fn sets(name: &Name, access: Option<&Access>) -> bool
     ensures { result ≡ sets name.now (option_copied access.entry) }
 {
@@ -143,19 +133,13 @@ pub fn touches(name: &Name, access: &Access) -> bool
 {
     match access {
         Access::Value(other) | Access::Set(other, _) => other == name,
-        Access::Order(other, _) | Access::Query(other) => is_same_word(other, name),
+        Access::Order(other, _) => stands_along(name, other),
+        Access::Query(other) => is_same_word(other, name),
         Access::Data(other)
         | Access::Subtree(other)
         | Access::Kill(other)
         | Access::Put(other, _) => other.overlap(name),
     }
-}
-
-// Whether names are of one kind and word.
-fn is_same_word(one: &Name, other: &Name) -> bool
-    ensures { result ≡ same_word one.now other.now }
-{
-    one.is_global() == other.is_global() && one.word() == other.word()
 }
 
 // Whether what is asked is such an access.
@@ -193,16 +177,6 @@ pub fn is_counted_of(job: u32, event: Option<&Noted>) -> bool
     match event {
         None => false,
         Some(event) => event.job == job && is_counted(&event.ask, &event.reply),
-    }
-}
-
-/// Whether a job reads the text of a name there.
-pub fn is_read_of(job: u32, name: &Name, event: Option<&Noted>) -> bool
-    ensures { result ≡ is_read_of job name.now (option_copied event.entry) }
-{
-    match event {
-        None => false,
-        Some(event) => event.job == job && reads(name, access_in(&event.ask, &event.reply)),
     }
 }
 

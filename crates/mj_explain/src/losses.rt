@@ -1,24 +1,26 @@
 // Updates that were lost outside transactions.
 
 ghost use Rattle.std.specs.Prelude.{◌≡◌, ◌<◌, ◌≤◌, ℕ, true, false, All, length, slice_get, IfOk, IsTrue, Some, None, option_copied};
-ghost use Rattle.mj_explain.specs.Events.{AreBegins, is_read_of, is_set_of, is_touch_of, touches};
+ghost use Rattle.mj_explain.specs.Events.{AreBegins, is_set_of, is_touch_of, touches};
+ghost use Rattle.mj_explain.specs.Looks.{is_look_of};
 ghost use Rattle.mj_explain.specs.Landings.{made_at};
 ghost use Rattle.mj_explain.specs.Losses.{IsOutside, IsUntouched, IsUpdate, IsLoss, IsUnchanged, is_to, are_to};
 
-use crate::events::{change_at, is_read_of, is_set_of, is_touch_of, touches};
+use crate::events::{change_at, is_set_of, is_touch_of, touches};
 use crate::landings::{Landing, made_at};
+use crate::looks::is_look_of;
 use mj_ask::{Ask, Noted, SharedAsk};
 use mj_store::Access;
 use mj_subs::Name;
 use std::alloc::{AllocError, Global};
 
-/// An update that was lost, by the places of four events. What the first job set, the second has set anew, and had read before.
+/// An update that was lost, by the places of four events. What the first job set, the second has set anew, and had looked at before.
 #[derive(Clone, Copy, PartialEq, Eq, Debug)]
 pub struct Loss {
-    /// the first job reads
-    pub first_read: usize,
-    /// the second job reads
-    pub second_read: usize,
+    /// the first job looks at the name
+    pub first_look: usize,
+    /// the second job looks at it
+    pub second_look: usize,
     /// the first job sets
     pub first_write: usize,
     /// the second job sets
@@ -54,7 +56,7 @@ pub fn is_loss(
         begins,
         first,
         name,
-        loss.first_read,
+        loss.first_look,
         loss.first_write,
     ) {
         return Ok(false);
@@ -64,7 +66,7 @@ pub fn is_loss(
         begins,
         second,
         name,
-        loss.second_read,
+        loss.second_look,
         loss.second_write,
     ) {
         return Ok(false);
@@ -79,46 +81,46 @@ pub fn is_loss(
     )
 }
 
-// Whether the second reads before the first sets, and sets last.
+// Whether the second looks before the first sets, and sets last.
 fn is_in_order(loss: Loss) -> bool
-    ensures early { result ≡ true → loss.second_read < loss.first_write }
+    ensures early { result ≡ true → loss.second_look < loss.first_write }
     ensures over { result ≡ true → loss.first_write < loss.second_write }
 {
-    loss.second_read < loss.first_write && loss.first_write < loss.second_write
+    loss.second_look < loss.first_write && loss.first_write < loss.second_write
 }
 
-// Whether a job reads a name and then sets it, and neither looks at it nor changes it between.
+// Whether a job looks at a name and then sets it, and neither looks at it nor changes it between.
 fn is_update(
     events: &[Noted],
     begins: &[Option<usize>],
     job: u32,
     name: &Name,
-    read: usize,
+    look: usize,
     write: usize,
 ) -> bool
     requires begins { AreBegins events.now begins.now }
-    ensures { result ≡ true → IsUpdate events.now job name.now read write }
+    ensures { result ≡ true → IsUpdate events.now job name.now look write }
 {
-    read < write
-        && reads_and_sets(events, begins, job, name, read, write)
-        && is_untouched(events, job, name, read, write)
+    look < write
+        && looks_and_sets(events, begins, job, name, look, write)
+        && is_untouched(events, job, name, look, write)
 }
 
-// Whether a job reads a name at one place and sets it at another, both outside transactions.
-fn reads_and_sets(
+// Whether a job looks at a name at one place and sets it at another, both outside transactions.
+fn looks_and_sets(
     events: &[Noted],
     begins: &[Option<usize>],
     job: u32,
     name: &Name,
-    read: usize,
+    look: usize,
     write: usize,
 ) -> bool
     requires begins { AreBegins events.now begins.now }
-    ensures reads { result ≡ true → IsOutside events.now job read (λ e. is_read_of job name.now e) }
+    ensures looks { result ≡ true → IsOutside events.now job look (λ e. is_look_of job name.now e) }
     ensures sets { result ≡ true → IsOutside events.now job write (λ e. is_set_of job name.now e) }
 {
-    is_read_of(job, name, events.get(read))
-        && is_outside(begins, read)
+    is_look_of(job, name, events.get(look))
+        && is_outside(begins, look)
         && is_set_of(job, name, events.get(write))
         && is_outside(begins, write)
 }

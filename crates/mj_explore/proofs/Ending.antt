@@ -1,14 +1,14 @@
 -- Ends, one after the other.
-use Rattle.std.proofs.Common.{◌≡◌, ℕ, suc, ◌+◌, List, [], ◌∷◌, ◌++◌, length, map, decimal, refl, sym, ap, ◌∙◌, subst, arith}
+use Rattle.std.proofs.Common.{◌≡◌, ℕ, suc, ◌+◌, List, [], ◌∷◌, ◌++◌, map, refl, sym, ap, ◌∙◌, subst, arith}
 use Rattle.std.proofs.lemmas.List.{map-append}
-use Rattle.mj_explore.specs.Ends.{outputs_of, noted, different_behind, different}
+use Rattle.mj_explore.specs.Ends.{output_text, outputs_of, noted, different_behind, different}
 
 -- what one job more wrote
 pub outputs_on : (output : ℕ → List ℕ) (done : ℕ) (front bytes more : List ℕ) → bytes ≡ front ++ outputs_of output done
-    → more ≡ bytes ++ (decimal (length (output (done + 1))) ++ 10 ∷ output (done + 1)) → more ≡ front ++ outputs_of output (done + 1)
+    → more ≡ bytes ++ output_text (done + 1) (output (done + 1)) → more ≡ front ++ outputs_of output (done + 1)
 outputs_on output done front bytes more h e =
     let next : suc done ≡ done + 1 = omega arith in
-    let line : ℕ → List ℕ = λ n. decimal (length (output n)) ++ 10 ∷ output n in
+    let line : ℕ → List ℕ = λ n. output_text n (output n) in
     let P : ℕ → Type 0 = λ n. more ≡ front ++ outputs_of output n in
     let Q : ℕ → Type 0 = λ n. more ≡ bytes ++ line n in
     subst P next

@@ -1,7 +1,9 @@
 mod Adding
 mod Counting
+mod Faulting
 mod Holding
 mod Loading
 mod Principals
 mod Ending
 mod Making
+mod Noting

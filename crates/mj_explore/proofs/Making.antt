@@ -1,13 +1,14 @@
 -- Runs, one after the other.
-use Rattle.std.specs.Prelude.{All, IfOk, IfSome, OnSome, not}
+use Rattle.std.specs.Prelude.{All, IfSome, OnSome, nat_lt, min, cond, if◌then◌else◌}
+use Rattle.std.specs.List.{count_by}
 use Rattle.std.specs.Str.{bytes_eq}
-use Rattle.std.proofs.Common.{◌≡◌, ℕ, ◌+◌, List, [], ◌∷◌, ◌++◌, Option, Some, None, Result, Ok, Err, Bool, true, codes, length, map, refl, sym, ap, ◌∙◌, subst, arith}
-use Rattle.std.proofs.lemmas.List.{length-append}
+use Rattle.std.proofs.Common.{◌≡◌, ℕ, ◌+◌, ◌-◌, ◌^◌, ◌≤◌, List, [], ◌∷◌, ◌++◌, Option, Some, None, Bool, true, false, codes, length, map, refl, sym, ap, ◌∙◌, subst, arith}
+use Rattle.std.proofs.lemmas.List.{length-append, map-append}
+use Rattle.std.proofs.lemmas.List.Sums.{count_by-le-length, sum_by_push}
 use Rattle.std.proofs.lemmas.List.Elements.{All-push}
 use Rattle.mj_sys.specs.Shared.{Shared}
-use Rattle.mj_sys.specs.History.{History}
 use Rattle.mj_explore.specs.Scripts.{Scripted}
-use Rattle.mj_explore.specs.Ends.{end_text, noted, different}
+use Rattle.mj_explore.specs.Ends.{IsNoted, end_text, noted, different, often, once_more, texts_of}
 use Rattle.mj_load.specs.Image.{Loaded, program_of}
 use Rattle.mj_steps.specs.declared.step.Step.{Step}
 use Rattle.mj_steps.specs.declared.drive.Ending.{Ending}
@@ -20,32 +21,101 @@ use Rattle.mj_run.specs.Stepping.{StepsAs, AreSteps}
 use Rattle.mj_run.proofs.Stepping.{steps_image}
 use Rattle.mj_explore.specs.declared.goals.Goal.{Goal}
 use Rattle.mj_explore.specs.Scripts.{IsImageOf}
-use Rattle.mj_explore.specs.Marks.{is_over}
-use Rattle.mj_explore.specs.Found.{IsMade, IsMadeAndNoted, WereMade, AreMade, Shows, IsShownFor, IsFound, IsFoundFor, IsJudged, by_memory}
+use Rattle.mj_explore.specs.declared.marks.Mark.TheVariants as marks
+use Rattle.mj_explore.specs.declared.fates.Fate.{Fate}
+use Rattle.mj_explore.specs.declared.fates.Fate.TheVariants as fates
+use Rattle.mj_explore.specs.declared.goals.Finding.{Finding}
+use Rattle.mj_explore.specs.declared.conditions.Verdict.{Verdict}
+use Rattle.mj_text.specs.declared.fault.Fault.{Fault}
+use Rattle.mj_explore.specs.declared.ends.End.{End}
+use Rattle.mj_explore.specs.declared.exploring.Tally.{Tally}
+use Rattle.mj_explore.specs.Marks.{bears, fault_in, is_over}
+use Rattle.mj_explore.specs.Found.{Ran, IsRan, IsCome, IsFateOf, AreTallied, ends_in, has_faulted, is_fate_stuck, is_fate_stopped, WereMade, AreMade}
+use Rattle.mj_explore.specs.Found.{IsShownFor, IsFoundFor, IsJudged, by_memory, found_verdict, verdict_by}
 use Rattle.mj_explore.proofs.Ending.{one_more}
 
--- so many runs were made, of which these are the different ends
-pub record AreNoted (script : Scripted) (opening : Shared) (runs : ℕ) (ends : List (List ℕ)) : Type 0 where
-  pub histories : List History
-  pub each : All (IsMade script opening) histories
-  pub count : length histories ≡ runs
-  pub seen : ends ≡ different (map (end_text opening) histories)
+-- so many runs were made, these are their different ends, each with how many had it, and so many came to what
+pub record AreNoted (script : Scripted) (opening : Shared) (runs : ℕ) (ends : List End) (tally : Tally) : Type 0 where
+  pub rans : List Ran
+  pub each : All (IsRan script opening) rans
+  pub count : length rans ≡ runs
+  pub texts : texts_of ends ≡ different (ends_in opening rans)
+  pub often_had : (text : List ℕ) → often ends text ≡ min (count_by (λ had. bytes_eq had text) (ends_in opening rans)) (2 ^ 32 - 1)
+  pub tallied : AreTallied rans tally
 
-pub none : (script : Scripted) (opening : Shared) (ends : List (List ℕ)) → ends ≡ [] → AreNoted script opening 0 ends
-none script opening ends is = record { histories = []; each = λ k d less. absurd (omega (arith, less)); count = refl; seen = is }
-
-pub more : (script : Scripted) (opening : Shared) (runs : ℕ) (old new : List (List ℕ)) → AreNoted script opening runs old → IsMadeAndNoted script opening old new
-    → AreNoted script opening (runs + 1) new
-more script opening runs old new are (history, made, is) = record {
-  histories = are.histories ++ history ∷ [];
-  each = All-push (IsMade script opening) are.histories history are.each made;
-  count = omega (arith, length-append are.histories (history ∷ []), are.count);
-  seen = is ∙ ap (λ seen. noted seen (end_text opening history)) are.seen ∙ sym (one_more (end_text opening) are.histories history);
+pub none : (script : Scripted) (opening : Shared) (ends : List End) (tally : Tally) → ends ≡ [] → tally ≡ record { faulted = 0; stuck = 0; stopped = 0 }
+    → AreNoted script opening 0 ends tally
+none script opening ends tally is zero = record {
+  rans = [];
+  each = λ k d less. absurd (omega (arith, less));
+  count = refl;
+  texts = ap texts_of is;
+  often_had = λ text. ap (λ (es : List End). often es text) is;
+  tallied = record { faulted = ap (λ (t : Tally). t.faulted) zero; stuck = ap (λ (t : Tally). t.stuck) zero; stopped = ap (λ (t : Tally). t.stopped) zero };
 }
 
-pub were : (script : Scripted) (opening : Shared) (runs ends : ℕ) (seen : List (List ℕ)) → AreNoted script opening runs seen → ends ≡ length seen
-    → WereMade script opening runs ends
-were script opening runs ends seen are is = (are.histories, are.each, sym are.count, is ∙ ap length are.seen)
+-- one more that is so, or not
+pub counts_on : {X : Type 0} (p : X → Bool) (xs : List X) (x : X) (old new : ℕ) (is : Bool) → old ≡ count_by p xs → is ≡ p x → new ≡ old + cond is 1 0
+    → new ≡ count_by p (xs ++ x ∷ [])
+counts_on p xs x old new is was same grows =
+    grows ∙ ap (λ (n : ℕ). n + cond is 1 0) was ∙ ap (λ (b : Bool). count_by p xs + cond b 1 0) same ∙ sym (sum_by_push (λ y. cond (p y) 1 0) xs x)
+
+once_on : (b : Bool) (n : ℕ) → (if b then once_more (min n (2 ^ 32 - 1)) else min n (2 ^ 32 - 1)) ≡ min (n + cond b 1 0) (2 ^ 32 - 1)
+once_on true n = omega arith
+once_on false n = omega arith
+
+-- a text that one run more had, or not
+often_on : (text had : List ℕ) (texts : List (List ℕ)) (old new : ℕ) → old ≡ min (count_by (λ t. bytes_eq t text) texts) (2 ^ 32 - 1)
+    → new ≡ (if bytes_eq had text then once_more old else old) → new ≡ min (count_by (λ t. bytes_eq t text) (texts ++ had ∷ [])) (2 ^ 32 - 1)
+often_on text had texts old new was is =
+    is ∙ ap (λ (n : ℕ). if bytes_eq had text then once_more n else n) was ∙ once_on (bytes_eq had text) (count_by (λ t. bytes_eq t text) texts)
+    ∙ ap (λ (n : ℕ). min n (2 ^ 32 - 1)) (sym (sum_by_push (λ t. cond (bytes_eq t text) 1 0) texts had))
+
+-- what one run more adds to what came to what
+pub record IsTalliedOn (faulted : Bool) (fate : Fate) (old new : Tally) : Type 0 where
+  pub faults : new.faulted ≡ old.faulted + cond faulted 1 0
+  pub stuck : new.stuck ≡ old.stuck + cond (is_fate_stuck fate) 1 0
+  pub stopped : new.stopped ≡ old.stopped + cond (is_fate_stopped fate) 1 0
+
+pub more : (script : Scripted) (opening : Shared) (runs : ℕ) (old new : List End) (was tally : Tally) (faulted : Bool) (fate : Fate)
+    → AreNoted script opening runs old was → IsCome script opening faulted fate old new → IsTalliedOn faulted fate was tally
+    → AreNoted script opening (runs + 1) new tally
+more script opening runs old new was tally faulted fate are is on =
+    let f : Ran → List ℕ = λ ran. end_text opening ran.history in
+    let fates : Ran → Fate = λ ran. ran.fate in
+    record {
+      rans = are.rans ++ is.ran ∷ [];
+      each = All-push (IsRan script opening) are.rans is.ran are.each is.is;
+      count = omega (arith, length-append are.rans (is.ran ∷ []), are.count);
+      texts = is.noted.texts ∙ ap (λ seen. noted seen (f is.ran)) are.texts ∙ sym (one_more f are.rans is.ran);
+      often_had = λ text.
+          often_on text (f is.ran) (ends_in opening are.rans) (often old text) (often new text) (are.often_had text) (is.noted.counted text)
+          ∙ ap (λ (texts : List (List ℕ)). min (count_by (λ had. bytes_eq had text) texts) (2 ^ 32 - 1)) (sym (map-append f are.rans (is.ran ∷ [])));
+      tallied = record {
+        faulted = counts_on has_faulted are.rans is.ran was.faulted tally.faulted faulted are.tallied.faulted is.faults on.faults;
+        stuck = counts_on (λ ran. is_fate_stuck ran.fate) are.rans is.ran was.stuck tally.stuck (is_fate_stuck fate) are.tallied.stuck (ap is_fate_stuck is.becomes) on.stuck;
+        stopped = counts_on (λ ran. is_fate_stopped ran.fate) are.rans is.ran was.stopped tally.stopped (is_fate_stopped fate) are.tallied.stopped
+            (ap is_fate_stopped is.becomes) on.stopped;
+      };
+    }
+
+pub were : (script : Scripted) (opening : Shared) (runs : ℕ) (ends : List End) (tally : Tally) → AreNoted script opening runs ends tally
+    → WereMade script opening runs ends tally
+were script opening runs ends tally are =
+    record { rans = are.rans; each = are.each; count = sym are.count; texts = are.texts; often_had = are.often_had; tallied = are.tallied }
+
+-- no more came to something than were made
+pub record AreFew (runs : ℕ) (tally : Tally) : Type 0 where
+  pub faulted : tally.faulted ≤ runs
+  pub stuck : tally.stuck ≤ runs
+  pub stopped : tally.stopped ≤ runs
+
+pub few : (script : Scripted) (opening : Shared) (runs : ℕ) (ends : List End) (tally : Tally) → AreNoted script opening runs ends tally → AreFew runs tally
+few script opening runs ends tally are = record {
+  faulted = omega (arith, are.count, are.tallied.faulted, count_by-le-length has_faulted are.rans);
+  stuck = omega (arith, are.count, are.tallied.stuck, count_by-le-length (λ (ran : Ran). is_fate_stuck ran.fate) are.rans);
+  stopped = omega (arith, are.count, are.tallied.stopped, count_by-le-length (λ (ran : Ran). is_fate_stopped ran.fate) are.rans);
+}
 
 -- ---- one run
 
@@ -56,10 +126,21 @@ are_made script opening steps ending old core image is begins listed =
     let P : Shown → Type 0 = λ s. ByList (StepsAs by_memory opening) 0 steps s ending core in
     (image, is, subst P begins listed)
 
--- they leave a history, whose end is noted
-pub is_noted : (script : Scripted) (opening : Shared) (steps : List Step) (ending : Ending) (core : Shown) (old new : List (List ℕ))
-    → AreMade script opening steps ending core → new ≡ noted old (end_text opening core.history) → IsMadeAndNoted script opening old new
-is_noted script opening steps ending core old new made is = (core.history, (steps, ending, core, made, refl), is)
+-- what is noted is the text that this is
+pub noted_as : {text had : List ℕ} {old new : List End} → text ≡ had → IsNoted text old new → IsNoted had old new
+noted_as {old = old} {new = new} same is = let P : List ℕ → Type 0 = λ t. IsNoted t old new in subst P same is
+
+-- what came of a run that steps leave
+pub is_come : (script : Scripted) (opening : Shared) (steps : List Step) (ending : Ending) (core : Shown) (faulted : Bool) (fate : Fate) (old new : List End)
+    → AreMade script opening steps ending core → IsFateOf fate (program_of core.image) opening core.history
+    → faulted ≡ nat_lt 0 (count_by (bears marks.Fault) core.history) → IsNoted (end_text opening core.history) old new → IsCome script opening faulted fate old new
+is_come script opening steps ending core faulted fate old new made becomes faults noted_so = record {
+  ran = record { history = core.history; fate = fate };
+  is = record { steps = steps; ending = ending; core = core; made = made; left = refl; fate = becomes };
+  faults = faults;
+  becomes = refl;
+  noted = noted_so;
+}
 
 -- the routines stay those of the script
 pub still_of : (script : Scripted) (opening : Shared) (old core : Shown) (image : Loaded) → IsImageOf script.sources image → old ≡ begun image
@@ -70,37 +151,22 @@ still_of script opening old core image is begins run =
     subst P (sym same) is
 
 -- a run that shows what is looked for is found by its steps
-pub found_for : (script : Scripted) (opening : Shared) (goal : Option Goal) (steps : List Step) (core : Shown) → AreMade script opening steps endings.Over core
-    → IsShownFor goal (program_of core.image) opening core.history → IsFoundFor script goal opening steps
-found_for script opening None steps core made shown = shown
-found_for script opening (Some goal) steps core made shown = (core, made, shown)
+pub found_for : (script : Scripted) (opening : Shared) (goal : Option Goal) (finding : Finding) (steps : List Step) (core : Shown)
+    → AreMade script opening steps endings.Over core → IsShownFor goal finding (program_of core.image) opening core.history
+    → IsFoundFor script goal finding opening steps
+found_for script opening None finding steps core made shown = shown
+found_for script opening (Some goal) finding steps core made shown = (core, made, shown)
 
--- where it is told of a run that it shows it, of its steps, and that they were all made
-pub all_found : {V E : Type 0} (items : V → List Step) (script : Scripted) (opening : Shared) (goal : Option Goal) (made : List Step) (ending : Ending) (core : Shown)
-    (result : Result (Option V) E) → AreMade script opening made ending core
-    → IfOk result (λ found. OnSome found (IsShownFor goal (program_of core.image) opening core.history))
-    → IfOk result (λ found. IfSome found (λ steps. items steps ≡ made)) → IfOk result (λ found. OnSome found (ending ≡ endings.Over))
-    → IfOk result (λ found. IfSome found (λ steps. IsFoundFor script goal opening (items steps)))
-all_found items script opening goal made ending core (Err e) made_so shown same over = tt
-all_found items script opening goal made ending core (Ok None) made_so shown same over = tt
-all_found items script opening goal made ending core (Ok (Some steps)) made_so shown same over =
-    let R : Ending → Type 0 = λ e. AreMade script opening made e core in
-    let S : List Step → Type 0 = λ s. AreMade script opening s endings.Over core in
-    found_for script opening goal (items steps) core (subst S (sym same) (subst R over made_so)) shown
-
--- where it is told of steps that were all made whether what they left shows it
-pub found_where : {E : Type 0} (script : Scripted) (opening : Shared) (goal : Goal) (steps : List Step) (core : Shown) (result : Result Bool E)
-    → AreMade script opening steps endings.Over core → IfOk result (λ is. is ≡ true → Shows goal (program_of core.image) opening core.history)
-    → IfOk result (λ is. is ≡ true → IsFound script goal opening steps)
-found_where script opening goal steps core (Err e) made shown = tt
-found_where script opening goal steps core (Ok is) made shown = λ t. (core, made, shown t)
+-- where it is told of a run in which way it shows it, and that its steps were all made
+pub all_found : (script : Scripted) (opening : Shared) (goal : Option Goal) (steps : List Step) (ending : Ending) (core : Shown) (shown : Option Finding)
+    → AreMade script opening steps ending core → IfSome shown (λ finding. IsShownFor goal finding (program_of core.image) opening core.history)
+    → OnSome shown (ending ≡ endings.Over) → IfSome shown (λ finding. IsFoundFor script goal finding opening steps)
+all_found script opening goal steps ending core None made is over = tt
+all_found script opening goal steps ending core (Some finding) made is over =
+    let R : Ending → Type 0 = λ e. AreMade script opening steps e core in
+    found_for script opening goal finding steps core (subst R over made) is
 
 -- ---- a run that judges
-
--- what holds anyway is told where memory was there
-pub told_ok : {A E : Type 0} (P : Type 0) (result : Result A E) → P → IfOk result (λ a. P)
-told_ok P (Err e) holds = tt
-told_ok P (Ok a) holds = holds
 
 -- what is told of a value that is there
 pub where_some : {A : Type 0} (P : A → Type 0) (o : Option A) (a : A) → o ≡ Some a → IfSome o P → P a
@@ -108,15 +174,23 @@ where_some {A = A} P o a is told =
     let Q : Option A → Type 0 = λ o. IfSome o P in
     subst Q is told
 
--- the jobs of an expression's script came to their end, and this is what the first wrote
-pub is_judged : (script : Scripted) (opening : Shared) (old core : Shown) (image : Loaded) (untrue : Bool) (out : List ℕ) → IsImageOf script.sources image
-    → old ≡ begun image → AreSteps by_memory opening old core → IsRun (program_of core.image) opening core.history → is_over opening core.history ≡ true
-    → out ≡ out_of core.history 1 principal 1 → untrue ≡ not (bytes_eq out (codes "1")) → IsJudged script opening untrue
-is_judged script opening old core image answer out is begins steps run over wrote says = (
-  core.image,
-  core.history,
-  still_of script opening old core image is begins steps,
-  run,
-  over,
-  says ∙ ap (λ o. not (bytes_eq o (codes "1"))) wrote,
-)
+-- what an expression that comes to this is found to be shows it
+pub found_so : (P : Verdict → Type 0) (verdict : Verdict) (o : Option Finding) → P verdict → IfSome o (λ finding. verdict ≡ found_verdict finding)
+    → IfSome o (λ finding. P (found_verdict finding))
+found_so P verdict None holds is = tt
+found_so P verdict (Some finding) holds is = subst P is holds
+
+-- the jobs of an expression's script came to their end, by this fault, if there is one, and this is what the first wrote
+pub is_judged : (script : Scripted) (opening : Shared) (old core : Shown) (image : Loaded) (verdict : Verdict) (fault : Option Fault) (is_one : Bool) (out : List ℕ)
+    → IsImageOf script.sources image → old ≡ begun image → AreSteps by_memory opening old core → IsRun (program_of core.image) opening core.history
+    → is_over opening core.history ≡ true → out ≡ out_of core.history 1 principal 1 → is_one ≡ bytes_eq out (codes "1") → fault ≡ fault_in core.history
+    → verdict ≡ verdict_by fault is_one → IsJudged script opening verdict
+is_judged script opening old core image verdict fault is_one out is begins steps run over wrote one ended comes =
+    let one_wrote : is_one ≡ bytes_eq (out_of core.history 1 principal 1) (codes "1") = one ∙ ap (λ o. bytes_eq o (codes "1")) wrote in (
+      core.image,
+      core.history,
+      still_of script opening old core image is begins steps,
+      run,
+      over,
+      comes ∙ ap (λ (f : Option Fault). verdict_by f is_one) ended ∙ ap (verdict_by (fault_in core.history)) one_wrote,
+    )

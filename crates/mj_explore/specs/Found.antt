@@ -1,7 +1,8 @@
 -- What runs by chance come to. A run by chance may be any list of steps.
-use Rattle.std.specs.Prelude.{◌≡◌, ◌<◌, ℕ, List, length, map, Bool, true, false, not, Option, Some, None, All, ◌⊎◌, codes}
+use Rattle.std.specs.Prelude.{◌≡◌, ◌<◌, ℕ, ◌-◌, ◌^◌, min, nat_lt, List, length, map, Bool, true, false, Option, Some, None, All, ◌⊎◌, codes}
 use Rattle.std.specs.List.{count_by}
 use Rattle.std.specs.Str.{bytes_eq}
+use Rattle.mj_text.specs.declared.fault.Fault.{Fault}
 use Rattle.mj_ask.specs.Fits.{timeout_of}
 use Rattle.mj_semantics.specs.Program.{Program}
 use Rattle.mj_dev.specs.Shelves.{principal}
@@ -23,9 +24,17 @@ use Rattle.mj_core.specs.Shown.{AtAsk, Shown, begun}
 use Rattle.mj_run.specs.Stepping.{StepsAs}
 use Rattle.mj_explore.specs.declared.goals.Goal.{Goal}
 use Rattle.mj_explore.specs.declared.goals.Goal.TheVariants as goals
+use Rattle.mj_explore.specs.declared.goals.Finding.{Finding}
+use Rattle.mj_explore.specs.declared.goals.Finding.TheVariants as findings
+use Rattle.mj_explore.specs.declared.conditions.Verdict.{Verdict}
+use Rattle.mj_explore.specs.declared.conditions.Verdict.TheVariants as verdicts
 use Rattle.mj_explore.specs.declared.marks.Mark.TheVariants as marks
-use Rattle.mj_explore.specs.Marks.{bears, is_over}
-use Rattle.mj_explore.specs.Ends.{end_text, noted, different}
+use Rattle.mj_explore.specs.declared.fates.Fate.{Fate}
+use Rattle.mj_explore.specs.declared.fates.Fate.TheVariants as fates
+use Rattle.mj_explore.specs.declared.ends.End.{End}
+use Rattle.mj_explore.specs.declared.exploring.Tally.{Tally}
+use Rattle.mj_explore.specs.Marks.{bears, fault_in, is_over}
+use Rattle.mj_explore.specs.Ends.{IsNoted, end_text, different, often, texts_of}
 use Rattle.mj_explore.specs.Scripts.{Scripted, IsImageOf, opening_in}
 
 -- devices in memory, of whose calls the replies come
@@ -44,51 +53,122 @@ abbrev pub IsStuck : Program → Shared → History → Type 0
 IsStuck program opening history =
     (is_over opening history ≡ false) × ((job : ℕ) → IsLive (state_of opening history).rows job → IsHeld program opening history job)
 
--- An expression was judged over the globals with which this opening begins: a run of the script that writes 1 where it is true came to its end, and
--- wrote that or something else.
-abbrev pub IsJudged : Scripted → Shared → Bool → Type 0
-IsJudged script opening untrue =
-    (image : Loaded) × (history : History) × IsImageOf script.sources image × IsRun (program_of image) opening history × (is_over opening history ≡ true)
-    × (untrue ≡ not (bytes_eq (out_of history 1 principal 1) (codes "1")))
+-- what an expression comes to, by the fault by which its run ended, if there is one, and by whether that run wrote 1
+abbrev pub verdict_by : Option Fault → Bool → Verdict
+verdict_by (Some fault) is = verdicts.Faults fault
+verdict_by None true = verdicts.Holds
+verdict_by None false = verdicts.Untrue
 
--- a history shows what is looked for
-abbrev pub Shows : Goal → Program → Shared → History → Type 0
-Shows goals.Fault program opening history = 0 < count_by (bears marks.Fault) history
-Shows goals.Stuck program opening history = IsStuck program opening history
-Shows goals.Clash program opening history = 0 < count_by (bears marks.Clash) history
-Shows (goals.False condition) program opening history =
-    (is_over opening history ≡ true) × IsJudged condition (opening_in condition (state_of opening history).globals) true
+-- what it comes to in a history of its script
+abbrev pub verdict_in : History → Verdict
+verdict_in history = verdict_by (fault_in history) (bytes_eq (out_of history 1 principal 1) (codes "1"))
+
+-- An expression was judged over the globals with which this opening begins: a run of the script that writes 1 where it is true came to its end, and
+-- this is what it comes to there.
+abbrev pub IsJudged : Scripted → Shared → Verdict → Type 0
+IsJudged script opening verdict =
+    (image : Loaded) × (history : History) × IsImageOf script.sources image × IsRun (program_of image) opening history × (is_over opening history ≡ true)
+    × (verdict ≡ verdict_in history)
+
+-- all jobs have ended, and over the globals that they left an expression comes to this
+abbrev pub EndsJudged : Scripted → Verdict → Shared → History → Type 0
+EndsJudged condition verdict opening history =
+    (is_over opening history ≡ true) × IsJudged condition (opening_in condition (state_of opening history).globals) verdict
+
+-- what an expression comes to that is found so: it is untrue, or it faults
+abbrev pub found_verdict : Finding → Verdict
+found_verdict findings.Sought = verdicts.Untrue
+found_verdict (findings.Faulty fault) = verdicts.Faults fault
+
+-- that is what is looked for, and no expression faults
+abbrev pub IsSought : Finding → Type 0 → Type 0
+IsSought findings.Sought shown = shown
+IsSought (findings.Faulty fault) shown = ⊥
+
+-- a history shows what is looked for, in this way
+abbrev pub Shows : Goal → Finding → Program → Shared → History → Type 0
+Shows goals.Fault finding program opening history = IsSought finding (0 < count_by (bears marks.Fault) history)
+Shows goals.Stuck finding program opening history = IsSought finding (IsStuck program opening history)
+Shows goals.Clash finding program opening history = IsSought finding (0 < count_by (bears marks.Clash) history)
+Shows (goals.False condition) finding program opening history = EndsJudged condition (found_verdict finding) opening history
 
 -- and so if something is looked for
-abbrev pub IsShownFor : Option Goal → Program → Shared → History → Type 0
-IsShownFor None program opening history = ⊥
-IsShownFor (Some goal) program opening history = Shows goal program opening history
+abbrev pub IsShownFor : Option Goal → Finding → Program → Shared → History → Type 0
+IsShownFor None finding program opening history = ⊥
+IsShownFor (Some goal) finding program opening history = Shows goal finding program opening history
 
 -- These steps were made, one after the other, on a core of the script's routines of which nothing was asked yet, and left it so.
 abbrev pub AreMade : Scripted → Shared → List Step → Ending → Shown → Type 0
 AreMade script opening steps ending core =
     (image : Loaded) × IsImageOf script.sources image × ByList (StepsAs by_memory opening) 0 steps (begun image) ending core
 
--- They were all made so, and what they left shows what is looked for.
-abbrev pub IsFound : Scripted → Goal → Shared → List Step → Type 0
-IsFound script goal opening steps =
-    (core : Shown) × AreMade script opening steps endings.Over core × Shows goal (program_of core.image) opening core.history
+-- They were all made so, and what they left shows what is looked for, in this way.
+abbrev pub IsFound : Scripted → Goal → Finding → Shared → List Step → Type 0
+IsFound script goal finding opening steps =
+    (core : Shown) × AreMade script opening steps endings.Over core × Shows goal finding (program_of core.image) opening core.history
 
 -- and so if something is looked for
-abbrev pub IsFoundFor : Scripted → Option Goal → Shared → List Step → Type 0
-IsFoundFor script None opening steps = ⊥
-IsFoundFor script (Some goal) opening steps = IsFound script goal opening steps
+abbrev pub IsFoundFor : Scripted → Option Goal → Finding → Shared → List Step → Type 0
+IsFoundFor script None finding opening steps = ⊥
+IsFoundFor script (Some goal) finding opening steps = IsFound script goal finding opening steps
 
--- a history is one that steps leave, made so
-abbrev pub IsMade : Scripted → Shared → History → Type 0
-IsMade script opening history = (steps : List Step) × (ending : Ending) × (core : Shown) × AreMade script opening steps ending core × (core.history ≡ history)
+-- what has become of the jobs of a run
+abbrev pub IsFateOf : Fate → Program → Shared → History → Type 0
+IsFateOf fates.Over program opening history = is_over opening history ≡ true
+IsFateOf fates.Stuck program opening history = IsStuck program opening history
+IsFateOf fates.Stopped program opening history = is_over opening history ≡ false
 
--- so many runs were made, which have so many different ends
-abbrev pub WereMade : Scripted → Shared → ℕ → ℕ → Type 0
-WereMade script opening runs ends =
-    (histories : List History) × All (IsMade script opening) histories × (runs ≡ length histories)
-    × (ends ≡ length (different (map (end_text opening) histories)))
+-- a run that was made: what was asked and told, and what became of its jobs
+pub record Ran : Type 0 where
+  pub history : History
+  pub fate : Fate
 
--- one run was made, and its end noted
-abbrev pub IsMadeAndNoted : Scripted → Shared → List (List ℕ) → List (List ℕ) → Type 0
-IsMadeAndNoted script opening old new = (history : History) × IsMade script opening history × (new ≡ noted old (end_text opening history))
+-- steps leave it, made so
+pub record IsRan (script : Scripted) (opening : Shared) (ran : Ran) : Type 0 where
+  pub steps : List Step
+  pub ending : Ending
+  pub core : Shown
+  pub made : AreMade script opening steps ending core
+  pub left : core.history ≡ ran.history
+  pub fate : IsFateOf ran.fate (program_of core.image) opening ran.history
+
+-- in a run a job ended by a fault
+abbrev pub has_faulted : Ran → Bool
+has_faulted ran = nat_lt 0 (count_by (bears marks.Fault) ran.history)
+
+-- it got stuck
+abbrev pub is_fate_stuck : Fate → Bool
+is_fate_stuck fates.Stuck = true
+is_fate_stuck _ = false
+
+-- it was stopped
+abbrev pub is_fate_stopped : Fate → Bool
+is_fate_stopped fates.Stopped = true
+is_fate_stopped _ = false
+
+-- how many of these came to what
+pub record AreTallied (rans : List Ran) (tally : Tally) : Type 0 where
+  pub faulted : tally.faulted ≡ count_by has_faulted rans
+  pub stuck : tally.stuck ≡ count_by (λ ran. is_fate_stuck ran.fate) rans
+  pub stopped : tally.stopped ≡ count_by (λ ran. is_fate_stopped ran.fate) rans
+
+-- the ends of these
+abbrev pub ends_in : Shared → List Ran → List (List ℕ)
+ends_in opening rans = map (λ ran. end_text opening ran.history) rans
+
+-- So many runs were made. These are their different ends, each with how many runs had it, and so many came to what.
+pub record WereMade (script : Scripted) (opening : Shared) (runs : ℕ) (ends : List End) (tally : Tally) : Type 0 where
+  pub rans : List Ran
+  pub each : All (IsRan script opening) rans
+  pub count : runs ≡ length rans
+  pub texts : texts_of ends ≡ different (ends_in opening rans)
+  pub often_had : (text : List ℕ) → often ends text ≡ min (count_by (λ had. bytes_eq had text) (ends_in opening rans)) (2 ^ 32 - 1)
+  pub tallied : AreTallied rans tally
+
+-- One run was made, in which a job faulted or not, and of whose jobs this became; and its end was noted.
+pub record IsCome (script : Scripted) (opening : Shared) (faulted : Bool) (fate : Fate) (old new : List End) : Type 0 where
+  pub ran : Ran
+  pub is : IsRan script opening ran
+  pub faults : faulted ≡ has_faulted ran
+  pub becomes : fate ≡ ran.fate
+  pub noted : IsNoted (end_text opening ran.history) old new

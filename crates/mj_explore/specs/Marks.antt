@@ -1,6 +1,7 @@
 -- Events of a kind.
-use Rattle.std.specs.Prelude.{◌==◌, Bool, true, false, Option, Some, None, is_some, length}
+use Rattle.std.specs.Prelude.{◌==◌, Bool, true, false, [], ◌∷◌, Option, Some, None, is_some, length}
 use Rattle.std.specs.List.{count_by}
+use Rattle.mj_text.specs.declared.fault.Fault.{Fault}
 use Rattle.mj_ask.specs.declared.ask.Ask.{Ask}
 use Rattle.mj_ask.specs.declared.ask.Ask.TheVariants as asks
 use Rattle.mj_ask.specs.declared.ask.SharedAsk.TheVariants as shared_asks
@@ -45,3 +46,23 @@ bears_at mark (Some e) = bears mark e
 -- as many jobs have ended as there are: a job ends but once
 abbrev pub is_over : Shared → History → Bool
 is_over opening history = count_by (bears marks.End) history == length (state_of opening history).rows
+
+-- the fault by which a job ends with this ask, if it ends by one
+abbrev pub fault_of : Ask → Option Fault
+fault_of (asks.Shared (shared_asks.Halt fault)) = fault
+fault_of _ = None
+
+-- the one by which a job ends with this event, if there is one
+abbrev pub fault_at : Option Event → Option Fault
+fault_at None = None
+fault_at (Some e) = fault_of e.ask
+
+-- the earlier of two, if there are any
+abbrev pub earlier : Option Fault → Option Fault → Option Fault
+earlier (Some fault) later = Some fault
+earlier None later = later
+
+-- the first fault by which a job ended
+abbrev pub fault_in : History → Option Fault
+fault_in [] = None
+fault_in (e ∷ history) = earlier (fault_at (Some e)) (fault_in history)

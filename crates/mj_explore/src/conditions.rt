@@ -7,18 +7,29 @@ ghost use Rattle.mj_rou.specs.Read.{IsRoutineRead};
 ghost use Rattle.mj_sys.specs.Shared.{are_global};
 ghost use Rattle.mj_explore.specs.Scripts.{opening_in};
 ghost use Rattle.mj_explore.specs.Conditions.{IsConditionOf, condition_line, has_caret, judge_start, unit_name, judges, line_judges};
-ghost use Rattle.mj_explore.specs.Found.{IsJudged};
+ghost use Rattle.mj_explore.specs.Found.{IsJudged, verdict_by};
 
-use crate::marks::is_over;
+use crate::marks::{fault_in, is_over};
 use crate::scripts::{Script, Source, Unread, begin};
 use mj_ask::{Entry, Start};
 use mj_ast::{Command, Line, Routine};
 use mj_globs::Globals;
 use mj_rou::LoadError;
 use mj_sys::Opening;
-use mj_text::{Failure, Text};
+use mj_text::{Failure, Fault, Text};
 use std::alloc::{AllocError, Global};
 use std::marker::Brand;
+
+/// What an expression comes to over globals.
+#[derive(Clone, Copy, PartialEq, Eq, Debug)]
+pub enum Verdict {
+    /// it is true
+    Holds,
+    /// it is untrue
+    Untrue,
+    /// it has no value, since it faults
+    Faults(Fault),
+}
 
 // The name of the routine of an expression.
 const NAME: &[u8] = b"UNTIL";
@@ -124,13 +135,13 @@ fn line_judges(line: &Line) -> bool
     }
 }
 
-/// Whether an expression isn't true over the globals that a run left, by its script: the job that judges ends, and writes something else than 1, as where it
-/// faults. None where it doesn't end.
-pub fn is_untrue(
+/// What an expression comes to over the globals that a run left, by its script: by how the job that judges ends, and by what it wrote. None where that doesn't
+/// end.
+pub fn verdict_over(
     alloc: Global,
     condition: &Script,
     globals: &Globals,
-) -> Result<Option<bool>, AllocError>
+) -> Result<Option<Verdict>, AllocError>
     ensures { IfOk result (λ judged. IfSome judged (IsJudged condition.now (opening_in condition.now globals.now.content))) }
 {
     // a run leaves no others, which is seen here once more
@@ -149,7 +160,11 @@ fn all_global(globals: &Globals) -> Result<bool, AllocError>
 }
 
 // Runs the job that judges, over these globals.
-fn judge(alloc: Global, condition: &Script, globals: &Globals) -> Result<Option<bool>, AllocError>
+fn judge(
+    alloc: Global,
+    condition: &Script,
+    globals: &Globals,
+) -> Result<Option<Verdict>, AllocError>
     requires { are_global globals.now.content ≡ true }
     ensures { IfOk result (λ judged. IfSome judged (IsJudged condition.now (opening_in condition.now globals.now.content))) }
 {
@@ -161,7 +176,7 @@ fn judged<O: Opening>(
     alloc: Global,
     condition: &Script,
     globals: &Globals,
-) -> Result<Option<bool>, AllocError>
+) -> Result<Option<Verdict>, AllocError>
     requires opening { opening_in condition.now globals.now.content ≡ O.opening }
     requires global { are_global globals.now.content ≡ true }
     ensures { IfOk result (λ judged. IfSome judged (IsJudged condition.now O.opening)) }
@@ -172,8 +187,19 @@ fn judged<O: Opening>(
     if !is_over(&jobs.core) {
         return Ok(None);
     }
+    let fault = fault_in(&jobs.core);
     let output = jobs.core.out(1, &Text::from_number(alloc, 0), 1)?;
-    Ok(Some(!is_one(&output)))
+    Ok(Some(verdict_by(fault, is_one(&output))))
+}
+
+// What an expression comes to, by the fault by which the job that judges ended, if there is one, and by whether it wrote 1.
+fn verdict_by(fault: Option<Fault>, is: bool) -> Verdict
+    ensures { result ≡ verdict_by fault is }
+{
+    match fault {
+        Some(fault) => Verdict::Faults(fault),
+        None => { if is { Verdict::Holds } else { Verdict::Untrue } }
+    }
 }
 
 // Whether these bytes are the digit 1.

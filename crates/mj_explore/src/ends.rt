@@ -1,90 +1,65 @@
 // The ends of runs.
 
-ghost use Rattle.std.specs.Prelude.{◌≡◌, ◌++◌, ◌∷◌, [], ℕ, Vec, decimal, length, map, IfOk, OnOk, OnErr};
-ghost use Rattle.std.specs.Global.{Global as GlobalOf};
-ghost use Rattle.std.specs.List.{list_any};
+ghost use Rattle.std.specs.Prelude.{◌≡◌, ◌++◌, position, IfOk, OnOk, OnErr};
 ghost use Rattle.std.specs.Str.{bytes_eq};
+ghost use Rattle.std.specs.String.{string_bytes};
 ghost use Rattle.mj_core.specs.Runs.{out_of};
 ghost use Rattle.mj_dev.specs.Shelves.{principal};
-ghost use Rattle.mj_explore.specs.Ends.{end_text, outputs_of, noted};
+ghost use Rattle.mj_explore.specs.declared.ends.End.{End as EndOf};
+ghost use Rattle.mj_explore.specs.Ends.{IsNoted, end_text, lacks_end, output_head, output_text, outputs_of};
 
 use crate::marks::is_over;
-use itoa::Buffer;
 use mj_core::Core;
 use mj_dev::Memory;
 use mj_sessions::Sessions;
 use mj_sys::Opening;
 use mj_text::Text;
 use std::alloc::{AllocError, Global};
-use std::marker::Model;
 
-/// The different ends that were seen, in the order in which they came first.
+/// An end of runs.
 #[derive(Drop)]
-pub struct Ends {
-    texts: Vec<Vec<u8>>,
+pub struct End {
+    /// what it is, as a text that no other end has
+    pub text: Vec<u8>,
+    /// how many runs had it
+    pub runs: u32,
 }
 
-impl Model for Ends {
-    ghost use Rattle.std.specs.Prelude.{List, map, ℕ, Vec};
-    ghost use Rattle.std.specs.Global.{Global as GlobalOf};
-
-    ghost Value = { List (List ℕ) };
-
-    ghost view = { λ e. map (λ (text : Vec ℕ GlobalOf). text.items) e.texts.items };
-}
-
-impl Ends {
-    /// None yet.
-    pub fn new(alloc: Global) -> Ends
-        ensures { result ≡ [] }
-    {
-        Ends {
-            texts: Vec::new(alloc),
-        }
-    }
-
-    /// How many there are.
-    pub fn len(&self) -> usize
-        ensures { result ≡ length self.now }
-    {
-        self.texts.len()
-    }
-
-    /// Notes an end, if it wasn't seen before.
-    pub fn note(&mut self, text: Vec<u8>) -> Result<(), AllocError>
-        ensures ok { OnOk result (self.new ≡ noted self.old text.items) }
-        ensures err { OnErr result (self.new ≡ self.old) }
-    {
-        if self.has(&text) {
-            drop(text);
-            return Ok(());
-        }
-        self.texts.reserve(1)?;
-        self.texts.push_reserved(text);
-        Ok(())
-    }
-
-    // Whether an end was seen.
-    fn has(&self, text: &[u8]) -> bool
-        ensures { result ≡ list_any (λ kept. bytes_eq kept text.now) self.now }
-    {
-        is_among(text, &self.texts)
-    }
-}
-
-// Whether a text is one of these.
-fn is_among(text: &[u8], texts: &[Vec<u8>]) -> bool
-    ensures { result ≡ list_any (λ kept. bytes_eq kept text.now) (map (λ (kept : Vec ℕ GlobalOf). kept.items) texts.now) }
+/// Notes that a run had an end of this text.
+pub fn note(ends: &mut Vec<End>, text: Vec<u8>) -> Result<(), AllocError>
+    ensures ok { OnOk result (IsNoted text.items ends.old.items ends.new.items) }
+    ensures err { OnErr result (ends.new.items ≡ ends.old.items) }
 {
-    'texts: for kept in texts {
-        if kept.as_slice() == text {
-            return true;
+    match place_of(ends, &text) {
+        Some(place) => {
+            drop(text);
+            let end = &mut ends[place];
+            end.runs = end.runs.saturating_add(1);
+            Ok(())
+        }
+        None => {
+            ends.reserve(1)?;
+            ends.push_reserved(End { text, runs: 1 });
+            Ok(())
         }
     }
-    false
 }
 
-/// The end of a run, as a text that no other end has: whether all jobs have ended, what each wrote, and the globals that are left.
+// Where the end of this text stands.
+fn place_of(ends: &[End], text: &[u8]) -> Option<usize>
+    ensures { result ≡ position (λ (e : EndOf). bytes_eq e.text.items text.now) ends.now }
+{
+    ends.iter().position(|end| is_of(end, text))
+}
+
+// Whether an end has this text.
+fn is_of(end: &End, text: &[u8]) -> bool
+    ensures { result ≡ bytes_eq end.now.text.items text.now }
+{
+    end.text.as_slice() == text
+}
+
+/// The end of a run, as a text that no other end has: whether all jobs have ended, the globals that are left, and what each wrote.
 pub fn end_text<O: Opening>(
     alloc: Global,
     core: &Core<Memory, Sessions<Memory>, O>,
@@ -93,9 +68,9 @@ pub fn end_text<O: Opening>(
 {
     let mut text = Vec::new(alloc);
     text.push(if is_over(core) { b'+' } else { b'-' })?;
-    put_outputs(alloc, &mut text, core, core.jobs() as u32)?;
     let globals = mj_gfile::write(alloc, core.globals())?;
     text.extend_from_slice(&globals)?;
+    put_outputs(alloc, &mut text, core, core.jobs() as u32)?;
     Ok(text)
 }
 
@@ -111,16 +86,38 @@ fn put_outputs<O: Opening>(
     let name = Text::from_number(alloc, 0);
     'jobs: for done in 0..jobs {
         let output = core.out(done + 1, &name, 1)?;
-        put_output(text, &output)?;
+        put_output(alloc, text, done + 1, &output)?;
     }
     Ok(())
 }
 
-// Puts what a job wrote to the end, behind a line with the number of its bytes.
-fn put_output(text: &mut Vec<u8>, output: &[u8]) -> Result<(), AllocError>
-    ensures { OnOk result (text.new.items ≡ text.old.items ++ (decimal (length output.now) ++ 10 ∷ output.now)) }
+// Puts what a job wrote to the end.
+fn put_output(alloc: Global, text: &mut Vec<u8>, job: u32, output: &[u8]) -> Result<(), AllocError>
+    ensures { OnOk result (text.new.items ≡ text.old.items ++ output_text job output.now) }
 {
-    text.extend_from_slice(Buffer::new().format(output.len()).as_bytes())?;
-    text.push(b'\n')?;
-    text.extend_from_slice(output)
+    let head = output_head(alloc, job, output.len())?;
+    text.extend_from_slice(head.as_bytes())?;
+    text.extend_from_slice(output)?;
+    if lacks_end(output) {
+        text.push(b'\n')?;
+    }
+    Ok(())
+}
+
+// Whether there are bytes, and they don't end a line.
+fn lacks_end(output: &[u8]) -> bool
+    ensures { result ≡ lacks_end output.now }
+{
+    match output.last() {
+        None => false,
+        Some(byte) => *byte != b'\n',
+    }
+}
+
+// The line before what a job wrote.
+fn output_head(alloc: Global, job: u32, count: usize) -> Result<String, AllocError>
+    ensures { IfOk result (λ head. string_bytes head ≡ output_head job count) }
+{
+    let head = format!(in alloc; "job {job} wrote {count} bytes:\n")?;
+    Ok(head)
 }

@@ -1,20 +1,18 @@
 // What is looked for in runs.
 
-ghost use Rattle.std.specs.Prelude.{◌≡◌, true, IfOk};
+ghost use Rattle.std.specs.Prelude.{◌≡◌, true, Some, IfOk, IfSome, IfNone};
 ghost use Rattle.mj_load.specs.Image.{program_of};
-ghost use Rattle.mj_sys.specs.History.{state_of};
-ghost use Rattle.mj_explore.specs.Marks.{is_over};
-ghost use Rattle.mj_explore.specs.Scripts.{opening_in};
-ghost use Rattle.mj_explore.specs.Found.{IsStuck, IsJudged, Shows};
+ghost use Rattle.mj_explore.specs.Found.{EndsJudged, IsStuck, Shows, found_verdict};
 
-use crate::conditions::is_untrue;
+use crate::conditions::{Verdict, verdict_over};
+use crate::fates::{Fate, fate_of};
 use crate::marks::{Mark, count, is_over};
 use crate::scripts::Script;
-use crate::waiting::all_wait;
 use mj_dev::Memory;
 use mj_run::Jobs;
 use mj_sessions::Sessions;
 use mj_sys::Opening;
+use mj_text::Fault;
 use std::alloc::{AllocError, Global};
 
 /// What is looked for.
@@ -26,7 +24,7 @@ pub enum Goal {
     Stuck,
     /// that a commit clashes
     Clash,
-    /// that all jobs have ended, and over the globals that they left the expression of this script isn't true
+    /// that all jobs have ended, and over the globals that they left the expression of this script isn't true: it is untrue, or it faults
     False(Script),
 }
 
@@ -37,19 +35,76 @@ impl Goal {
     }
 }
 
-/// Whether jobs that stand so show what is looked for. They may be stepped for that.
-pub fn shows<O: Opening>(
+/// In which way a run shows what is looked for.
+#[derive(Clone, Copy, PartialEq, Eq, Debug)]
+pub enum Finding {
+    /// as it is looked for; of an expression, that it is untrue
+    Sought,
+    /// that the expression has no value, since it faults
+    Faulty(Fault),
+}
+
+impl Finding {
+    /// Whether another run shows it in the same way.
+    pub fn is_that_of(self, shown: Option<Finding>) -> bool
+        ensures { result ≡ true → shown ≡ Some self }
+    {
+        match (self, shown) {
+            (Finding::Sought, Some(Finding::Sought)) => true,
+            (Finding::Faulty(fault), Some(Finding::Faulty(found))) => found == fault,
+            _ => false,
+        }
+    }
+}
+
+/// In which way jobs that stand so show what is looked for, if they do. They may be stepped for that.
+pub fn shown<O: Opening>(
     alloc: Global,
     jobs: &mut Jobs<Memory, Sessions<Memory>, O>,
     goal: &Goal,
-) -> Result<bool, AllocError>
-    ensures { IfOk result (λ is. is ≡ true → Shows goal.now (program_of jobs.old.image) O.opening jobs.old.history) }
+) -> Result<Option<Finding>, AllocError>
+    ensures { IfOk result (λ shown. IfSome shown (λ finding. Shows goal.now finding (program_of jobs.old.image) O.opening jobs.old.history)) }
 {
     match goal {
-        Goal::Fault => Ok(count(&jobs.core, Mark::Fault) > 0),
-        Goal::Clash => Ok(count(&jobs.core, Mark::Clash) > 0),
-        Goal::Stuck => Ok(is_stuck(jobs)),
-        Goal::False(condition) => ends_untrue(alloc, jobs, condition),
+        Goal::Stuck => {
+            if is_stuck(jobs) {
+                Ok(Some(Finding::Sought))
+            } else {
+                Ok(None)
+            }
+        }
+        other => seen(alloc, jobs, other),
+    }
+}
+
+/// In which way jobs that stand so show it without a step. That they are stuck isn't seen so.
+pub fn seen<O: Opening>(
+    alloc: Global,
+    jobs: &Jobs<Memory, Sessions<Memory>, O>,
+    goal: &Goal,
+) -> Result<Option<Finding>, AllocError>
+    ensures { IfOk result (λ seen. IfSome seen (λ finding. Shows goal.now finding (program_of jobs.now.image) O.opening jobs.now.history)) }
+{
+    match goal {
+        Goal::False(condition) => untruth(alloc, jobs, condition),
+        other => {
+            if has_event(jobs, other) {
+                Ok(Some(Finding::Sought))
+            } else {
+                Ok(None)
+            }
+        }
+    }
+}
+
+// Whether an event shows what is looked for.
+fn has_event<O: Opening>(jobs: &Jobs<Memory, Sessions<Memory>, O>, goal: &Goal) -> bool
+    ensures { result ≡ true → Shows goal.now Finding.Sought (program_of jobs.now.image) O.opening jobs.now.history }
+{
+    match goal {
+        Goal::Fault => count(&jobs.core, Mark::Fault) > 0,
+        Goal::Clash => count(&jobs.core, Mark::Clash) > 0,
+        Goal::Stuck | Goal::False(_) => false,
     }
 }
 
@@ -57,27 +112,37 @@ pub fn shows<O: Opening>(
 fn is_stuck<O: Opening>(jobs: &mut Jobs<Memory, Sessions<Memory>, O>) -> bool
     ensures { result ≡ true → IsStuck (program_of jobs.old.image) O.opening jobs.old.history }
 {
-    if is_over(&jobs.core) {
-        return false;
+    match fate_of(jobs) {
+        Fate::Stuck => true,
+        Fate::Over | Fate::Stopped => false,
     }
-    all_wait(jobs)
 }
 
-// Whether all jobs have ended, and over the globals that they left the expression isn't true.
-fn ends_untrue<O: Opening>(
+// In which way the expression isn't true over the globals that were left, where all jobs have ended.
+fn untruth<O: Opening>(
     alloc: Global,
     jobs: &Jobs<Memory, Sessions<Memory>, O>,
     condition: &Script,
-) -> Result<bool, AllocError>
-    ensures over { IfOk result (λ is. is ≡ true → is_over O.opening jobs.now.history ≡ true) }
-    ensures judged { IfOk result (λ is. is ≡ true
-        → IsJudged condition.now (opening_in condition.now (state_of O.opening jobs.now.history).globals) true) }
+) -> Result<Option<Finding>, AllocError>
+    ensures { IfOk result (λ seen. IfSome seen (λ finding. EndsJudged condition.now (found_verdict finding) O.opening jobs.now.history)) }
 {
     if !is_over(&jobs.core) {
-        return Ok(false);
+        return Ok(None);
     }
-    match is_untrue(alloc, condition, jobs.core.globals())? {
-        Some(untrue) => Ok(untrue),
-        None => Ok(false),
+    match verdict_over(alloc, condition, jobs.core.globals())? {
+        Some(verdict) => Ok(finding_of(verdict)),
+        None => Ok(None),
+    }
+}
+
+// What an expression is found to be that comes to this, if it isn't true.
+fn finding_of(verdict: Verdict) -> Option<Finding>
+    ensures some { IfSome result (λ finding. verdict ≡ found_verdict finding) }
+    ensures none { IfNone result (verdict ≡ Verdict.Holds) }
+{
+    match verdict {
+        Verdict::Holds => None,
+        Verdict::Untrue => Some(Finding::Sought),
+        Verdict::Faults(fault) => Some(Finding::Faulty(fault)),
     }
 }

@@ -1,14 +1,15 @@
 // Events of a kind.
 
-ghost use Rattle.std.specs.Prelude.{◌≡◌, cond, slice_get};
+ghost use Rattle.std.specs.Prelude.{◌≡◌, cond, nat_lt, slice_get};
 ghost use Rattle.std.specs.List.{count_by};
-ghost use Rattle.mj_explore.specs.Marks.{bears, bears_at, bears_by, is_over};
+ghost use Rattle.mj_explore.specs.Marks.{bears, bears_at, bears_by, fault_at, fault_in, fault_of, is_over};
 
 use mj_ask::{Ask, Reply, SharedAsk};
 use mj_core::Core;
 use mj_dev::Memory;
 use mj_sessions::Sessions;
 use mj_sys::Opening;
+use mj_text::Fault;
 
 /// A kind of events.
 #[derive(Clone, Copy, PartialEq, Eq, Debug)]
@@ -30,6 +31,13 @@ pub fn count<O: Opening>(core: &Core<Memory, Sessions<Memory>, O>, mark: Mark) -
         count += share(core, at, mark);
     }
     count
+}
+
+/// Whether there is an event of a kind.
+pub fn has<O: Opening>(core: &Core<Memory, Sessions<Memory>, O>, mark: Mark) -> bool
+    ensures { result ≡ nat_lt 0 (count_by (bears mark) core.now.history) }
+{
+    count(core, mark) > 0
 }
 
 /// Whether all jobs have ended.
@@ -57,5 +65,38 @@ fn bears(mark: Mark, ask: &Ask, reply: &Reply) -> bool
         Mark::Fault => matches!(ask, Ask::Shared(SharedAsk::Halt(Some(_)))),
         Mark::Clash => matches!(reply, Reply::Clash(_)),
         Mark::End => matches!(ask, Ask::Shared(SharedAsk::Halt(_))),
+    }
+}
+
+/// The first fault by which a job ended, if one did.
+pub fn fault_in<O: Opening>(core: &Core<Memory, Sessions<Memory>, O>) -> Option<Fault>
+    ensures { result ≡ fault_in core.now.history }
+{
+    'events: for at in 0..core.len() {
+        match fault_at(core, at) {
+            Some(fault) => return Some(fault),
+            None => {}
+        }
+    }
+    None
+}
+
+// The fault by which a job ended at a place, from 0, if one did.
+fn fault_at<O: Opening>(core: &Core<Memory, Sessions<Memory>, O>, at: usize) -> Option<Fault>
+    ensures { result ≡ fault_at (slice_get core.now.history at) }
+{
+    match core.event(at) {
+        Some((_, ask, _)) => fault_of(ask),
+        None => None,
+    }
+}
+
+// The fault by which a job ends with this ask, if it ends by one.
+fn fault_of(ask: &Ask) -> Option<Fault>
+    ensures { result ≡ fault_of ask.now }
+{
+    match ask {
+        Ask::Shared(SharedAsk::Halt(fault)) => *fault,
+        _ => None,
     }
 }

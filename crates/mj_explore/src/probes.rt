@@ -7,7 +7,7 @@ ghost use Rattle.mj_explore.specs.Scripts.{opening_in};
 ghost use Rattle.mj_explore.specs.Found.{IsFound};
 
 use crate::exploring::RUN_LIMIT;
-use crate::goals::{Goal, shows};
+use crate::goals::{Finding, Goal, shown};
 use crate::scripts::{Script, begin};
 use mj_chance::{Made, Trial, Wishes, step_by_choice};
 use mj_globs::Globals;
@@ -16,13 +16,14 @@ use mj_sys::Opening;
 use std::alloc::{AllocError, Global};
 use std::marker::PhantomData;
 
-/// What lists of steps are tried with: where runs begin, and what they are to show.
+/// What lists of steps are tried with: where runs begin, what they are to show, and in which way.
 #[derive(Drop)]
 pub struct Probe<'a, O: Opening> {
     pub alloc: Global,
     pub script: &'a Script,
     pub globals: &'a Globals,
     pub goal: &'a Goal,
+    pub finding: Finding,
     pub opening: PhantomData<O>,
     ghost begins: { opening_in script.now globals.now.content ≡ O.opening },
     ghost global: { are_global globals.now.content ≡ true },
@@ -31,7 +32,7 @@ pub struct Probe<'a, O: Opening> {
 impl<O: Opening> Trial for Probe<'_, O> {
     ghost use Rattle.mj_explore.specs.Found.{IsFound};
 
-    ghost shows = { λ probe. IsFound probe.script.now probe.goal.now O.opening };
+    ghost shows = { λ probe. IsFound probe.script.now probe.goal.now probe.finding O.opening };
 
     fn play(&self, wishes: &[Step]) -> Result<Option<Vec<Step>>, AllocError> {
         let steps = played::<O>(
@@ -41,7 +42,15 @@ impl<O: Opening> Trial for Probe<'_, O> {
             wishes,
             self.goal.is_of_ends(),
         )?;
-        if finds::<O>(self.alloc, self.script, self.globals, self.goal, &steps)? {
+        let finds = finds::<O>(
+            self.alloc,
+            self.script,
+            self.globals,
+            self.goal,
+            self.finding,
+            &steps,
+        )?;
+        if finds {
             Ok(Some(steps))
         } else {
             drop(steps);
@@ -67,21 +76,23 @@ fn played<O: Opening>(
     Ok(plain)
 }
 
-// Makes these steps from the beginning, and says whether all are made and show what is looked for.
+// Makes these steps from the beginning, and says whether all are made and show what is looked for, in this way.
 fn finds<O: Opening>(
     alloc: Global,
     script: &Script,
     globals: &Globals,
     goal: &Goal,
+    finding: Finding,
     steps: &[Step],
 ) -> Result<bool, AllocError>
     requires opening { opening_in script.now globals.now.content ≡ O.opening }
     requires global { are_global globals.now.content ≡ true }
-    ensures { IfOk result (λ is. is ≡ true → IsFound script.now goal.now O.opening steps.now) }
+    ensures { IfOk result (λ is. is ≡ true → IsFound script.now goal.now finding O.opening steps.now) }
 {
     let mut jobs = begin::<O>(alloc, script, globals)?;
     let Ending::Over = jobs.listed(steps) else {
         return Ok(false);
     };
-    shows(alloc, &mut jobs, goal)
+    let shown = shown(alloc, &mut jobs, goal)?;
+    Ok(finding.is_that_of(shown))
 }

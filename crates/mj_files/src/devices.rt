@@ -104,8 +104,8 @@ fn add_principals<R: Files + Drop>(
     Ok(())
 }
 
-// Adds a device of this name.
-fn put<D: Device>(pool: &mut Pool<D>, name: &Text, device: D) -> Result<(), AllocError>
+/// Adds a device of this name, which nobody has talked to yet.
+pub fn put<D: Device>(pool: &mut Pool<D>, name: &Text, device: D) -> Result<(), AllocError>
     requires { IsFresh (D.failures device) (D.taken device) (D.given device) }
     ensures { OnOk result (pool.new ≡ added name.now pool.old) }
 {

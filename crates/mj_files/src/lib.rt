@@ -14,6 +14,6 @@ mod port;
 mod reading;
 
 pub use bytes::{BYTES_LIMIT, Trouble, front, whole};
-pub use devices::{Named, Side, pool_of, read_device};
+pub use devices::{Named, Side, pool_of, put, read_device};
 pub use port::Port;
 pub use reading::{file_bytes, file_front};

@@ -9,12 +9,14 @@ use Rattle.mj_ast.specs.declared.construct.Construct.{Construct}
 use Rattle.mj_ast.specs.declared.construct.Construct.TheVariants as construct
 use Rattle.mj_ast.specs.declared.keyword.Keyword.TheVariants as keyword
 use Rattle.mj_ast.specs.declared.keyword.Verb.{Verb}
-use Rattle.mj_ast.specs.declared.keyword.Verb.TheVariants.{Of, HaltOrHang}
-use Rattle.mj_ast.specs.declared.sign.Sign.TheVariants.{Close}
-use Rattle.mj_ast.specs.Tokens.{Token, Digits, Quoted, Signed, Blank, Comment, Unclosed, Lexeme, lexemes, is_blank}
+use Rattle.mj_ast.specs.declared.keyword.Verb.TheVariants.{Of}
+use Rattle.mj_ast.specs.declared.sign.Sign.{Sign}
+use Rattle.mj_ast.specs.declared.sign.Sign.TheVariants.{Caret, Close, Dot, Open, Underscore}
+use Rattle.mj_ast.specs.Tokens.{Token, Word, Called, Special, Invoked, Numbered, Dollars, Digits, Quoted, Signed, Blank, Comment, Unclosed, Stray, Lexeme, lexemes, is_blank}
 use Rattle.mj_ast.specs.Expressions.{callee_of}
 use Rattle.mj_ast.specs.Commands.{capital, verb_of}
 use Rattle.mj_ast.specs.LeftOut.{has_verb, has_callee}
+use Rattle.mj_line.specs.Forms.{may_be_bare as is_bare_verb}
 use Rattle.mj_hints.specs.Near.{near_of, function_names, variable_names, command_names}
 use Rattle.mj_hints.specs.declared.phrases.Hint.{Hint}
 use Rattle.mj_hints.specs.declared.phrases.Hint.TheVariants as hint
@@ -94,22 +96,7 @@ command_part part = take_while is_no_colon (drop (length (take_while is_dot_byte
 -- the command may stand without arguments
 abbrev pub may_be_bare : Option Verb → Bool
 may_be_bare None = false
-may_be_bare (Some HaltOrHang) = true
-may_be_bare (Some (Of keyword.Halt)) = true
-may_be_bare (Some (Of keyword.Lock)) = true
-may_be_bare (Some (Of keyword.Kill)) = true
-may_be_bare (Some (Of keyword.If)) = true
-may_be_bare (Some (Of keyword.Else)) = true
-may_be_bare (Some (Of keyword.For)) = true
-may_be_bare (Some (Of keyword.Do)) = true
-may_be_bare (Some (Of keyword.Quit)) = true
-may_be_bare (Some (Of keyword.New)) = true
-may_be_bare (Some (Of keyword.TStart)) = true
-may_be_bare (Some (Of keyword.TCommit)) = true
-may_be_bare (Some (Of keyword.TRestart)) = true
-may_be_bare (Some (Of keyword.TRollback)) = true
-may_be_bare (Some (Of keyword.Break)) = true
-may_be_bare (Some (Of k)) = false
+may_be_bare (Some v) = is_bare_verb v
 
 -- the part is the word of a command, or of one that may stand without arguments, with a postcondition or without one
 abbrev pub is_command : List ℕ → Bool
@@ -179,6 +166,28 @@ is_rollback_verb v = false
 abbrev pub is_rolled : List ℕ → Bool
 is_rolled before = ends_blank before && is_rollback_verb (verb_of (command_part (last_part (parts_before before))))
 
+-- the first argument of a command would stand there
+abbrev pub begins_argument : List ℕ → Bool
+begins_argument before = ends_blank before && is_command (last_part (parts_before before))
+
+-- a command would stand there
+abbrev pub begins_command : List ℕ → Bool
+begins_command before = ends_blank before && not (is_command (last_part (parts_before before)))
+
+-- a part of an argument would begin there
+abbrev pub begins_part : List ℕ → Bool
+begins_part before = begins_argument before || (ends_joint before || ends_with nat_eq before (codes "^"))
+
+-- the verb is that of a command whose arguments are locals without subscripts
+abbrev pub is_verb_of_locals : Option Verb → Bool
+is_verb_of_locals (Some (Of keyword.New)) = true
+is_verb_of_locals (Some (Of keyword.TStart)) = true
+is_verb_of_locals v = false
+
+-- an argument of such a command would stand there, or go on there
+abbrev pub takes_locals : List ℕ → Bool
+takes_locals before = is_verb_of_locals (verb_of (command_part (last_part (parts_before before))))
+
 -- a `*` stands there where an argument or an actual begins
 abbrev pub is_alias : List ℕ → List ℕ → Bool
 is_alias before there =
@@ -191,6 +200,10 @@ abbrev pub lacks_set : Option Construct → List ℕ → List ℕ → List ℕ �
 lacks_set None before there word = starts_with nat_eq there (codes ":=") || (starts_with nat_eq there (codes "=") && is_command (last_part before))
 lacks_set (Some construct.Command) before there word = starts_with nat_eq (drop (length word) there) (codes "=")
 lacks_set (Some c) before there word = false
+
+-- what joins two parts stands there, and nothing is before it to be joined
+abbrev pub lacks_part : List ℕ → List ℕ → Bool
+lacks_part before there = begins_joint there && begins_part before
 
 -- a value is given to `$X` or `$Y` there
 abbrev pub is_column : List ℕ → Bool
@@ -268,6 +281,32 @@ abbrev pub is_function : List ℕ → Bool
 is_function [] = false
 is_function (b ∷ word) = has_callee (callee_of word)
 
+-- the name of a function with a `Z` before it
+abbrev pub is_byte_function : List ℕ → Bool
+is_byte_function word = starts_with nat_eq word (codes "$Z") && is_function (drop 1 word)
+
+-- what tells of the system
+abbrev pub is_system : List ℕ → Bool
+is_system word = is_one word (codes "$SYSTEM") (codes "$SY") || bytes_eq word (codes "$STORAGE")
+
+-- what tells how a READ or a device fared
+abbrev pub is_told_of_devices : List ℕ → Bool
+is_told_of_devices word = is_one word (codes "$KEY") (codes "$K") || bytes_eq word (codes "$DEVICE")
+
+-- a function of lists
+abbrev pub is_list : List ℕ → Bool
+is_list word =
+    starts_with nat_eq word (codes "$LIST")
+    || (is_one word (codes "$LB") (codes "$LI") || (is_one word (codes "$LG") (codes "$LL") || is_one word (codes "$LF") (codes "$LTS")))
+
+-- what is said of any other variable
+abbrev pub other_variable_help : List ℕ → Help
+other_variable_help word =
+    if is_system word then Said hint.System
+    else if is_told_of_devices word then Said hint.Device
+    else if bytes_eq word (codes "$QUIT") then Said hint.Asked
+    else nearly_or (near_of word variable_names) hint.Variables
+
 -- what is said of a variable that the language leaves out, by its word in capitals
 abbrev pub variable_help : List ℕ → Help
 variable_help word =
@@ -277,11 +316,27 @@ variable_help word =
     else if is_function word then Said hint.Directly
     else if is_one word (codes "$ZEOF") (codes "$ZEO") then Said hint.InputEnd
     else if starts_with nat_eq word (codes "$Z") then Said hint.Passed
-    else nearly_or (near_of word variable_names) hint.Variables
+    else other_variable_help word
+
+-- what is said of a function that is nearly no other
+abbrev pub unknown_function : List ℕ → Hint
+unknown_function word =
+    if is_byte_function word then hint.Bytes else if starts_with nat_eq word (codes "$Z") then hint.PassedFunctions else hint.Functions
+
+abbrev pub near_function_help : List ℕ → Help
+near_function_help word = nearly_or (near_of word function_names) (unknown_function word)
+
+-- what is said of one that has nothing to do with faults
+abbrev pub untrapped_function_help : List ℕ → Help
+untrapped_function_help word =
+    if is_one word (codes "$VIEW") (codes "$V") then Said hint.System
+    else if is_list word then Said hint.Lists
+    else if bytes_eq word (codes "$CASE") then Said hint.Cases
+    else near_function_help word
 
 -- what is said of any other function
 abbrev pub other_function_help : List ℕ → Help
-other_function_help word = if is_trap word then Said hint.Trap else nearly_or (near_of word function_names) hint.Functions
+other_function_help word = if is_trap word then Said hint.Trap else untrapped_function_help word
 
 -- what is said of a function that it leaves out
 abbrev pub function_help : List ℕ → Help
@@ -324,16 +379,65 @@ construct_help c word = Said (hint.Instead c)
 abbrev pub end_help : Bool → Help
 end_help inside = if inside then Said hint.Parenthesis else Said hint.Ends
 
+-- what is said of what may stand nowhere there: a name is wanted, or a command, or what joins both
+abbrev pub place_help : List ℕ → Help
+place_help before =
+    if begins_part before then Said hint.NameThere else if begins_command before then Said hint.CommandThere else Said hint.Apart
+
+-- of the call of a function
+abbrev pub call_help : List ℕ → Help
+call_help before = if begins_command before then Said hint.Invoked else place_help before
+
+-- of a text in quotes
+abbrev pub text_help : List ℕ → Help
+text_help before = if begins_part before then Said hint.NameThere else Said hint.Joined
+
+-- of digits
+abbrev pub digits_help : List ℕ → List ℕ → Help
+digits_help digits before = if nat_lt 18 (length digits) then Said hint.LongNumber else place_help before
+
+-- of a `(` and a `^`
+abbrev pub name_help : List ℕ → Help
+name_help before = if takes_locals before then Said hint.Locals else place_help before
+
+-- of a word, which is none of a command where one may begin
+abbrev pub word_help : List ℕ → Option Help
+word_help before =
+    if begins_argument before then Some (Said hint.TwoBlanks) else if ends_blank before || begins_part before then None else Some (Said hint.Apart)
+
+-- of a comment
+abbrev pub comment_help : List ℕ → Help
+comment_help before = if ends_blank before then end_help (is_inside before) else Said hint.CommentBlank
+
+-- of a byte that begins nothing
+abbrev pub byte_help : ℕ → Option Help
+byte_help b = if b == 36 then None else Some (Said hint.Stray)
+
+-- of a sign
+abbrev pub sign_help : Sign → List ℕ → Option Help
+sign_help Close before = if is_inside before then Some (Said hint.Fewer) else Some (Said hint.Closed)
+sign_help Dot before = Some (Said hint.Dotted)
+sign_help Underscore before = Some (Said hint.Underscored)
+sign_help Open before = Some (name_help before)
+sign_help Caret before = Some (name_help before)
+sign_help s before = None
+
 -- what is said where nothing else is, by the token that stands there
 abbrev pub token_help : Option (Token × List ℕ) → List ℕ → Option Help
 token_help None before = Some (end_help (is_inside before))
-token_help (Some (Comment text, slice)) before = if ends_blank before then Some (end_help (is_inside before)) else Some (Said hint.CommentBlank)
+token_help (Some (Comment text, slice)) before = Some (comment_help before)
 token_help (Some (Unclosed text, slice)) before = Some (Said hint.Quote)
-token_help (Some (Quoted text, slice)) before = Some (Said hint.Joined)
-token_help (Some (Blank, slice)) before = if is_inside before then Some (Said hint.Parenthesis) else None
-token_help (Some (Signed Close, slice)) before = if is_inside before then Some (Said hint.Fewer) else Some (Said hint.Closed)
-token_help (Some (Digits digits, slice)) before = if nat_lt 18 (length digits) then Some (Said hint.LongNumber) else None
-token_help (Some (t, slice)) before = None
+token_help (Some (Quoted text, slice)) before = Some (text_help before)
+token_help (Some (Blank, slice)) before = Some (end_help (is_inside before))
+token_help (Some (Signed s, slice)) before = sign_help s before
+token_help (Some (Digits digits, slice)) before = Some (digits_help digits before)
+token_help (Some (Special word, slice)) before = Some (place_help before)
+token_help (Some (Called word, slice)) before = Some (place_help before)
+token_help (Some (Invoked word, slice)) before = Some (call_help before)
+token_help (Some (Numbered digits, slice)) before = Some (call_help before)
+token_help (Some (Dollars, slice)) before = None
+token_help (Some (Word word, slice)) before = word_help before
+token_help (Some (Stray b, slice)) before = byte_help b
 
 -- what is said of a blank too much or too few inside arguments, of a byte that means something else in other languages, or else of the token
 abbrev pub plain_help : List ℕ → List ℕ → Option Help
@@ -341,12 +445,13 @@ plain_help before there =
     if is_second_blank before there then Some (Said hint.OneBlank)
     else if is_rolled before then Some (Said hint.Rollback)
     else if is_alias before there then Some (Said hint.Alias)
+    else if ends_with nat_eq before (codes "!") then Some (Said hint.NewLine)
     else if is_blank_inside before there then Some (Said hint.NoBlank)
     else if starts_with nat_eq there (codes "'") then Some (Said hint.Apostrophe)
     else if starts_with nat_eq there (codes "[") then Some (Said hint.Brackets)
     else if starts_with nat_eq there (codes "%") then Some (Said hint.Remainder)
     else if is_column there then Some (Said hint.Column)
-    else if list_all is_blank before && starts_with nat_eq there (codes "$$") then Some (Said hint.Invoked)
+    else if lacks_part before there then Some (Said hint.Fewer)
     else token_help (front_there there) before
 
 abbrev pub named_help : Option Construct → List ℕ → List ℕ → Option Help

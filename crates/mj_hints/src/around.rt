@@ -13,6 +13,8 @@ ghost use Rattle.mj_hints.specs.Hints.{is_blank_inside as the_blank_inside, is_c
 ghost use Rattle.mj_hints.specs.Hints.{joins as the_joins, joins_or_opens, lacks_blank as the_lacks_blank, lacks_blank_there as the_lacks_blank_there};
 ghost use Rattle.mj_hints.specs.Hints.{last_part as the_last_part, may_be_bare as the_may_be_bare, open_behind as the_open_behind};
 ghost use Rattle.mj_hints.specs.Hints.{parts_before as the_parts_before, past_blanks as the_past_blanks, solid_length as the_solid_length};
+ghost use Rattle.mj_hints.specs.Hints.{begins_argument as the_begins_argument, begins_command as the_begins_command, begins_part as the_begins_part};
+ghost use Rattle.mj_hints.specs.Hints.{is_verb_of_locals as the_verb_of_locals, lacks_part as the_lacks_part, takes_locals as the_takes_locals};
 
 use mj_ast::{Keyword, Verb};
 use mj_cmd::verb_of;
@@ -118,33 +120,7 @@ fn may_be_bare(verb: Option<Verb>) -> bool
 {
     match verb {
         None => false,
-        Some(Verb::HaltOrHang) => true,
-        Some(Verb::Of(keyword)) => match keyword {
-            Keyword::Halt
-            | Keyword::Lock
-            | Keyword::Kill
-            | Keyword::If
-            | Keyword::Else
-            | Keyword::For
-            | Keyword::Do
-            | Keyword::Quit
-            | Keyword::New
-            | Keyword::TStart
-            | Keyword::TCommit
-            | Keyword::TRestart
-            | Keyword::TRollback
-            | Keyword::Break => true,
-            Keyword::Set
-            | Keyword::Write
-            | Keyword::Hang
-            | Keyword::Job
-            | Keyword::Merge
-            | Keyword::Goto
-            | Keyword::Open
-            | Keyword::Use
-            | Keyword::Close
-            | Keyword::Read => false,
-        },
+        Some(verb) => mj_cmd::may_be_bare(verb),
     }
 }
 
@@ -212,6 +188,44 @@ pub fn is_rolled(before: &[u8]) -> bool
     ends_blank(before) && is_rollback(verb_of(command_part(last_part(parts_before(before)))))
 }
 
+/// Whether the first argument of a command would stand there.
+pub fn begins_argument(before: &[u8]) -> bool
+    ensures { result ≡ the_begins_argument before.now }
+{
+    ends_blank(before) && is_command(last_part(parts_before(before)))
+}
+
+/// Whether a command would stand there.
+pub fn begins_command(before: &[u8]) -> bool
+    ensures { result ≡ the_begins_command before.now }
+{
+    ends_blank(before) && !is_command(last_part(parts_before(before)))
+}
+
+/// Whether a part of an argument would begin there.
+pub fn begins_part(before: &[u8]) -> bool
+    ensures { result ≡ the_begins_part before.now }
+{
+    begins_argument(before) || (ends_joint(before) || before.ends_with(b"^"))
+}
+
+/// Whether the verb is that of a command whose arguments are locals without subscripts.
+fn is_verb_of_locals(verb: Option<Verb>) -> bool
+    ensures { result ≡ the_verb_of_locals verb }
+{
+    match verb {
+        Some(Verb::Of(Keyword::New | Keyword::TStart)) => true,
+        _ => false,
+    }
+}
+
+/// Whether an argument of such a command would stand there, or go on there.
+pub fn takes_locals(before: &[u8]) -> bool
+    ensures { result ≡ the_takes_locals before.now }
+{
+    is_verb_of_locals(verb_of(command_part(last_part(parts_before(before)))))
+}
+
 /// Whether a `*` stands there where an argument or an actual begins.
 pub fn is_alias(before: &[u8], there: &[u8]) -> bool
     ensures { result ≡ the_alias before.now there.now }
@@ -272,6 +286,13 @@ pub fn is_blank_inside(before: &[u8], there: &[u8]) -> bool
 {
     (begins_blank(there) && (begins_joint(past_blanks(there)) || ends_joint(before)))
         || (ends_blank(before) && begins_joint(there))
+}
+
+/// Whether what joins two parts stands there, and nothing is before it to be joined.
+pub fn lacks_part(before: &[u8], there: &[u8]) -> bool
+    ensures { result ≡ the_lacks_part before.now there.now }
+{
+    begins_joint(there) && begins_part(before)
 }
 
 /// Whether a `(` before the column is open.

@@ -8,13 +8,17 @@ ghost use Rattle.mj_hints.specs.Hints.{Said, command_help, construct_help, end_h
 ghost use Rattle.mj_hints.specs.Hints.{is_brace as the_brace, is_comment_mark as the_comment_mark, is_function as the_function};
 ghost use Rattle.mj_hints.specs.Hints.{is_clock as the_clock, is_column as the_column, is_kept as the_kept, is_mark, is_raised as the_raised};
 ghost use Rattle.mj_hints.specs.Hints.{is_increase as the_increase, is_one as the_one, is_trap as the_trap, is_unequal as the_unequal, named_help};
-ghost use Rattle.mj_hints.specs.Hints.{lacks_set as the_lacks_set};
+ghost use Rattle.mj_hints.specs.Hints.{lacks_set as the_lacks_set, is_byte_function as the_byte_function, is_list as the_list, is_system as the_system};
+ghost use Rattle.mj_hints.specs.Hints.{is_told_of_devices as the_told_of_devices, unknown_function as the_unknown_function};
+ghost use Rattle.mj_hints.specs.Hints.{byte_help, call_help, comment_help, digits_help, name_help, near_function_help, other_variable_help, place_help};
+ghost use Rattle.mj_hints.specs.Hints.{sign_help, text_help, untrapped_function_help, word_help};
 ghost use Rattle.mj_hints.specs.Hints.{may_hide as the_hidden, nearly_or, other_function_help, plain_help, slice_of, token_help, variable_help};
 ghost use Rattle.mj_hints.specs.Near.{near_of};
 
 use crate::around::{
-    are_blanks, ends_blank, ends_command, is_across, is_alias, is_blank_inside, is_blank_twice,
-    is_inside, is_rolled, lacks_blank, lacks_blank_there,
+    are_blanks, begins_argument, begins_command, begins_part, ends_blank, ends_command, is_across,
+    is_alias, is_blank_inside, is_blank_twice, is_inside, is_rolled, lacks_blank,
+    lacks_blank_there, lacks_part, takes_locals,
 };
 use crate::names::{COMMANDS, FUNCTIONS, VARIABLES};
 use crate::near::{capitals, nearest};
@@ -157,6 +161,9 @@ fn plain<'a>(before: &[u8], there: &'a [u8], front: Option<(Token<'a>, &'a [u8])
     if is_alias(before, there) {
         return Some(Hint::Alias);
     }
+    if before.ends_with(b"!") {
+        return Some(Hint::NewLine);
+    }
     if is_blank_inside(before, there) {
         return Some(Hint::NoBlank);
     }
@@ -172,8 +179,8 @@ fn plain<'a>(before: &[u8], there: &'a [u8], front: Option<(Token<'a>, &'a [u8])
     if is_column(there) {
         return Some(Hint::Column);
     }
-    if are_blanks(before) && there.starts_with(b"$$") {
-        return Some(Hint::Invoked);
+    if lacks_part(before, there) {
+        return Some(Hint::Fewer);
     }
     at_token(front, before)
 }
@@ -194,36 +201,127 @@ fn at_token<'a>(front: Option<(Token<'a>, &'a [u8])>, before: &[u8]) -> Option<H
         return Some(at_end(is_inside(before)));
     };
     match token {
-        Token::Comment(_) => {
-            if ends_blank(before) {
-                Some(at_end(is_inside(before)))
-            } else {
-                Some(Hint::CommentBlank)
-            }
-        }
+        Token::Comment(_) => Some(at_comment(before)),
         Token::Unclosed(_) => Some(Hint::Quote),
-        Token::Quoted(_) => Some(Hint::Joined),
-        Token::Blank => {
-            if is_inside(before) {
-                Some(Hint::Parenthesis)
-            } else {
-                None
-            }
-        }
-        Token::Sign(Sign::Close) => {
+        Token::Quoted(_) => Some(at_text(before)),
+        Token::Blank => Some(at_end(is_inside(before))),
+        Token::Sign(sign) => at_sign(sign, before),
+        Token::Digits(digits) => Some(at_digits(digits, before)),
+        Token::Special(_) | Token::Called(_) => Some(at_place(before)),
+        Token::Invoked(_) | Token::Numbered(_) => Some(at_call(before)),
+        Token::Dollars => None,
+        Token::Word(_) => at_word(before),
+        Token::Stray(byte) => at_byte(byte),
+    }
+}
+
+// What helps at what may stand nowhere there: a name is wanted, or a command, or what joins both.
+fn at_place(before: &[u8]) -> Hint
+    ensures { help_seen result ≡ place_help before.now }
+{
+    if begins_part(before) {
+        Hint::NameThere
+    } else if begins_command(before) {
+        Hint::CommandThere
+    } else {
+        Hint::Apart
+    }
+}
+
+// What helps at the call of a function.
+fn at_call(before: &[u8]) -> Hint
+    ensures { help_seen result ≡ call_help before.now }
+{
+    if begins_command(before) {
+        Hint::Invoked
+    } else {
+        at_place(before)
+    }
+}
+
+// What helps at a text in quotes.
+fn at_text(before: &[u8]) -> Hint
+    ensures { help_seen result ≡ text_help before.now }
+{
+    if begins_part(before) {
+        Hint::NameThere
+    } else {
+        Hint::Joined
+    }
+}
+
+// What helps at digits.
+fn at_digits(digits: &[u8], before: &[u8]) -> Hint
+    ensures { help_seen result ≡ digits_help digits.now before.now }
+{
+    if digits.len() > NUMBER {
+        Hint::LongNumber
+    } else {
+        at_place(before)
+    }
+}
+
+// What helps at a `(` and a `^`.
+fn at_name(before: &[u8]) -> Hint
+    ensures { help_seen result ≡ name_help before.now }
+{
+    if takes_locals(before) {
+        Hint::Locals
+    } else {
+        at_place(before)
+    }
+}
+
+// What helps at a word, which is none of a command where one may begin.
+fn at_word(before: &[u8]) -> Option<Hint>
+    ensures { option_map help_seen result ≡ word_help before.now }
+{
+    if begins_argument(before) {
+        Some(Hint::TwoBlanks)
+    } else if ends_blank(before) || begins_part(before) {
+        None
+    } else {
+        Some(Hint::Apart)
+    }
+}
+
+// What helps at a comment.
+fn at_comment(before: &[u8]) -> Hint
+    ensures { help_seen result ≡ comment_help before.now }
+{
+    if ends_blank(before) {
+        at_end(is_inside(before))
+    } else {
+        Hint::CommentBlank
+    }
+}
+
+// What helps at a byte that begins nothing: a `$` lacks its word.
+fn at_byte(byte: u8) -> Option<Hint>
+    ensures { option_map help_seen result ≡ byte_help byte }
+{
+    if byte == b'$' {
+        None
+    } else {
+        Some(Hint::Stray)
+    }
+}
+
+// What helps at a sign.
+fn at_sign(sign: Sign, before: &[u8]) -> Option<Hint>
+    ensures { option_map help_seen result ≡ sign_help sign before.now }
+{
+    match sign {
+        Sign::Close => {
             if is_inside(before) {
                 Some(Hint::Fewer)
             } else {
                 Some(Hint::Closed)
             }
         }
-        Token::Digits(digits) => {
-            if digits.len() > NUMBER {
-                Some(Hint::LongNumber)
-            } else {
-                None
-            }
-        }
+        Sign::Dot => Some(Hint::Dotted),
+        Sign::Underscore => Some(Hint::Underscored),
+        Sign::Open | Sign::Caret => Some(at_name(before)),
         _ => None,
     }
 }
@@ -300,6 +398,34 @@ fn is_function(word: &[u8]) -> bool
     }
 }
 
+// Whether it is the name of a function with a `Z` before it.
+fn is_byte_function(word: &[u8]) -> bool
+    ensures { result ≡ the_byte_function word.now }
+{
+    word.starts_with(b"$Z") && is_function(from(word, 1))
+}
+
+fn is_system(word: &[u8]) -> bool
+    ensures { result ≡ the_system word.now }
+{
+    is_one(word, b"$SYSTEM", b"$SY") || word == b"$STORAGE".as_slice()
+}
+
+// Whether it tells how a READ or a device fared.
+fn is_told_of_devices(word: &[u8]) -> bool
+    ensures { result ≡ the_told_of_devices word.now }
+{
+    is_one(word, b"$KEY", b"$K") || word == b"$DEVICE".as_slice()
+}
+
+fn is_list(word: &[u8]) -> bool
+    ensures { result ≡ the_list word.now }
+{
+    word.starts_with(b"$LIST")
+        || (is_one(word, b"$LB", b"$LI")
+            || (is_one(word, b"$LG", b"$LL") || is_one(word, b"$LF", b"$LTS")))
+}
+
 // What helps at a word that is nearly one of these names, or else this.
 fn near_or(word: &[u8], names: &[&'static [u8]], other: Hint) -> Hint
     requires { help_seen other ≡ Said other }
@@ -327,6 +453,21 @@ fn variable(word: &[u8]) -> Hint
         Hint::InputEnd
     } else if word.starts_with(b"$Z") {
         Hint::Passed
+    } else {
+        other_variable(word)
+    }
+}
+
+// What helps at any other variable.
+fn other_variable(word: &[u8]) -> Hint
+    ensures { help_seen result ≡ other_variable_help word.now }
+{
+    if is_system(word) {
+        Hint::System
+    } else if is_told_of_devices(word) {
+        Hint::Device
+    } else if word == b"$QUIT".as_slice() {
+        Hint::Asked
     } else {
         near_or(word, &VARIABLES, Hint::Variables)
     }
@@ -364,7 +505,44 @@ fn other_function(word: &[u8]) -> Hint
     if is_trap(word) {
         Hint::Trap
     } else {
-        near_or(word, &FUNCTIONS, Hint::Functions)
+        untrapped_function(word)
+    }
+}
+
+// What helps at one that has nothing to do with faults.
+fn untrapped_function(word: &[u8]) -> Hint
+    ensures { help_seen result ≡ untrapped_function_help word.now }
+{
+    if is_one(word, b"$VIEW", b"$V") {
+        Hint::System
+    } else if is_list(word) {
+        Hint::Lists
+    } else if word == b"$CASE".as_slice() {
+        Hint::Cases
+    } else {
+        near_function(word)
+    }
+}
+
+// What helps at a function that is nearly another, or none.
+fn near_function(word: &[u8]) -> Hint
+    ensures { help_seen result ≡ near_function_help word.now }
+{
+    let other = unknown_function(word);
+    near_or(word, &FUNCTIONS, other)
+}
+
+// What helps at a function that is nearly no other.
+fn unknown_function(word: &[u8]) -> Hint
+    ensures value { result ≡ the_unknown_function word.now }
+    ensures said { help_seen result ≡ Said result }
+{
+    if is_byte_function(word) {
+        Hint::Bytes
+    } else if word.starts_with(b"$Z") {
+        Hint::PassedFunctions
+    } else {
+        Hint::Functions
     }
 }
 

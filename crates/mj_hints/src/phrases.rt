@@ -64,6 +64,22 @@ pub enum Hint {
     Closed,
     /// a `)` too early
     Fewer,
+    /// a `!` behind a value
+    NewLine,
+    /// something else where a name is wanted
+    NameThere,
+    /// something else where a command may begin
+    CommandThere,
+    /// two values with nothing between
+    Apart,
+    /// a global or subscripts where locals are wanted
+    Locals,
+    /// a `.` between names
+    Dotted,
+    /// a `_` where texts aren't joined
+    Underscored,
+    /// any other byte
+    Stray,
     /// a number of more than 18 digits
     LongNumber,
     /// `$X` or `$Y` where a value is given to it
@@ -94,6 +110,12 @@ pub enum Hint {
     InputEnd,
     /// any other variable that begins with Z
     Passed,
+    /// `$VIEW`, `$SYSTEM`, `$STORAGE`
+    System,
+    /// `$KEY`, `$DEVICE`
+    Device,
+    /// `$QUIT`
+    Asked,
     /// any other variable
     Variables,
     /// `$TEXT`
@@ -112,6 +134,14 @@ pub enum Hint {
     Dated,
     /// `$ZCONVERT`
     Letters,
+    /// a function of lists
+    Lists,
+    /// `$CASE`
+    Cases,
+    /// a function whose name without its `Z` is one
+    Bytes,
+    /// any other function that begins with Z
+    PassedFunctions,
     /// any other function
     Functions,
     /// `XECUTE`
@@ -172,6 +202,16 @@ impl Hint {
             Hint::Parenthesis => "a `(` before it isn't closed",
             Hint::Closed => "no `(` is open there",
             Hint::Fewer => "something is missing before it: an argument, or a value",
+            Hint::NewLine =>
+                "`X!Y` is \"either\"; a `!` that writes a new line is an argument of its own: `WRITE X,!`",
+            Hint::NameThere => "a name stands there: a letter or `%`, then letters and digits",
+            Hint::CommandThere => "a command begins there: a blank ends the arguments before it",
+            Hint::Apart => "an operator or a comma is missing before it",
+            Hint::Locals => "locals alone stand there, without subscripts",
+            Hint::Dotted =>
+                "no name has a `.`, which is no operator either: `_` joins texts, and subscripts stand in parentheses: `X(1)`",
+            Hint::Underscored => "no name has a `_`: a letter or `%`, then letters and digits",
+            Hint::Stray => "outside of texts and comments no line has this byte",
             Hint::LongNumber => "a number has at most 18 digits",
             Hint::Column => "`$X` and `$Y` can't be set: `WRITE ?5` moves to column 5",
             Hint::Invoked =>
@@ -191,6 +231,11 @@ impl Hint {
                 "at the end of the input a timed `READ` makes `$TEST` 0: `READ X:0 QUIT:'$TEST`",
             Hint::Passed =>
                 "Z variables are left out: leave it out, or pass in what is to be known, by `--stdin` or `--globals`",
+            Hint::System => "it looks into the system below, and nothing stands for it",
+            Hint::Device =>
+                "a device that fails ends the job by `F16 DEVICE`, and at its end a timed `READ` makes `$TEST` 0",
+            Hint::Asked =>
+                "a line is called by `DO`, or as a function, which ends by a `QUIT` with a value: nothing asks which",
             Hint::Variables =>
                 "the variables are `$IO`, `$JOB`, `$TEST`, `$TLEVEL`, `$TRESTART`, `$X` and `$Y`",
             Hint::Lines =>
@@ -205,6 +250,12 @@ impl Hint {
                 "a date is worked out from the number of its day by `\\` and `#`, or passed in as a text",
             Hint::Letters =>
                 "letters are changed by `$TRANSLATE(X,\"abc\",\"ABC\")`, with all of them in both texts",
+            Hint::Lists =>
+                "a list is kept in a text, as `$PIECE(X,\"^\",2)` has it, or under subscripts: `X(2)`",
+            Hint::Cases => "`$SELECT(X=1:\"a\",X=2:\"b\",1:\"c\")` chooses",
+            Hint::Bytes => "texts are bytes: the function without the `Z` in its name does it",
+            Hint::PassedFunctions =>
+                "Z functions are left out: pass in what is to be known, by `--stdin` or `--globals`",
             Hint::Functions =>
                 "the functions are `$A $C $D $E $F $G $J $L $NA $O $P $QL $QS $Q $RE $S $TR`, or whole: `$LENGTH`",
             Hint::Execute => "no text is run: write it as lines behind a label, and `DO` runs them",

@@ -17,10 +17,12 @@ ghost use Rattle.mj_begin.specs.Words.{WereGiven};
 use crate::lives::live;
 use crate::workers::with_workers;
 use mj_ask::EVENTS_LIMIT;
-use mj_begin::{Beginning, Outlet, begin, loaded, refused, refused_files, refused_record};
+use mj_begin::{
+    Beginning, Outlet, begin, loaded, refused, refused_files, refused_record, routine_bytes,
+};
 use mj_command_line::{NoOrder, Order, Run, read_words};
 use mj_dev::Device;
-use mj_drafts::{Lockable, ProgramError, WORDS, print, stopped};
+use mj_drafts::{Lockable, ProgramError, WORDS, is_stream, print, stopped};
 use mj_files::Port;
 use mj_finish::{finish, kept_starts};
 use mj_load::Image;
@@ -31,7 +33,7 @@ use mj_search::explore;
 use mj_sys::Opening;
 use mj_text::Limit;
 use mj_warnings::put_warnings;
-use std::alloc::Global;
+use std::alloc::AllocError;
 use std::convert::AsStr;
 use std::io::{Read, Write};
 use std::marker::Brand;
@@ -212,17 +214,52 @@ fn check<'a, R: Files + AllocGlobal, O: Write, E: Write>(
     let count = files.len();
     let told = format!(in rt.alloc(); "ok {count}\n")?;
     print(told.as_bytes(), out)?;
-    warn(rt.alloc(), &image, err);
+    warn(rt, files, &image, err);
     Ok(0)
 }
 
-// Tells what is doubtful of routines. Where memory is refused, or this can't be written, nothing more is told.
-fn warn<E: Write>(alloc: Global, image: &Image, err: &mut E) {
-    let mut bytes = Vec::new(alloc);
-    if put_warnings(alloc, &mut bytes, image).is_ok() {
+// Tells what is doubtful of the routines of these files. Where memory is refused, or this can't be written, nothing more is told.
+fn warn<R: Files + AllocGlobal, E: Write>(rt: &R, files: &[&str], image: &Image, err: &mut E) {
+    if let Ok(bytes) = warnings(rt, files, image) {
         let _ = err.write_all(&bytes);
     }
-    drop(bytes);
+}
+
+// What is doubtful of them. The files are read once more where something is, for the source.
+fn warnings<R: Files + AllocGlobal>(
+    rt: &R,
+    files: &[&str],
+    image: &Image,
+) -> Result<Vec<u8>, AllocError> {
+    let mut bytes = Vec::new(rt.alloc());
+    put_warnings(rt.alloc(), &mut bytes, image, &[])?;
+    if !bytes.is_empty() {
+        let texts = texts(rt, files)?;
+        bytes.clear();
+        put_warnings(rt.alloc(), &mut bytes, image, &texts)?;
+    }
+    Ok(bytes)
+}
+
+// The texts of these files.
+fn texts<R: Files + AllocGlobal>(rt: &R, files: &[&str]) -> Result<Vec<Vec<u8>>, AllocError> {
+    let mut texts = Vec::new(rt.alloc());
+    for file in files {
+        texts.push(text(rt, *file)?)?;
+    }
+    Ok(texts)
+}
+
+// The text of a file. What can't be read once more has none.
+fn text<R: Files + AllocGlobal>(rt: &R, file: &str) -> Result<Vec<u8>, AllocError> {
+    if is_stream(file) {
+        return Ok(Vec::new(rt.alloc()));
+    }
+    match routine_bytes(rt, file) {
+        Ok(bytes) => Ok(bytes),
+        Err(ProgramError::Memory) => Err(AllocError),
+        Err(_) => Ok(Vec::new(rt.alloc())),
+    }
 }
 
 // Prints the text on words that are no order: help, which was asked for, or what is wrong.

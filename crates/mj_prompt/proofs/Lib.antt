@@ -1,0 +1,5 @@
+mod Beginnings
+mod Comparing
+mod Givens
+mod Keeping
+mod Resuming

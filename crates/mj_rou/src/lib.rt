@@ -11,6 +11,6 @@ mod laws;
 mod routine;
 
 pub use error::{LoadError, RoutineName};
-pub use file::{newline, stripped};
+pub use file::{first_line, newline, stripped};
 pub use laws::{has_words, one_reason, read_or_refused};
 pub use routine::read;

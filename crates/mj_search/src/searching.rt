@@ -1,13 +1,12 @@
 // Runs by chance.
 
-ghost use Rattle.std.specs.Prelude.{◌≡◌, ◌≢◌, ◌≤◌, ◌++◌, All, IfOk, IfNone, IfSome, length, option_map, true};
-ghost use Rattle.std.specs.String.{string_bytes};
+ghost use Rattle.std.specs.Prelude.{◌≡◌, ◌≢◌, ◌≤◌, All, IfOk, true};
 ghost use Rattle.mj_dev.specs.Shelves.{principal};
 ghost use Rattle.mj_sys.specs.Shared.{are_global};
 ghost use Rattle.mj_explore.specs.Scripts.{opening_in, supply_names};
-ghost use Rattle.mj_search.specs.Printed.{runs_line, found_line, goal_word};
-ghost use Rattle.mj_search.specs.Statuses.{found_status};
 
+use crate::printed::{explored_text, refusal_line, refusal_of};
+use crate::told::told_ends;
 use mj_begin::{Beginning, begin, file_bytes, refused, routine_bytes, routine_name};
 use mj_chance::put_steps;
 use mj_command_line::Explore;
@@ -16,15 +15,14 @@ use mj_explore::{Explored, Goal, Script, Search, Source, Supply, Unread, conditi
 use mj_files::{BYTES_LIMIT, Side, Trouble, read_device, whole};
 use mj_globs::Globals;
 use mj_sys::Opening;
+use mj_text::Fault;
 use std::alloc::{AllocError, Global};
 use std::io::{Read, Write};
 use std::marker::Brand;
 use std::rt::Files;
 
-// The exit status where a run shows what is looked for.
-const FOUND: u8 = 1;
-
-/// Makes the runs that are ordered, tells of them, keeps the steps of one that shows what is looked for, and gives the exit status.
+/// Makes the runs that are ordered, tells of them, keeps the steps of one that shows what is looked for, and gives the exit status. An expression that faults
+/// over what the first run left is refused: nothing is told of the run then, and no steps are kept.
 pub fn explore<R, I, O, E>(
     rt: R,
     order: &Explore<'_>,
@@ -42,7 +40,7 @@ where
 {
     match explored(rt, order, input) {
         Ok(explored) => {
-            let status = tell(&rt, order, &explored, out, err);
+            let status = told(&rt, order, &explored, out, err);
             drop(explored);
             status
         }
@@ -236,6 +234,45 @@ fn runs_from<G: Opening>(
     mj_explore::explore::<G>(alloc, script, globals, goal.as_ref(), search)
 }
 
+// Tells of the runs, unless the expression is refused, and gives the exit status.
+fn told<R, O, E>(rt: &R, order: &Explore<'_>, explored: &Explored, out: &mut O, err: &mut E) -> u8
+where
+    R: Files + AllocGlobal,
+    R::File: Lockable,
+    O: Write,
+    E: Write,
+    ensures { result ≤ 4 }
+{
+    match refusal_of(explored) {
+        Some(fault) => refuse(rt.alloc(), order.until, fault, err),
+        None => tell(rt, order, explored, out, err),
+    }
+}
+
+// Refuses an expression, says by which fault, and gives the exit status.
+fn refuse<E: Write>(alloc: Global, until: Option<&str>, fault: Fault, err: &mut E) -> u8
+    ensures { result ≡ 3 }
+{
+    let stop = ProgramError::Chosen {
+        option: Choice::Until,
+        value: expression_of(until),
+    };
+    let status = stopped(&stop, err);
+    // Where memory is refused, or this can't be written, the line alone tells.
+    if let Ok(line) = refusal_line(alloc, fault) {
+        let _ = err.write_all(line.as_bytes());
+    }
+    status
+}
+
+// The words of an expression that was looked for.
+fn expression_of<'a>(until: Option<&'a str>) -> &'a str {
+    match until {
+        Some(word) => word,
+        None => "",
+    }
+}
+
 // Prints what is told of the runs, and then keeps the steps that were found, where a file is named for them. Where the one can't be done the other still is,
 // unless memory was refused.
 fn tell<R, O, E>(rt: &R, order: &Explore<'_>, explored: &Explored, out: &mut O, err: &mut E) -> u8
@@ -252,7 +289,17 @@ where
     let printed = tell_trouble(print(&text, out), err);
     drop(text);
     let kept = tell_trouble(keep(rt, order, explored), err);
+    if order.run.hints {
+        tell_more(rt.alloc(), explored, err);
+    }
     found.max(printed).max(kept)
+}
+
+// Tells more of the runs: their ends. Where memory is refused, or this can't be written, nothing more is told.
+fn tell_more<E: Write>(alloc: Global, explored: &Explored, err: &mut E) {
+    if let Ok(bytes) = told_ends(alloc, &explored.ends) {
+        let _ = err.write_all(&bytes);
+    }
 }
 
 // Writes the steps that were found to the file that is named for them.
@@ -264,62 +311,11 @@ fn keep<'a, R: Files + AllocGlobal>(
 where
     R::File: Lockable,
 {
-    let (Some(file), Some(steps)) = (order.keep, &explored.found) else {
+    let (Some(file), Some(found)) = (order.keep, &explored.found) else {
         return Ok(());
     };
-    let bytes = put_steps(rt.alloc(), steps)?;
+    let bytes = put_steps(rt.alloc(), &found.steps)?;
     let kept = write_file(rt, file, &bytes);
     drop(bytes);
     kept
-}
-
-// What is printed of the runs, and the exit status: how many there were, and how many different ends they had; and behind that, where one showed what is
-// looked for, which it was, and how many steps are found to show it.
-fn explored_text(
-    alloc: Global,
-    explored: &Explored,
-    until: Option<&str>,
-) -> Result<(Vec<u8>, u8), AllocError>
-    ensures none { IfOk result (λ told. IfNone explored.now.found (told.0.items ≡ runs_line explored.now.runs explored.now.ends)) }
-    ensures some { IfOk result (λ told. IfSome explored.now.found (λ steps. told.0.items
-        ≡ runs_line explored.now.runs explored.now.ends
-        ++ found_line (goal_word (option_map (λ word. word.now) until.entry)) explored.now.runs (length steps.items))) }
-    ensures which { IfOk result (λ told. told.1 ≡ found_status explored.now.found) }
-    ensures bound { IfOk result (λ told. told.1 ≤ 1) }
-{
-    let mut text = Vec::new(alloc);
-    let counts = runs_line(alloc, explored.runs, explored.ends)?;
-    text.extend_from_slice(counts.as_bytes())?;
-    let Some(steps) = &explored.found else {
-        return Ok((text, 0));
-    };
-    let found = found_line(alloc, word_of(until), explored.runs, steps.len())?;
-    text.extend_from_slice(found.as_bytes())?;
-    Ok((text, FOUND))
-}
-
-// The line on how many runs there were, and how many different ends they had.
-fn runs_line(alloc: Global, runs: u32, ends: usize) -> Result<String, AllocError>
-    ensures { IfOk result (λ line. string_bytes line ≡ runs_line runs ends) }
-{
-    let line = format!(in alloc; "runs {runs}, ends {ends}\n")?;
-    Ok(line)
-}
-
-// The line on what the last run showed, and how many steps show it.
-fn found_line(alloc: Global, what: &str, run: u32, steps: usize) -> Result<String, AllocError>
-    ensures { IfOk result (λ line. string_bytes line ≡ found_line what.now run steps) }
-{
-    let line = format!(in alloc; "{what} in run {run}, steps {steps}\n")?;
-    Ok(line)
-}
-
-// The word for what was found.
-fn word_of<'a>(until: Option<&'a str>) -> &'a str
-    ensures { result.now ≡ goal_word (option_map (λ word. word.now) until.entry) }
-{
-    match until {
-        Some(word) if matches!(word, "fault" | "stuck" | "clash") => word,
-        _ => "untrue",
-    }
 }

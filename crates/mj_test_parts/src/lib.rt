@@ -4,9 +4,15 @@
 #![tactic(auto)]
 
 #[cfg(test)]
+mod chance;
+#[cfg(test)]
 mod locals;
 #[cfg(test)]
 mod locks;
+#[cfg(test)]
+mod plain;
+#[cfg(test)]
+mod stamps;
 #[cfg(test)]
 mod texts;
 #[cfg(test)]

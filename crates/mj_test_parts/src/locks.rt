@@ -1,8 +1,7 @@
 // The table of locks: a try looks at the nodes along its names alone, however many names others hold, and some thousand accesses by chance are
 // answered as a plain list of holds that is searched from its start answers them.
 
-ghost use Rattle.std.specs.Prelude.{◌<◌};
-
+use crate::chance::Chance;
 use mj_locktab::{LockTable, Taken};
 use mj_subs::{Name, Sub, Subs};
 use mj_text::{Failure, Text};
@@ -12,25 +11,6 @@ use std::test::Fail;
 const SUBSCRIPTS: [&str; 4] = ["1", "2", "10", "x"];
 
 const STEPS: u64 = 3_000;
-
-// Numbers by chance, the same in each run.
-#[derive(Drop)]
-struct Chance {
-    state: u64,
-}
-
-impl Chance {
-    fn below(&mut self, count: u64) -> u64
-        requires { 0 < count }
-        ensures { result < count }
-    {
-        self.state = self
-            .state
-            .wrapping_mul(6_364_136_223_846_793_005)
-            .wrapping_add(1_442_695_040_888_963_407);
-        (self.state >> 33) % count
-    }
-}
 
 // The holds in no order, each a job with a name and how often it holds it.
 #[derive(Drop)]
@@ -153,7 +133,7 @@ fn difference(
     table: &mut LockTable,
     plain: &mut Plain,
 ) -> Result<Option<u64>, Failure> {
-    let mut chance = Chance { state: 1 };
+    let mut chance = Chance::new(1);
     for step in 0..STEPS {
         if !is_alike(alloc, table, plain, &mut chance)? {
             return Ok(Some(step));

@@ -1,8 +1,7 @@
 // Trees beside the plain list: some thousand accesses by chance, each of which both stores answer alike. And that calls that allocate
 // can succeed.
 
-ghost use Rattle.std.specs.Prelude.{◌<◌};
-
+use crate::chance::Chance;
 use mj_globs::{Change, Globals};
 use mj_store::{Access, Answer, Direction, Flat, Nodes, Store, perform};
 use mj_subs::{Name, Sub, Subs};
@@ -14,25 +13,12 @@ const SUBSCRIPTS: [&str; 10] = ["", "0", "1", "-1", "10", "2", "01", "a", "b", "
 
 const STEPS: u64 = 3_000;
 
-// Numbers by chance, the same in each run. Where they are of rows, most subscripts are numbers that lie close together, and go up with each step.
+// What the next access is made from. Where it is of rows, most subscripts are numbers that lie close together, and go up with each step.
 #[derive(Drop)]
-struct Chance {
-    state: u64,
+struct Chosen {
+    chance: Chance,
     of_rows: bool,
     step: u64,
-}
-
-impl Chance {
-    fn below(&mut self, count: u64) -> u64
-        requires { 0 < count }
-        ensures { result < count }
-    {
-        self.state = self
-            .state
-            .wrapping_mul(6_364_136_223_846_793_005)
-            .wrapping_add(1_442_695_040_888_963_407);
-        (self.state >> 33) % count
-    }
 }
 
 #[test]
@@ -75,14 +61,14 @@ fn difference(
     list: &mut Flat,
     of_rows: bool,
 ) -> Result<Option<u64>, Failure> {
-    let mut chance = Chance {
-        state: 1,
+    let mut chosen = Chosen {
+        chance: Chance::new(1),
         of_rows,
         step: 0,
     };
     for step in 0..STEPS {
-        chance.step = step;
-        if !is_alike(alloc, trees, list, &mut chance)? {
+        chosen.step = step;
+        if !is_alike(alloc, trees, list, &mut chosen)? {
             return Ok(Some(step));
         }
     }
@@ -94,9 +80,9 @@ fn is_alike(
     alloc: Global,
     trees: &mut Globals,
     list: &mut Flat,
-    chance: &mut Chance,
+    chosen: &mut Chosen,
 ) -> Result<bool, Failure> {
-    let access = access(alloc, chance)?;
+    let access = access(alloc, chosen)?;
     let answer = perform(trees, &access)?;
     let alike = is_answer(list, &access, &answer);
     drop(answer);
@@ -155,39 +141,39 @@ fn changes(alloc: Global, above: &Name, count: u64) -> Result<[Change; 2], Failu
 }
 
 fn put(alloc: Global, count: u64) -> Result<Change, Failure> {
-    let mut chance = Chance {
-        state: 2,
+    let mut chosen = Chosen {
+        chance: Chance::new(2),
         of_rows: false,
         step: 0,
     };
-    let first = subscripts(alloc, &mut chance, 1)?;
+    let first = subscripts(alloc, &mut chosen, 1)?;
     let below = Name::global(Text::from(alloc, b"A")?, first);
-    Ok(Change::Put(below, one_node(alloc, &mut chance, count)?))
+    Ok(Change::Put(below, one_node(alloc, &mut chosen, count)?))
 }
 
-fn one_node(alloc: Global, chance: &mut Chance, count: u64) -> Result<Nodes, Failure> {
-    let list = subscripts(alloc, chance, count)?;
+fn one_node(alloc: Global, chosen: &mut Chosen, count: u64) -> Result<Nodes, Failure> {
+    let list = subscripts(alloc, chosen, count)?;
     let mut nodes = Nodes::new(alloc);
     nodes.push(list, Text::from_number(alloc, 7))?;
     Ok(nodes)
 }
 
-fn access(alloc: Global, chance: &mut Chance) -> Result<Access, Failure> {
-    if chance.of_rows && chance.step % 256 < 24 {
-        return Ok(Access::Kill(in_the_middle(alloc, chance.step)?));
+fn access(alloc: Global, chosen: &mut Chosen) -> Result<Access, Failure> {
+    if chosen.of_rows && chosen.step % 256 < 24 {
+        return Ok(Access::Kill(in_the_middle(alloc, chosen.step)?));
     }
-    let name = name(alloc, chance)?;
-    Ok(match chance.below(14) {
+    let name = name(alloc, chosen)?;
+    Ok(match chosen.chance.below(14) {
         0 => Access::Kill(name),
-        1 => Access::Put(name, nodes(alloc, chance)?),
+        1 => Access::Put(name, nodes(alloc, chosen)?),
         2 => Access::Value(name),
         3 => Access::Data(name),
         4 | 5 => Access::Order(name, Direction::Forward),
         6 | 7 => Access::Order(name, Direction::Backward),
         8 => Access::Query(name),
         9 => Access::Subtree(name),
-        10 | 11 if chance.of_rows => Access::Kill(name),
-        _ => Access::Set(name, number(alloc, chance)),
+        10 | 11 if chosen.of_rows => Access::Kill(name),
+        _ => Access::Set(name, number(alloc, chosen)),
     })
 }
 
@@ -199,55 +185,55 @@ fn in_the_middle(alloc: Global, step: u64) -> Result<Name, Failure> {
     Ok(Name::global(Text::from(alloc, b"%B")?, list))
 }
 
-fn name(alloc: Global, chance: &mut Chance) -> Result<Name, Failure> {
-    let bytes: &[u8] = if chance.below(3) == 0 { b"A" } else { b"%B" };
+fn name(alloc: Global, chosen: &mut Chosen) -> Result<Name, Failure> {
+    let bytes: &[u8] = if chosen.chance.below(3) == 0 { b"A" } else { b"%B" };
     let word = Text::from(alloc, bytes)?;
-    let count = if chance.of_rows {
-        1 + chance.below(2)
+    let count = if chosen.of_rows {
+        1 + chosen.chance.below(2)
     } else {
-        chance.below(4)
+        chosen.chance.below(4)
     };
-    let list = subscripts(alloc, chance, count)?;
-    Ok(if chance.below(3) == 0 {
+    let list = subscripts(alloc, chosen, count)?;
+    Ok(if chosen.chance.below(3) == 0 {
         Name::local(word, list)
     } else {
         Name::global(word, list)
     })
 }
 
-fn subscripts(alloc: Global, chance: &mut Chance, count: u64) -> Result<Subs, Failure> {
+fn subscripts(alloc: Global, chosen: &mut Chosen, count: u64) -> Result<Subs, Failure> {
     let mut list = Subs::new(alloc);
     for _ in 0..count {
-        list.push(Sub::from_text(subscript(alloc, chance)?))?;
+        list.push(Sub::from_text(subscript(alloc, chosen)?))?;
     }
     Ok(list)
 }
 
-fn subscript(alloc: Global, chance: &mut Chance) -> Result<Text, Failure> {
-    if chance.of_rows && chance.below(12) > 0 {
-        let number = (chance.step / 32) as i64 + chance.below(40) as i64 - 30;
+fn subscript(alloc: Global, chosen: &mut Chosen) -> Result<Text, Failure> {
+    if chosen.of_rows && chosen.chance.below(12) > 0 {
+        let number = (chosen.step / 32) as i64 + chosen.chance.below(40) as i64 - 30;
         return Ok(Text::from_number(alloc, number));
     }
-    let text = SUBSCRIPTS[chance.below(10) as usize];
+    let text = SUBSCRIPTS[chosen.chance.below(10) as usize];
     Text::from(alloc, text.as_bytes())
 }
 
-fn nodes(alloc: Global, chance: &mut Chance) -> Result<Nodes, Failure> {
+fn nodes(alloc: Global, chosen: &mut Chosen) -> Result<Nodes, Failure> {
     let mut nodes = Nodes::new(alloc);
-    for _ in 0..chance.below(4) {
-        let count = if chance.below(8) == 0 {
+    for _ in 0..chosen.chance.below(4) {
+        let count = if chosen.chance.below(8) == 0 {
             30
         } else {
-            chance.below(3)
+            chosen.chance.below(3)
         };
-        let list = subscripts(alloc, chance, count)?;
-        nodes.push(list, number(alloc, chance))?;
+        let list = subscripts(alloc, chosen, count)?;
+        nodes.push(list, number(alloc, chosen))?;
     }
     Ok(nodes)
 }
 
-fn number(alloc: Global, chance: &mut Chance) -> Text {
-    Text::from_number(alloc, chance.below(100) as i64)
+fn number(alloc: Global, chosen: &mut Chosen) -> Text {
+    Text::from_number(alloc, chosen.chance.below(100) as i64)
 }
 
 fn is_same(a: &Answer, b: &Answer) -> bool {

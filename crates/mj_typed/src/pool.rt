@@ -2,15 +2,14 @@
 
 ghost use Rattle.std.specs.Prelude.{◌≡◌, [], IfOk, OnOk};
 ghost use Rattle.std.specs.List.{before_first};
-ghost use Rattle.mj_dev.specs.Heard.{IsFresh};
 ghost use Rattle.mj_dev.specs.Shelves.{added};
 ghost use Rattle.mj_files.specs.Named.{is_equals, with_principals, with_devices};
 ghost use Rattle.mj_typed.specs.Named.{names_in};
 
 use crate::live::Live;
 use crate::typed::Typed;
-use mj_dev::{Device, Pool};
-use mj_files::{Port, Side, Trouble, read_device};
+use mj_dev::Pool;
+use mj_files::{Port, Side, Trouble, put, read_device};
 use mj_text::Text;
 use std::alloc::{AllocError, Global};
 use std::io::Read;
@@ -76,18 +75,4 @@ fn add_named<R: Files + Drop, I: Read + Drop>(
     };
     put(pool, &device.name, Live::Port(port))?;
     Ok(())
-}
-
-// Adds a device of this name.
-fn put<D: Device>(pool: &mut Pool<D>, name: &Text, device: D) -> Result<(), AllocError>
-    requires { IsFresh (D.failures device) (D.taken device) (D.given device) }
-    ensures { OnOk result (pool.new ≡ added name.now pool.old) }
-{
-    match pool.add(name, device) {
-        Ok(()) => Ok(()),
-        Err(device) => {
-            drop(device); // for the proof
-            Err(AllocError)
-        }
-    }
 }

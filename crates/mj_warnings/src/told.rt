@@ -5,37 +5,78 @@ use crate::locks::{Pair, pairs, turned, was_told};
 use crate::reached::reached_lines;
 use mj_ask::Entry;
 use mj_ast::{Routine, Scope, Target as Named};
+use mj_hints::{line_at, put_source};
 use mj_load::Image;
 use mj_pcode::{Instr, Reference, Unit, find_line};
 use mj_text::{Digits, Text};
 use std::alloc::{AllocError, Global};
 
 /// Puts what is doubtful of routines to the end of some bytes, a line each: what commands name that isn't there, or has too few formals; the first line of each
-/// run of lines that nothing reaches; and the names that LOCK takes in two orders. Where memory is refused a part of it may stand there.
-pub fn put_warnings(alloc: Global, bytes: &mut Vec<u8>, image: &Image) -> Result<(), AllocError> {
-    for (unit, routine) in image.units().iter().zip(image.routines().iter()) {
-        put_doubts(alloc, bytes, image.units(), unit)?;
-        put_unreached(alloc, bytes, unit, routine)?;
+/// run of lines that nothing reaches; and the names that LOCK takes in two orders. Behind what is told of a line, or of two, stands its source, by the texts of
+/// the routines, which are in their order, as far as they are known. Where memory is refused a part of it may stand there.
+pub fn put_warnings(
+    alloc: Global,
+    bytes: &mut Vec<u8>,
+    image: &Image,
+    texts: &[Vec<u8>],
+) -> Result<(), AllocError> {
+    for (at, (unit, routine)) in image
+        .units()
+        .iter()
+        .zip(image.routines().iter())
+        .enumerate()
+    {
+        let text = text_of(texts, at);
+        put_doubts(alloc, bytes, image.units(), unit, text)?;
+        put_unreached(alloc, bytes, unit, routine, text)?;
     }
-    put_orders(alloc, bytes, image)
+    put_orders(alloc, bytes, image, texts)
 }
 
-// Puts what is doubtful of the instructions of a unit to the end.
+// The text of the routine at this place, or none where it isn't known.
+fn text_of(texts: &[Vec<u8>], at: usize) -> &[u8] {
+    match texts.get(at) {
+        None => &[],
+        Some(text) => text.as_slice(),
+    }
+}
+
+// Puts the line of this number of a text to the end, if it is known.
+fn put_line(bytes: &mut Vec<u8>, text: &[u8], number: u32) -> Result<(), AllocError> {
+    let line = line_at(text, (number as usize).saturating_sub(1));
+    if line.is_empty() {
+        Ok(())
+    } else {
+        put_source(bytes, line, 0)
+    }
+}
+
+// Puts what is doubtful of the instructions of a unit to the end, and each line of which something is told behind that.
 fn put_doubts(
     alloc: Global,
     bytes: &mut Vec<u8>,
     units: &[Unit],
     unit: &Unit,
+    text: &[u8],
 ) -> Result<(), AllocError> {
     let mut number = 0;
+    let mut told = false;
     for instr in unit.instrs.iter() {
         if let Instr::Line(start) = instr {
+            if told {
+                put_line(bytes, text, number)?;
+            }
+            told = false;
             number = start.line;
         }
         if let Some(doubt) = doubt_at(units, unit, instr) {
             put_place(alloc, bytes, &unit.name, number)?;
             put_doubt(alloc, bytes, units, unit, instr, doubt)?;
+            told = true;
         }
+    }
+    if told {
+        put_line(bytes, text, number)?;
     }
     Ok(())
 }
@@ -204,9 +245,10 @@ fn put_unreached(
     bytes: &mut Vec<u8>,
     unit: &Unit,
     routine: &Routine,
+    text: &[u8],
 ) -> Result<(), AllocError> {
     let reached = reached_lines(alloc, unit, &routine.lines)?;
-    let done = put_firsts(alloc, bytes, unit, &reached);
+    let done = put_firsts(alloc, bytes, unit, &reached, text);
     drop(reached);
     done
 }
@@ -216,6 +258,7 @@ fn put_firsts(
     bytes: &mut Vec<u8>,
     unit: &Unit,
     reached: &[bool],
+    text: &[u8],
 ) -> Result<(), AllocError> {
     let mut before = true;
     let mut number = 0u32;
@@ -224,6 +267,7 @@ fn put_firsts(
         if before && !*is {
             put_place(alloc, bytes, &unit.name, number)?;
             bytes.extend_from_slice(b"nothing reaches this line\n")?;
+            put_line(bytes, text, number)?;
         }
         before = *is;
     }
@@ -231,9 +275,14 @@ fn put_firsts(
 }
 
 // Puts the names that are taken in two orders to the end.
-fn put_orders(alloc: Global, bytes: &mut Vec<u8>, image: &Image) -> Result<(), AllocError> {
+fn put_orders(
+    alloc: Global,
+    bytes: &mut Vec<u8>,
+    image: &Image,
+    texts: &[Vec<u8>],
+) -> Result<(), AllocError> {
     let pairs = pairs(alloc, image)?;
-    let done = put_pairs(alloc, bytes, image, &pairs);
+    let done = put_pairs(alloc, bytes, image, &pairs, texts);
     drop(pairs);
     done
 }
@@ -243,11 +292,14 @@ fn put_pairs<'a>(
     bytes: &mut Vec<u8>,
     image: &'a Image,
     pairs: &[Pair<'a>],
+    texts: &[Vec<u8>],
 ) -> Result<(), AllocError> {
     for (at, pair) in pairs.iter().enumerate() {
         if !was_told(pairs, at, pair) {
             if let Some(other) = turned(pairs, pair) {
                 put_order(alloc, bytes, image, pair, other)?;
+                put_line(bytes, text_of(texts, pair.unit), pair.line)?;
+                put_line(bytes, text_of(texts, other.unit), other.line)?;
             }
         }
     }

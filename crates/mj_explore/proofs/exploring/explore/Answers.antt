@@ -1,18 +1,44 @@
-use Rattle.std.proofs.Common.{◌+◌}
-use Rattle.mj_explore.proofs.Making.{none, more, were}
+use Rattle.std.proofs.Common.{◌+◌, refl, arith}
+use Rattle.mj_explore.specs.declared.exploring.Tally.{Tally}
+use Rattle.mj_explore.proofs.Making.{few, more, none, were}
 use Rattle.mj_explore.proofs.exploring.explore.Goals as goal
 
 pub runs-init : goal.runs-init
-runs-init g c = none c.args.script.now g.O.Opening.opening c.new-ends.result c.new-ends.ensures
+runs-init g c =
+    let zero : Tally = record { faulted = 0; stuck = 0; stopped = 0 } in
+    none c.args.script.now g.O.Opening.opening c.new-ends.result.items zero c.new-ends.ensures.items refl
+
+pub tallied-tally-requires-clause-faulted : goal.tallied-tally-requires-clause-faulted
+tallied-tally-requires-clause-faulted g c =
+    let l = c.runs in
+    let small = few c.args.script.now g.O.Opening.opening l.done l.ends.items l.tally l.invariant in
+    omega (arith, small.faulted)
+
+pub tallied-tally-requires-clause-stuck : goal.tallied-tally-requires-clause-stuck
+tallied-tally-requires-clause-stuck g c =
+    let l = c.runs in
+    let small = few c.args.script.now g.O.Opening.opening l.done l.ends.items l.tally l.invariant in
+    omega (arith, small.stuck)
+
+pub tallied-tally-requires-clause-stopped : goal.tallied-tally-requires-clause-stopped
+tallied-tally-requires-clause-stopped g c =
+    let l = c.runs in
+    let small = few c.args.script.now g.O.Opening.opening l.done l.ends.items l.tally l.invariant in
+    omega (arith, small.stopped)
 
 pub runs-preserved : goal.runs-preserved
 runs-preserved g c =
     let l = c.runs in
-    more c.args.script.now g.O.Opening.opening l.done l.ends c.run_once.new.ends l.invariant c.in_ok-found.ensures.noted
+    let came = c.in_ok-came.came in
+    more c.args.script.now g.O.Opening.opening l.done l.ends.items c.run_once.new.ends.items l.tally c.tallied-tally.result came.has_faulted came.fate
+    l.invariant c.in_ok-came.ensures.noted
+    (record { faults = c.tallied-tally.ensures.faulted; stuck = c.tallied-tally.ensures.stuck; stopped = c.tallied-tally.ensures.stopped })
 
 pub returns-in-Some-clause-counted : goal.returns-in-Some-clause-counted
 returns-in-Some-clause-counted g c =
     let l = c.runs in
-    let seen = c.run_once.new.ends in
-    were c.args.script.now g.O.Opening.opening (l.done + 1) c.len.result seen
-    (more c.args.script.now g.O.Opening.opening l.done l.ends seen l.invariant c.in_ok-found.ensures.noted) c.len.ensures
+    let came = c.in_ok-came.came in
+    were c.args.script.now g.O.Opening.opening (l.done + 1) c.run_once.new.ends.items c.tallied-tally.result
+    (more c.args.script.now g.O.Opening.opening l.done l.ends.items c.run_once.new.ends.items l.tally c.tallied-tally.result came.has_faulted came.fate
+    l.invariant c.in_ok-came.ensures.noted
+    (record { faults = c.tallied-tally.ensures.faulted; stuck = c.tallied-tally.ensures.stuck; stopped = c.tallied-tally.ensures.stopped }))

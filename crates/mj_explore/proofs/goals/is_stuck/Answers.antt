@@ -1,9 +1,10 @@
-use Rattle.std.proofs.Common.{◌∙◌, Bool, sym, ap}
-use Rattle.mj_core.specs.Shown.{Shown}
-use Rattle.mj_explore.specs.Marks.{is_over}
+use Rattle.std.proofs.Common.{subst}
+use Rattle.mj_load.specs.Image.{program_of}
+use Rattle.mj_explore.specs.declared.fates.Fate.{Fate}
+use Rattle.mj_explore.specs.Found.{IsFateOf}
 use Rattle.mj_explore.proofs.goals.is_stuck.Goals as goal
 
-pub returns : goal.returns
-returns g c is =
-    let over : Shown → Bool = λ (s : Shown). is_over g.O.Opening.opening s.history in
-    (sym (ap over c.jobs.view_is) ∙ sym c.is_over.ensures ∙ c.if-is_over.false, c.all_wait.ensures is)
+pub returns-in-Stuck : goal.returns-in-Stuck
+returns-in-Stuck g c is =
+    let P : Fate → Type 0 = λ f. IsFateOf f (program_of c.args.jobs.now.image) g.O.Opening.opening c.args.jobs.now.history in
+    subst P c.in-Stuck.is c.fate_of.ensures

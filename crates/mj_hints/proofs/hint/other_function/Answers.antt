@@ -1,7 +1,6 @@
 use Rattle.std.proofs.Common.{◌≡◌, Bool, true, false, sym, ◌∙◌}
 use Rattle.std.specs.Prelude.{if◌then◌else◌}
-use Rattle.mj_hints.specs.Hints.{Help, Said, is_trap, nearly_or}
-use Rattle.mj_hints.specs.Near.{near_of, function_names}
+use Rattle.mj_hints.specs.Hints.{Help, Said, is_trap, untrapped_function_help}
 use Rattle.mj_hints.specs.declared.phrases.Hint.TheVariants as hint
 use Rattle.mj_hints.proofs.hint.other_function.Goals as goal
 
@@ -12,5 +11,4 @@ behind false first other said fails is = is
 
 pub returns-else-is_trap : goal.returns-else-is_trap
 returns-else-is_trap c =
-    behind (is_trap c.args.word.now) (Said hint.Trap) (nearly_or (near_of c.args.word.now function_names) hint.Functions) _ (sym c.is_trap.ensures ∙ c.if-is_trap.false)
-    c.near_or.ensures
+    behind (is_trap c.args.word.now) (Said hint.Trap) (untrapped_function_help c.args.word.now) _ (sym c.is_trap.ensures ∙ c.if-is_trap.false) c.untrapped_function.ensures

@@ -1,0 +1,53 @@
+// What becomes of the jobs of a run.
+
+ghost use Rattle.std.specs.Prelude.{◌≡◌};
+ghost use Rattle.mj_load.specs.Image.{program_of};
+ghost use Rattle.mj_explore.specs.Found.{IsFateOf, is_fate_stopped, is_fate_stuck};
+
+use crate::marks::is_over;
+use crate::waiting::all_wait;
+use mj_dev::Memory;
+use mj_run::Jobs;
+use mj_sessions::Sessions;
+use mj_sys::Opening;
+
+/// What becomes of the jobs of a run.
+#[derive(Clone, Copy, PartialEq, Eq, Debug)]
+pub enum Fate {
+    /// all have ended
+    Over,
+    /// not all have, and each that hasn't waits for ever
+    Stuck,
+    /// not all have, and they go no further
+    Stopped,
+}
+
+impl Fate {
+    /// Whether they are stuck.
+    pub fn is_stuck(self) -> bool
+        ensures { result ≡ is_fate_stuck self }
+    {
+        matches!(self, Fate::Stuck)
+    }
+
+    /// Whether they were stopped.
+    pub fn is_stopped(self) -> bool
+        ensures { result ≡ is_fate_stopped self }
+    {
+        matches!(self, Fate::Stopped)
+    }
+}
+
+/// What has become of jobs that stand so. They may be stepped for that.
+pub fn fate_of<O: Opening>(jobs: &mut Jobs<Memory, Sessions<Memory>, O>) -> Fate
+    ensures { IsFateOf result (program_of jobs.old.image) O.opening jobs.old.history }
+{
+    if is_over(&jobs.core) {
+        return Fate::Over;
+    }
+    if all_wait(jobs) {
+        Fate::Stuck
+    } else {
+        Fate::Stopped
+    }
+}

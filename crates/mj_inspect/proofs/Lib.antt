@@ -1,0 +1,7 @@
+mod Asking
+mod Following
+mod Putting
+mod Showing
+mod Started
+mod Tied
+mod Walked

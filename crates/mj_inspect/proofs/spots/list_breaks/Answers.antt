@@ -1,0 +1,7 @@
+use Rattle.std.proofs.Common.{◌∙◌, ap}
+use Rattle.std.proofs.lemmas.Result.{IfOk-weaker}
+use Rattle.mj_inspect.specs.Listed.{or_nothing}
+use Rattle.mj_inspect.proofs.spots.list_breaks.Goals as goal
+
+pub returns : goal.returns
+returns g c = IfOk-weaker c.or_nothing.result _ _ (λ bytes is. is ∙ ap or_nothing c.in_ok-found.ensures) c.or_nothing.ensures

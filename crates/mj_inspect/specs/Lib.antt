@@ -1,0 +1,9 @@
+pub mod Asks
+pub mod Listed
+pub mod Own
+pub mod Shows
+pub mod Source
+pub mod Specials
+pub mod Spots
+pub mod Stands
+pub mod Waits
