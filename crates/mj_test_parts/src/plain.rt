@@ -1,6 +1,8 @@
 // Transactions beside the plain measure: reads on a copy of the globals on which all own writes are made, and a commit that asks every read again. Some
 // thousand accesses by chance, with changes of another job among them, are answered alike by both.
 
+ghost use Rattle.std.specs.Prelude.{◌<◌};
+
 use crate::chance::Chance;
 use mj_globs::Globals;
 use mj_store::{Access, Answer, Direction, Nodes, Store, ask, is_same_answer, perform};

@@ -186,7 +186,11 @@ fn in_the_middle(alloc: Global, step: u64) -> Result<Name, Failure> {
 }
 
 fn name(alloc: Global, chosen: &mut Chosen) -> Result<Name, Failure> {
-    let bytes: &[u8] = if chosen.chance.below(3) == 0 { b"A" } else { b"%B" };
+    let bytes: &[u8] = if chosen.chance.below(3) == 0 {
+        b"A"
+    } else {
+        b"%B"
+    };
     let word = Text::from(alloc, bytes)?;
     let count = if chosen.of_rows {
         1 + chosen.chance.below(2)
