@@ -6,6 +6,7 @@ use Rattle.mj_ask.specs.declared.ask.Ask.{Ask}
 use Rattle.mj_ask.specs.declared.ask.Ask.TheVariants as asks
 use Rattle.mj_ask.specs.declared.ask.Kind.TheVariants as kinds
 use Rattle.mj_ask.specs.declared.ask.SharedAsk.TheVariants as shared_asks
+use Rattle.mj_ask.specs.declared.ask.Reply.{Reply}
 use Rattle.mj_ask.specs.declared.ask.Reply.TheVariants as replies
 use Rattle.mj_subs.specs.Name.{Name}
 use Rattle.mj_gfile.specs.Spelling.{listed_name}
@@ -174,6 +175,21 @@ round_text s t (w ∷ ws) = holds_text s (slice_get t.asked w.ask) t.holds ++ wa
 abbrev pub deadlock_text : Shown → Standing → List Wait → List ℕ
 deadlock_text s t ws =
     codes "Deadlock of " ++ decimal (length ws) ++ codes " jobs: each waits for the next, and the last for the first." ++ 10 ∷ round_text s t ws
+
+-- ---- what a run does in the place of an event
+
+abbrev pub spot_from : Spot → List ℕ
+spot_from None = []
+spot_from (Some p) = codes " from " ++ spot_text p
+
+abbrev pub then_told : Option Reply → List ℕ
+then_told None = []
+then_told (Some reply) = codes ", and is told " ++ reply_text reply
+
+-- what a job asks there, from where, and what it is told, if that is known
+abbrev pub instead_text : ℕ → Ask → Spot → Option Reply → List ℕ
+instead_text job ask spot told =
+    codes "    job " ++ decimal job ++ codes " asks " ++ ask_text ask ++ spot_from spot ++ codes " here" ++ then_told told ++ 10 ∷ []
 
 -- ---- all
 

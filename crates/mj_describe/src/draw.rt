@@ -34,8 +34,8 @@ svg text.place { fill: #888; }\n\
 .loss { stroke: #8040a0; fill: none; stroke-width: 2; stroke-dasharray: 5 3; }\n\
 .key { font-size: 0.9em; color: #555; }\n\
 </style>\n</head>\n<body>\n\
-<p class=\"key\">A lane for each job, its events from above to below, with their lines in the trace and in the routines. Blue box: a transaction. Orange bar: a name that is held. \
-Red bar: a name that is waited for. Red arrow: from a change to the commit that clashes by it. Dashed arrow: from what was set to what was set over it.</p>\n";
+<p class=\"key\">A lane for each job, its events from above to below, with their lines in the trace and in the routines. Blue box: a transaction. \
+Orange bar: a name that is held. Red bar: a name that is waited for. Red arrow: from a change to the commit that clashes by it. Dashed arrow: from what was set to what was set over it.</p>\n";
 
 // The tips of arrows, each named as the class of its arrows.
 const MARKS: &[u8] = b"<defs>\

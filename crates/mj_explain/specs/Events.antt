@@ -1,8 +1,8 @@
 -- What the events of a trace are: which begin and end transactions, which read, and which write.
 use Rattle.std.specs.Prelude.{◌≡◌, ℕ, suc, ◌==◌, Bool, true, false, not, ◌&&◌, ◌||◌, List, [], ◌∷◌, length, take, slice_get, Option, Some, None, if◌then◌else◌}
 use Rattle.std.specs.Option.{is_some}
-use Rattle.mj_subs.specs.Name.{Name, names_eq, overlaps}
-use Rattle.mj_store.specs.Questions.{same_word}
+use Rattle.mj_subs.specs.Name.{Name, names_eq}
+use Rattle.mj_store.specs.Questions.{rest_of, same_word}
 use Rattle.mj_store.specs.Runs.{name_of}
 use Rattle.mj_store.specs.declared.access.Access.{Access}
 use Rattle.mj_store.specs.declared.access.Access.TheVariants as accesses
@@ -92,13 +92,13 @@ sets n (Some (accesses.Set m text)) = names_eq m n
 sets n _ = false
 
 -- Whether an access may tell of the text that a name has, or change it. `$ORDER` may tell of the names along which it looks, and of those below them, `$QUERY` of
--- each name with the same word; of what a name has, all others but the reading and the setting of a text may tell by a name above it or below it.
+-- each name with the same word; all others but the reading and the setting of a text tell of a name or change it only where they are of it, or of one above it.
 abbrev pub touches : Name → Access → Bool
 touches n (accesses.Value m) = names_eq m n
 touches n (accesses.Set m text) = names_eq m n
 touches n (accesses.Order m way) = stands_along n m m.subscripts
 touches n (accesses.Query m) = same_word m n
-touches n a = overlaps (name_of a) n
+touches n a = is_some (rest_of (name_of a) n)
 
 -- whether what is asked is such an access, be it answered as it may
 abbrev pub asks_of : Name → Ask → Bool

@@ -7,7 +7,7 @@ ghost use Rattle.mj_explain.specs.Events.{sets, touches, asks_of};
 ghost use Rattle.mj_explain.specs.Events.{change_at, is_change_of, is_counted_of, is_set_of, is_touch_of};
 ghost use Rattle.mj_explain.specs.Clashes.{is_clash, IsClashOf};
 
-use crate::looks::{is_same_word, stands_along};
+use crate::looks::{is_same_word, rest_of, stands_along};
 use mj_ask::{Ask, Clash, Noted, Reply, SharedAsk};
 use mj_store::{Access, Answer};
 use mj_subs::Name;
@@ -138,7 +138,7 @@ pub fn touches(name: &Name, access: &Access) -> bool
         Access::Data(other)
         | Access::Subtree(other)
         | Access::Kill(other)
-        | Access::Put(other, _) => other.overlap(name),
+        | Access::Put(other, _) => { rest_of(other, other.subscripts().as_slice(), name).is_some() }
     }
 }
 

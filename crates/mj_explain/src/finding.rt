@@ -20,8 +20,8 @@ const PLACES: usize = 4_294_967_295;
 // How many of a job's last questions are looked at for one that told it that a name has no text.
 const BACK: usize = 100;
 
-// The last places outside transactions: for each job where it read each name, and where it asked by `$DATA`, `$ORDER` or `$QUERY`, in order; for each name where
-// it was set last, and where the job that did had looked at it.
+// The last places outside transactions: for each job where it read each name, and where it asked by `$DATA`, `$ORDER` or `$QUERY`, in order; for each name
+// where it was set last, and where the job that did had looked at it.
 #[derive(Drop)]
 struct Lasts {
     alloc: Global,

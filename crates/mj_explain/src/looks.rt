@@ -4,16 +4,15 @@ ghost use Rattle.std.specs.Prelude.{◌≡◌, ◌||◌, option_copied};
 ghost use Rattle.std.specs.Option.{option_map};
 ghost use Rattle.std.specs.Ordering.{is_lt};
 ghost use Rattle.mj_subs.specs.Collation.{subscript_cmp, subscripts_cmp};
-ghost use Rattle.mj_store.specs.Nodes.{after_front, along, is_empty};
+ghost use Rattle.mj_store.specs.Nodes.{along, is_empty};
 ghost use Rattle.mj_store.specs.Questions.{same_word, with_subscripts, rest_of};
 ghost use Rattle.mj_txlog.specs.Laid.{is_before};
 ghost use Rattle.mj_explain.specs.Looks.{data_leaves_out, stands_past, next_leaves_out, order_leaves_out, has_more, stands_along, query_leaves_out};
 ghost use Rattle.mj_explain.specs.Looks.{is_look, looks, is_look_of, LooksTell};
 
 use mj_ask::{Ask, Noted, Reply, SharedAsk};
-use mj_store::{Access, Answer, Direction};
+use mj_store::{Access, Answer, Direction, strip};
 use mj_subs::{Name, Sub};
-use std::cmp::Ordering;
 
 /// Whether a job looks at a name there: it reads its text, or is told what can't be so where the name has a text.
 pub fn is_look_of(job: u32, name: &Name, event: Option<&Noted>) -> bool
@@ -163,28 +162,12 @@ pub fn is_same_word(one: &Name, other: &Name) -> bool
     one.is_global() == other.is_global() && one.word() == other.word()
 }
 
-// The subscripts that a name has behind those of `front`, where it is of the other's kind and word and begins with them.
-fn rest_of<'a>(other: &Name, front: &[Sub], name: &'a Name) -> Option<&'a [Sub]>
+/// The subscripts that a name has behind those of `front`, where it is of the other's kind and word and begins with them.
+pub fn rest_of<'a>(other: &Name, front: &[Sub], name: &'a Name) -> Option<&'a [Sub]>
     ensures { option_copied result ≡ rest_of (with_subscripts other.now front.now) name.now }
 {
     if !is_same_word(other, name) {
         return None;
     }
     strip(front, name.subscripts().as_slice())
-}
-
-// What a list has behind a front, where it begins with it.
-fn strip<'a>(front: &[Sub], list: &'a [Sub]) -> Option<&'a [Sub]>
-    ensures { option_copied result ≡ after_front subscript_cmp front.now list.now }
-{
-    match front {
-        [] => Some(list),
-        [s, front @ ..] => match list {
-            [] => None,
-            [t, list @ ..] => match s.cmp(t) {
-                Ordering::Equal => strip(front, list),
-                _ => None,
-            },
-        },
-    }
 }

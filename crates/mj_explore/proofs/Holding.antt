@@ -5,13 +5,17 @@ use Rattle.std.proofs.Common.{◌≡◌, ℕ, zero, suc, ◌+◌, ◌≤◌, Boo
 use Rattle.std.proofs.lemmas.Bool.{leb-true, leb-false}
 use Rattle.std.proofs.lemmas.List.{get_or-set_same, length-append}
 use Rattle.std.proofs.lemmas.Option.{slice_get_within}
-use Rattle.mj_ask.specs.Fits.{timeout_of}
+use Rattle.mj_ask.specs.declared.ask.Ask.{Ask}
+use Rattle.mj_ask.specs.declared.ask.Ask.TheVariants as asks
+use Rattle.mj_ask.specs.Fits.{is_shared, timeout_of}
 use Rattle.mj_jobs.specs.Rows.{Row, row_at, IsLive}
 use Rattle.mj_load.specs.Image.{Loaded, program_of}
 use Rattle.mj_sessions.specs.Asked.{Answering}
 use Rattle.mj_sys.specs.declared.event.Event.{Event}
 use Rattle.mj_sys.specs.Shared.{Shared}
 use Rattle.mj_sys.specs.History.{History, state_of}
+use Rattle.mj_sys.specs.declared.served.Held.{Held}
+use Rattle.mj_sys.specs.System.{KeepsBusy}
 use Rattle.mj_steps.specs.declared.step.Step.{Step}
 use Rattle.mj_steps.specs.declared.step.Way.TheVariants as ways
 use Rattle.mj_steps.specs.declared.round.Standing.{Standing}
@@ -53,6 +57,12 @@ numbered : (rows : List Row) (job : ℕ) (row : Row) → row_at rows job ≡ Som
 numbered rows zero row is = cc
 numbered rows (suc k) row is = (omega arith, omega (arith, slice_get_within rows k row is))
 
+-- what all jobs share serves what a job asks that another keeps busy
+shared_of : (s : Shared) (job : ℕ) (a : Ask) (holder : ℕ) (held : Held) → KeepsBusy s job a holder held → is_shared a ≡ true
+shared_of s job (asks.Shared ask) holder held keeps = refl
+shared_of s job (asks.Device device ask) holder held keeps = absurd keeps
+shared_of s job (asks.Rest time) holder held keeps = absurd keeps
+
 -- the job is held, and nothing was asked or told
 abbrev pub IsHeldStill : Shared → Shown → Shown → ℕ → Type 0
 IsHeldStill opening old new job =
@@ -85,13 +95,14 @@ module _ (opening : Shared) (old new : Shown) (job : ℕ) (all : length old.stan
   held_by (seen.Busy holder held) (inr (row, is, inr (inl full))) stands = absurd (ok_not_err _ _ full.2)
   held_by (seen.Busy holder held) (inr (row, is, inr (inr goes))) stands =
       let made = goes.2.1 in
-      ((λ live. (row, made.0, is, made.1, no_timeout row made.0 is made.1.1 made.5 stands, inl made.3)), ap history_of made.5, ap image_of made.5)
+      let shared = shared_of (state_of opening old.history) job made.0.ask holder held made.4 in
+      ((λ live. (row, made.0, is, made.1, no_timeout row made.0 is made.1.1 made.5 stands, inl (shared, made.3))), ap history_of made.5, ap image_of made.5)
   held_by seen.NotYet (inl nobody) stands = absurd (ok_not_err _ _ nobody.1)
   held_by seen.NotYet (inr (row, is, inl over)) stands = absurd (ok_not_err _ _ over.1)
   held_by seen.NotYet (inr (row, is, inr (inl full))) stands = absurd (ok_not_err _ _ full.2)
   held_by seen.NotYet (inr (row, is, inr (inr goes))) stands =
       let made = goes.2.1 in
-      ((λ live. (row, made.0, is, made.1, no_timeout row made.0 is made.1.1 made.3.3 stands, inr made.3.0)), ap history_of made.3.3, ap image_of made.3.3)
+      ((λ live. (row, made.0, is, made.1, no_timeout row made.0 is made.1.1 made.3.3 stands, inr (made.3.0, made.3.2))), ap history_of made.3.3, ap image_of made.3.3)
 
   ended_by : (what : Seen) → CoreStepGives opening old (go job) (Ok what) new → StandsSo new job what standings.Ended → length new.history ≡ length old.history
       → IsHeldStill opening old new job

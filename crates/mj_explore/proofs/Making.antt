@@ -31,7 +31,7 @@ use Rattle.mj_explore.specs.declared.ends.End.{End}
 use Rattle.mj_explore.specs.declared.exploring.Tally.{Tally}
 use Rattle.mj_explore.specs.Marks.{bears, fault_in, is_over}
 use Rattle.mj_explore.specs.Found.{Ran, IsRan, IsCome, IsFateOf, AreTallied, ends_in, has_faulted, is_fate_stuck, is_fate_stopped, WereMade, AreMade}
-use Rattle.mj_explore.specs.Found.{IsShownFor, IsFoundFor, IsJudged, by_memory, found_verdict, verdict_by}
+use Rattle.mj_explore.specs.Found.{IsShownFor, IsFoundFor, IsJudged, by_memory, found_verdict, is_for_memory, is_of_device, verdict_by}
 use Rattle.mj_explore.proofs.Ending.{one_more}
 
 -- so many runs were made, these are their different ends, each with how many had it, and so many came to what
@@ -77,10 +77,11 @@ pub record IsTalliedOn (faulted : Bool) (fate : Fate) (old new : Tally) : Type 0
   pub stuck : new.stuck ≡ old.stuck + cond (is_fate_stuck fate) 1 0
   pub stopped : new.stopped ≡ old.stopped + cond (is_fate_stopped fate) 1 0
 
-pub more : (script : Scripted) (opening : Shared) (runs : ℕ) (old new : List End) (was tally : Tally) (faulted : Bool) (fate : Fate)
-    → AreNoted script opening runs old was → IsCome script opening faulted fate old new → IsTalliedOn faulted fate was tally
+pub more : (script : Scripted) (opening : Shared) (goal : Option Goal) (shown : Option Finding) (runs : ℕ) (old new : List End) (was tally : Tally)
+    (faulted : Bool) (fate : Fate)
+    → AreNoted script opening runs old was → IsCome script opening goal shown faulted fate old new → IsTalliedOn faulted fate was tally
     → AreNoted script opening (runs + 1) new tally
-more script opening runs old new was tally faulted fate are is on =
+more script opening goal shown runs old new was tally faulted fate are is on =
     let f : Ran → List ℕ = λ ran. end_text opening ran.history in
     let fates : Ran → Fate = λ ran. ran.fate in
     record {
@@ -99,10 +100,30 @@ more script opening runs old new was tally faulted fate are is on =
       };
     }
 
-pub were : (script : Scripted) (opening : Shared) (runs : ℕ) (ends : List End) (tally : Tally) → AreNoted script opening runs ends tally
-    → WereMade script opening runs ends tally
-were script opening runs ends tally are =
-    record { rans = are.rans; each = are.each; count = sym are.count; texts = are.texts; often_had = are.often_had; tallied = are.tallied }
+-- the last of them shows what is looked for
+pub were : (script : Scripted) (opening : Shared) (goal : Option Goal) (shown : Option Finding) (finding : Finding) (runs : ℕ) (old new : List End)
+    (was tally : Tally) (faulted : Bool) (fate : Fate)
+    → shown ≡ Some finding → AreNoted script opening runs old was → IsCome script opening goal shown faulted fate old new → IsTalliedOn faulted fate was tally
+    → WereMade script opening (runs + 1) new tally goal (Some finding)
+unfolding more
+were script opening goal shown finding runs old new was tally faulted fate found are is on =
+    let all = more script opening goal shown runs old new was tally faulted fate are is on in
+    let P : Option Finding → Type 0 = λ o. IfSome o (λ x. IsShownFor goal x (program_of is.is.core.image) opening is.ran.history) in
+    record {
+      rans = all.rans;
+      each = all.each;
+      count = sym all.count;
+      texts = all.texts;
+      often_had = all.often_had;
+      tallied = all.tallied;
+      last = (are.rans, is.ran, refl, (is.is, subst P found is.shows));
+    }
+
+-- nothing is looked for, or none shows it
+pub were_none : (script : Scripted) (opening : Shared) (goal : Option Goal) (runs : ℕ) (ends : List End) (tally : Tally) → AreNoted script opening runs ends tally
+    → WereMade script opening runs ends tally goal None
+were_none script opening goal runs ends tally are =
+    record { rans = are.rans; each = are.each; count = sym are.count; texts = are.texts; often_had = are.often_had; tallied = are.tallied; last = tt }
 
 -- no more came to something than were made
 pub record AreFew (runs : ℕ) (tally : Tally) : Type 0 where
@@ -131,12 +152,16 @@ pub noted_as : {text had : List ℕ} {old new : List End} → text ≡ had → I
 noted_as {old = old} {new = new} same is = let P : List ℕ → Type 0 = λ t. IsNoted t old new in subst P same is
 
 -- what came of a run that steps leave
-pub is_come : (script : Scripted) (opening : Shared) (steps : List Step) (ending : Ending) (core : Shown) (faulted : Bool) (fate : Fate) (old new : List End)
-    → AreMade script opening steps ending core → IsFateOf fate (program_of core.image) opening core.history
-    → faulted ≡ nat_lt 0 (count_by (bears marks.Fault) core.history) → IsNoted (end_text opening core.history) old new → IsCome script opening faulted fate old new
-is_come script opening steps ending core faulted fate old new made becomes faults noted_so = record {
+pub is_come : (script : Scripted) (opening : Shared) (goal : Option Goal) (steps : List Step) (ending : Ending) (core : Shown) (shown : Option Finding)
+    (faulted : Bool) (fate : Fate) (old new : List End)
+    → AreMade script opening steps ending core → is_for_memory ending ≡ false
+    → IfSome shown (λ finding. IsShownFor goal finding (program_of core.image) opening core.history) → IsFateOf fate (program_of core.image) opening core.history
+    → faulted ≡ nat_lt 0 (count_by (bears marks.Fault) core.history) → IsNoted (end_text opening core.history) old new
+    → IsCome script opening goal shown faulted fate old new
+is_come script opening goal steps ending core shown faulted fate old new made granted shows becomes faults noted_so = record {
   ran = record { history = core.history; fate = fate };
-  is = record { steps = steps; ending = ending; core = core; made = made; left = refl; fate = becomes };
+  is = record { steps = steps; ending = ending; core = core; made = made; granted = granted; left = refl; fate = becomes };
+  shows = shows;
   faults = faults;
   becomes = refl;
   noted = noted_so;
@@ -180,12 +205,12 @@ pub found_so : (P : Verdict → Type 0) (verdict : Verdict) (o : Option Finding)
 found_so P verdict None holds is = tt
 found_so P verdict (Some finding) holds is = subst P is holds
 
--- the jobs of an expression's script came to their end, by this fault, if there is one, and this is what the first wrote
+-- The jobs of an expression's script came to their end, by this fault, if there is one, and this is what the first wrote. Its device didn't fail.
 pub is_judged : (script : Scripted) (opening : Shared) (old core : Shown) (image : Loaded) (verdict : Verdict) (fault : Option Fault) (is_one : Bool) (out : List ℕ)
     → IsImageOf script.sources image → old ≡ begun image → AreSteps by_memory opening old core → IsRun (program_of core.image) opening core.history
     → is_over opening core.history ≡ true → out ≡ out_of core.history 1 principal 1 → is_one ≡ bytes_eq out (codes "1") → fault ≡ fault_in core.history
-    → verdict ≡ verdict_by fault is_one → IsJudged script opening verdict
-is_judged script opening old core image verdict fault is_one out is begins steps run over wrote one ended comes =
+    → verdict ≡ verdict_by fault is_one → is_of_device verdict ≡ false → IsJudged script opening verdict
+is_judged script opening old core image verdict fault is_one out is begins steps run over wrote one ended comes apart =
     let one_wrote : is_one ≡ bytes_eq (out_of core.history 1 principal 1) (codes "1") = one ∙ ap (λ o. bytes_eq o (codes "1")) wrote in (
       core.image,
       core.history,
@@ -193,4 +218,5 @@ is_judged script opening old core image verdict fault is_one out is begins steps
       run,
       over,
       comes ∙ ap (λ (f : Option Fault). verdict_by f is_one) ended ∙ ap (verdict_by (fault_in core.history)) one_wrote,
+      apart,
     )

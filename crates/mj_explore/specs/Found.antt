@@ -1,9 +1,10 @@
 -- What runs by chance come to. A run by chance may be any list of steps.
-use Rattle.std.specs.Prelude.{◌≡◌, ◌<◌, ℕ, ◌-◌, ◌^◌, min, nat_lt, List, length, map, Bool, true, false, Option, Some, None, All, ◌⊎◌, codes}
+use Rattle.std.specs.Prelude.{◌≡◌, ◌<◌, ℕ, ◌-◌, ◌^◌, min, nat_lt, List, [], ◌∷◌, ◌++◌, length, map, Bool, true, false, Option, Some, None, All, ◌⊎◌, codes, IfSome}
 use Rattle.std.specs.List.{count_by}
 use Rattle.std.specs.Str.{bytes_eq}
 use Rattle.mj_text.specs.declared.fault.Fault.{Fault}
-use Rattle.mj_ask.specs.Fits.{timeout_of}
+use Rattle.mj_text.specs.declared.fault.Fault.TheVariants as faults
+use Rattle.mj_ask.specs.Fits.{is_shared, timeout_of}
 use Rattle.mj_semantics.specs.Program.{Program}
 use Rattle.mj_dev.specs.Shelves.{principal}
 use Rattle.mj_dev.specs.Supply.{Supply}
@@ -15,10 +16,12 @@ use Rattle.mj_sessions.specs.Asked.{Answering}
 use Rattle.mj_sys.specs.Shared.{Shared, served}
 use Rattle.mj_sys.specs.History.{History, state_of, log_of}
 use Rattle.mj_steps.specs.declared.step.Step.{Step}
+use Rattle.mj_steps.specs.declared.step.Refusal.TheVariants as refusals
 use Rattle.mj_steps.specs.declared.drive.Ending.{Ending}
 use Rattle.mj_steps.specs.declared.drive.Ending.TheVariants as endings
 use Rattle.mj_steps.specs.Driven.{ByList}
 use Rattle.mj_core.specs.Gives.{Waits}
+use Rattle.mj_core.specs.Having.{IsQuiet}
 use Rattle.mj_core.specs.Runs.{IsRun, start_in, out_of}
 use Rattle.mj_core.specs.Shown.{AtAsk, Shown, begun}
 use Rattle.mj_run.specs.Stepping.{StepsAs}
@@ -41,12 +44,13 @@ use Rattle.mj_explore.specs.Scripts.{Scripted, IsImageOf, opening_in}
 abbrev pub by_memory : Answering
 by_memory = IsToldBy (λ (m : Supply). 0) (λ m. m.failures) (λ m. m.taken) (λ m. m.given) (λ m inside call. Unit {0})
 
--- A job waits for ever, as long as no other goes on: it waits with what it asks, which has no timeout, and nobody gives it that now; or it waits for something
--- to read.
+-- A job waits for ever, as long as no other goes on: it waits with what it asks, which has no timeout. That is served by what all jobs share, which gives
+-- nothing for it now; or it reads from a device, whose session is open and has no rest of a line left. What the device would give then stands in no history.
 abbrev pub IsHeld : Program → Shared → History → ℕ → Type 0
 IsHeld program opening history job =
     (row : Row) × (at : AtAsk) × (row_at (state_of opening history).rows job ≡ Some row) × Waits program (start_in job row.start) (log_of job history) at
-    × (timeout_of at.ask ≡ None) × ((served (state_of opening history) job at.ask false ≡ None) ⊎ IsReading at.ask)
+    × (timeout_of at.ask ≡ None)
+    × (((is_shared at.ask ≡ true) × (served (state_of opening history) job at.ask false ≡ None)) ⊎ (IsReading at.ask × IsQuiet (log_of job history) at.ask))
 
 -- not all jobs have ended, and each that hasn't waits for ever
 abbrev pub IsStuck : Program → Shared → History → Type 0
@@ -63,12 +67,17 @@ verdict_by None false = verdicts.Untrue
 abbrev pub verdict_in : History → Verdict
 verdict_in history = verdict_by (fault_in history) (bytes_eq (out_of history 1 principal 1) (codes "1"))
 
+-- that is the fault of a job whose device failed
+abbrev pub is_of_device : Verdict → Bool
+is_of_device (verdicts.Faults faults.Device) = true
+is_of_device _ = false
+
 -- An expression was judged over the globals with which this opening begins: a run of the script that writes 1 where it is true came to its end, and
--- this is what it comes to there.
+-- this is what it comes to there. The device didn't fail to which that is written: where it does, the run says nothing of the expression, which asks no device.
 abbrev pub IsJudged : Scripted → Shared → Verdict → Type 0
 IsJudged script opening verdict =
     (image : Loaded) × (history : History) × IsImageOf script.sources image × IsRun (program_of image) opening history × (is_over opening history ≡ true)
-    × (verdict ≡ verdict_in history)
+    × (verdict ≡ verdict_in history) × (is_of_device verdict ≡ false)
 
 -- all jobs have ended, and over the globals that they left an expression comes to this
 abbrev pub EndsJudged : Scripted → Verdict → Shared → History → Type 0
@@ -118,19 +127,35 @@ IsFateOf fates.Over program opening history = is_over opening history ≡ true
 IsFateOf fates.Stuck program opening history = IsStuck program opening history
 IsFateOf fates.Stopped program opening history = is_over opening history ≡ false
 
+-- stepping ended since memory was refused
+abbrev pub is_for_memory : Ending → Bool
+is_for_memory (endings.Refused refusals.Memory step) = true
+is_for_memory _ = false
+
 -- a run that was made: what was asked and told, and what became of its jobs
 pub record Ran : Type 0 where
   pub history : History
   pub fate : Fate
 
--- steps leave it, made so
+-- steps leave it, made so, and it isn't for want of memory that there are no more
 pub record IsRan (script : Scripted) (opening : Shared) (ran : Ran) : Type 0 where
   pub steps : List Step
   pub ending : Ending
   pub core : Shown
   pub made : AreMade script opening steps ending core
+  pub granted : is_for_memory ending ≡ false
   pub left : core.history ≡ ran.history
   pub fate : IsFateOf ran.fate (program_of core.image) opening ran.history
+
+-- it shows what is looked for, in this way
+abbrev pub IsRanShowing : Scripted → Shared → Option Goal → Finding → Ran → Type 0
+IsRanShowing script opening goal finding ran =
+    (is : IsRan script opening ran) × IsShownFor goal finding (program_of is.core.image) opening ran.history
+
+-- the last of these does
+abbrev pub IsLastShowing : Scripted → Shared → List Ran → Option Goal → Finding → Type 0
+IsLastShowing script opening rans goal finding =
+    (before : List Ran) × (ran : Ran) × (rans ≡ before ++ ran ∷ []) × IsRanShowing script opening goal finding ran
 
 -- in a run a job ended by a fault
 abbrev pub has_faulted : Ran → Bool
@@ -156,19 +181,22 @@ pub record AreTallied (rans : List Ran) (tally : Tally) : Type 0 where
 abbrev pub ends_in : Shared → List Ran → List (List ℕ)
 ends_in opening rans = map (λ ran. end_text opening ran.history) rans
 
--- So many runs were made. These are their different ends, each with how many runs had it, and so many came to what.
-pub record WereMade (script : Scripted) (opening : Shared) (runs : ℕ) (ends : List End) (tally : Tally) : Type 0 where
+-- So many runs were made. These are their different ends, each with how many runs had it, and so many came to what. If something is found, the last of them
+-- shows what is looked for, in this way.
+pub record WereMade (script : Scripted) (opening : Shared) (runs : ℕ) (ends : List End) (tally : Tally) (goal : Option Goal) (finding : Option Finding) : Type 0 where
   pub rans : List Ran
   pub each : All (IsRan script opening) rans
   pub count : runs ≡ length rans
   pub texts : texts_of ends ≡ different (ends_in opening rans)
   pub often_had : (text : List ℕ) → often ends text ≡ min (count_by (λ had. bytes_eq had text) (ends_in opening rans)) (2 ^ 32 - 1)
   pub tallied : AreTallied rans tally
+  pub last : IfSome finding (IsLastShowing script opening rans goal)
 
--- One run was made, in which a job faulted or not, and of whose jobs this became; and its end was noted.
-pub record IsCome (script : Scripted) (opening : Shared) (faulted : Bool) (fate : Fate) (old new : List End) : Type 0 where
+-- One run was made, which shows what is looked for in this way, if it does, in which a job faulted or not, and of whose jobs this became; and its end was noted.
+pub record IsCome (script : Scripted) (opening : Shared) (goal : Option Goal) (shown : Option Finding) (faulted : Bool) (fate : Fate) (old new : List End) : Type 0 where
   pub ran : Ran
   pub is : IsRan script opening ran
+  pub shows : IfSome shown (λ finding. IsShownFor goal finding (program_of is.core.image) opening ran.history)
   pub faults : faulted ≡ has_faulted ran
   pub becomes : fate ≡ ran.fate
   pub noted : IsNoted (end_text opening ran.history) old new

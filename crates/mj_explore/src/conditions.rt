@@ -1,18 +1,19 @@
 // Expressions that are judged over globals.
 
-ghost use Rattle.std.specs.Prelude.{◌≡◌, ◌∷◌, [], true, codes, IfOk, IfSome};
+ghost use Rattle.std.specs.Prelude.{◌≡◌, ◌∷◌, [], true, false, codes, IfOk, IfSome};
 ghost use Rattle.std.specs.Str.{bytes_eq};
-ghost use Rattle.mj_ast.specs.Trees.{routine_of, line_of as tree_of};
-ghost use Rattle.mj_rou.specs.Read.{IsRoutineRead};
+ghost use Rattle.mj_ast.specs.Trees.{routine_of, line_of as tree_of, step_of, command_of};
 ghost use Rattle.mj_sys.specs.Shared.{are_global};
 ghost use Rattle.mj_explore.specs.Scripts.{opening_in};
-ghost use Rattle.mj_explore.specs.Conditions.{IsConditionOf, condition_line, has_caret, judge_start, unit_name, judges, line_judges};
-ghost use Rattle.mj_explore.specs.Found.{IsJudged, verdict_by};
+ghost use Rattle.mj_explore.specs.Conditions.{IsConditionOf, IsExpression, IsReadSo, condition_line, front_line, ends_in_blank, has_caret, judge_start};
+ghost use Rattle.mj_explore.specs.Conditions.{is_plain, is_single_if, is_single_write, judges, line_judges, line_tests, step_tests, step_writes, tests};
+ghost use Rattle.mj_explore.specs.Found.{IsJudged, is_of_device, verdict_by};
 
+use crate::fates::is_for_memory;
 use crate::marks::{fault_in, is_over};
 use crate::scripts::{Script, Source, Unread, begin};
 use mj_ask::{Entry, Start};
-use mj_ast::{Command, Line, Routine};
+use mj_ast::{Command, Line, LineCommand, Routine};
 use mj_globs::Globals;
 use mj_rou::LoadError;
 use mj_sys::Opening;
@@ -45,10 +46,10 @@ pub fn condition(alloc: Global, expression: &[u8]) -> Result<Option<Script>, All
     if !has_caret(expression) {
         return Ok(None);
     }
-    let bytes = line_of(alloc, expression)?;
-    if !is_condition(alloc, &bytes)? {
+    if !is_expression(alloc, expression)? {
         return Ok(None);
     }
+    let bytes = line_of(alloc, expression)?;
     let mut name = Vec::new(alloc);
     name.extend_from_slice(NAME)?;
     let mut sources = Vec::new(alloc);
@@ -67,6 +68,42 @@ fn has_caret(bytes: &[u8]) -> bool
     ensures { result ≡ has_caret bytes.now }
 {
     bytes.iter().any(|byte| *byte == b'^')
+}
+
+// Whether the bytes spell one expression.
+fn is_expression(alloc: Global, bytes: &[u8]) -> Result<bool, AllocError>
+    ensures { IfOk result (λ is. is ≡ true → IsExpression bytes.now) }
+{
+    if ends_in_blank(bytes) {
+        return Ok(false);
+    }
+    let front = front_of(alloc, bytes)?;
+    if !is_alone(alloc, &front)? {
+        return Ok(false);
+    }
+    let line = line_of(alloc, bytes)?;
+    let is = is_condition(alloc, &line)?;
+    Ok(is)
+}
+
+// Whether the bytes end in a blank.
+fn ends_in_blank(bytes: &[u8]) -> bool
+    ensures { result ≡ ends_in_blank bytes.now }
+{
+    match bytes.last() {
+        None => false,
+        Some(byte) => *byte == b' ' || *byte == b'\t',
+    }
+}
+
+// The line that judges an expression, up to the end of that.
+fn front_of(alloc: Global, expression: &[u8]) -> Result<Vec<u8>, AllocError>
+    ensures { IfOk result (λ bytes. bytes.items ≡ front_line expression.now) }
+{
+    let mut bytes = Vec::new(alloc);
+    bytes.extend_from_slice(b" IF ")?;
+    bytes.extend_from_slice(expression)?;
+    Ok(bytes)
 }
 
 // The line that judges an expression.
@@ -99,14 +136,35 @@ fn starts(alloc: Global) -> Result<Vec<Start>, AllocError>
     Ok(starts)
 }
 
-// Whether the line is read as IF with one expression, and WRITE behind it: nothing in the expression ends it.
+// Whether the line is read as IF with one expression alone. Blanks and a comment may end it.
+fn is_alone(alloc: Global, bytes: &[u8]) -> Result<bool, AllocError>
+    ensures { IfOk result (λ is. is ≡ true → IsReadSo bytes.now tests) }
+{
+    match mj_rou::read(alloc, NAME, bytes) {
+        Ok(routine) => Ok(tests(&routine)),
+        Err(LoadError::Memory) => Err(AllocError),
+        Err(_) => Ok(false),
+    }
+}
+
+// Whether the line is read as IF with one expression, and WRITE behind it.
 fn is_condition(alloc: Global, bytes: &[u8]) -> Result<bool, AllocError>
-    ensures { IfOk result (λ is. is ≡ true → (routine : _) × IsRoutineRead unit_name bytes.now routine × (judges routine ≡ true)) }
+    ensures { IfOk result (λ is. is ≡ true → IsReadSo bytes.now judges) }
 {
     match mj_rou::read(alloc, NAME, bytes) {
         Ok(routine) => Ok(judges(&routine)),
         Err(LoadError::Memory) => Err(AllocError),
         Err(_) => Ok(false),
+    }
+}
+
+// Whether the routine is one line that has the IF alone.
+fn tests(routine: &Routine) -> bool
+    ensures { result ≡ tests (routine_of routine.now) }
+{
+    match routine.lines.as_slice() {
+        [line] => line_tests(line),
+        _ => false,
     }
 }
 
@@ -120,23 +178,72 @@ fn judges(routine: &Routine) -> bool
     }
 }
 
+// Whether the line is IF with one expression.
+fn line_tests(line: &Line) -> bool
+    ensures { result ≡ line_tests (tree_of line.now) }
+{
+    match line.steps.as_slice() {
+        [step] => step_tests(step),
+        _ => false,
+    }
+}
+
 // Whether the line is IF with one expression, and one WRITE of one argument.
 fn line_judges(line: &Line) -> bool
     ensures { result ≡ line_judges (tree_of line.now) }
 {
     match line.steps.as_slice() {
-        [first, second] => match (&first.command, &second.command) {
-            (Command::If(conditions), Command::Write(outputs)) => {
-                conditions.len() == 1 && outputs.len() == 1
-            }
-            _ => false,
-        },
+        [first, second] => step_tests(first) && step_writes(second),
+        _ => false,
+    }
+}
+
+// Whether the command is IF with one expression, without a condition of its own.
+fn step_tests(step: &LineCommand) -> bool
+    ensures { result ≡ step_tests (step_of step.now) }
+{
+    is_plain(step) && is_single_if(&step.command)
+}
+
+// Whether the command is WRITE with one argument, without a condition of its own.
+fn step_writes(step: &LineCommand) -> bool
+    ensures { result ≡ step_writes (step_of step.now) }
+{
+    is_plain(step) && is_single_write(&step.command)
+}
+
+// Whether the command has no condition of its own.
+fn is_plain(step: &LineCommand) -> bool
+    ensures { result ≡ is_plain (step_of step.now) }
+{
+    match &step.condition {
+        None => true,
+        Some(_) => false,
+    }
+}
+
+// Whether the command is IF with one expression.
+fn is_single_if(command: &Command) -> bool
+    ensures { result ≡ is_single_if (command_of command.now) }
+{
+    match command {
+        Command::If(conditions) => conditions.len() == 1,
+        _ => false,
+    }
+}
+
+// Whether the command is WRITE with one argument.
+fn is_single_write(command: &Command) -> bool
+    ensures { result ≡ is_single_write (command_of command.now) }
+{
+    match command {
+        Command::Write(outputs) => outputs.len() == 1,
         _ => false,
     }
 }
 
 /// What an expression comes to over the globals that a run left, by its script: by how the job that judges ends, and by what it wrote. None where that doesn't
-/// end.
+/// end, or where it is the device that fails to which it writes: so an expression, which asks no device, comes to nothing.
 pub fn verdict_over(
     alloc: Global,
     condition: &Script,
@@ -182,14 +289,28 @@ fn judged<O: Opening>(
     ensures { IfOk result (λ judged. IfSome judged (IsJudged condition.now O.opening)) }
 {
     let mut jobs = begin::<O>(alloc, condition, globals)?;
-    let _ending = jobs.in_turn(STEPS);
+    let ending = jobs.in_turn(STEPS);
+    if is_for_memory(ending) {
+        return Err(AllocError);
+    }
     let _run = jobs.core.len(); // for the proof
     if !is_over(&jobs.core) {
         return Ok(None);
     }
     let fault = fault_in(&jobs.core);
     let output = jobs.core.out(1, &Text::from_number(alloc, 0), 1)?;
-    Ok(Some(verdict_by(fault, is_one(&output))))
+    let verdict = verdict_by(fault, is_one(&output));
+    if is_of_device(verdict) {
+        return Ok(None);
+    }
+    Ok(Some(verdict))
+}
+
+// Whether it comes to a fault of the device to which the job that judges writes.
+fn is_of_device(verdict: Verdict) -> bool
+    ensures { result ≡ is_of_device verdict }
+{
+    matches!(verdict, Verdict::Faults(Fault::Device))
 }
 
 // What an expression comes to, by the fault by which the job that judges ended, if there is one, and by whether it wrote 1.

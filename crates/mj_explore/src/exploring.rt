@@ -1,13 +1,14 @@
 // Runs by chance.
 
-ghost use Rattle.std.specs.Prelude.{◌≡◌, ◌≤◌, ◌<◌, ◌+◌, ◌-◌, ◌^◌, cond, true, option_map, Some, IfOk, IfSome, IfNone, OnSome};
+ghost use Rattle.std.specs.Prelude.{◌≡◌, ◌≤◌, ◌<◌, ◌+◌, ◌-◌, ◌^◌, cond, true, false, option_map, Some, IfOk, IfSome, IfNone, OnSome};
 ghost use Rattle.mj_load.specs.Image.{program_of};
 ghost use Rattle.mj_sys.specs.Shared.{are_global};
+ghost use Rattle.mj_explore.specs.declared.exploring.Found.{Found as FoundOf};
 ghost use Rattle.mj_explore.specs.Scripts.{opening_in};
-ghost use Rattle.mj_explore.specs.Found.{IsShownFor, IsFoundFor, IsFateOf, WereMade, IsCome, is_fate_stopped, is_fate_stuck};
+ghost use Rattle.mj_explore.specs.Found.{IsShownFor, IsFoundFor, IsFateOf, WereMade, IsCome, is_fate_stopped, is_fate_stuck, is_for_memory};
 
 use crate::ends::{End, end_text, note};
-use crate::fates::{Fate, fate_of};
+use crate::fates::{Fate, fate_of, is_for_memory};
 use crate::goals::{Finding, Goal, seen};
 use crate::marks::{Mark, has};
 use crate::probes::Probe;
@@ -17,7 +18,7 @@ use mj_dev::Memory;
 use mj_globs::Globals;
 use mj_run::Jobs;
 use mj_sessions::Sessions;
-use mj_steps::{Ending, Refusal, Step};
+use mj_steps::{Ending, Step};
 use mj_sys::Opening;
 use std::alloc::{AllocError, Global};
 use std::marker::PhantomData;
@@ -91,7 +92,8 @@ pub fn explore<O: Opening>(
     requires global { are_global globals.now.content ≡ true }
     ensures found { IfOk result (λ explored. IfSome explored.found
         (λ found. IsFoundFor script.now (option_map (λ g. g.now) goal.entry) found.finding O.opening found.steps.items)) }
-    ensures counted { IfOk result (λ explored. WereMade script.now O.opening explored.runs explored.ends.items explored.tally) }
+    ensures counted { IfOk result (λ explored. WereMade script.now O.opening explored.runs explored.ends.items explored.tally
+        (option_map (λ g. g.now) goal.entry) (option_map (λ (found : FoundOf). found.finding) explored.found)) }
     ensures within { IfOk result (λ explored. explored.runs ≤ search.runs) }
     ensures all { IfOk result (λ explored. IfNone explored.found (explored.runs ≡ search.runs)) }
 {
@@ -170,7 +172,8 @@ fn run_once<O: Opening>(
     requires global { are_global globals.now.content ≡ true }
     ensures found { IfOk result (λ came. IfSome came.shown
         (λ finding. IsFoundFor script.now (option_map (λ g. g.now) goal.entry) finding O.opening came.steps.items)) }
-    ensures noted { IfOk result (λ came. IsCome script.now O.opening came.has_faulted came.fate ends.old.items ends.new.items) }
+    ensures noted { IfOk result (λ came. IsCome script.now O.opening (option_map (λ g. g.now) goal.entry) came.shown came.has_faulted came.fate
+        ends.old.items ends.new.items) }
 {
     let mut jobs = begin::<O>(alloc, script, globals)?;
     let mut chance = Chance::new(seed, run);
@@ -198,17 +201,18 @@ fn judged<O: Opening>(
     ensures shown { IfOk result (λ came. IfSome came.0
         (λ finding. IsShownFor (option_map (λ g. g.now) goal.entry) finding (program_of jobs.old.image) O.opening jobs.old.history)) }
     ensures over { IfOk result (λ came. OnSome came.0 (ending ≡ Ending.Over)) }
+    ensures granted { IfOk result (λ came. is_for_memory ending ≡ false) }
     ensures fate { IfOk result (λ came. IsFateOf came.1 (program_of jobs.old.image) O.opening jobs.old.history) }
 {
     if is_for_memory(ending) {
         return Err(AllocError);
     }
     let Ending::Over = ending else {
-        let fate = fate_of(jobs);
+        let fate = fate_of(jobs)?;
         return Ok((None, fate));
     };
     let seen = seen_for(alloc, jobs, goal)?;
-    let fate = fate_of(jobs);
+    let fate = fate_of(jobs)?;
     if seen.is_some() {
         return Ok((seen, fate));
     }
@@ -242,17 +246,6 @@ fn shows_stuck(fate: Fate, goal: Option<&Goal>) -> bool
         (Fate::Stuck, Some(Goal::Stuck)) => true,
         _ => false,
     }
-}
-
-// Whether stepping ended since memory was refused.
-fn is_for_memory(ending: Ending) -> bool {
-    matches!(
-        ending,
-        Ending::Refused {
-            why: Refusal::Memory,
-            ..
-        }
-    )
 }
 
 // Fewer steps that show it in the same way, by so many tries.

@@ -1,15 +1,17 @@
 // What becomes of the jobs of a run.
 
-ghost use Rattle.std.specs.Prelude.{◌≡◌};
+ghost use Rattle.std.specs.Prelude.{◌≡◌, IfOk};
 ghost use Rattle.mj_load.specs.Image.{program_of};
-ghost use Rattle.mj_explore.specs.Found.{IsFateOf, is_fate_stopped, is_fate_stuck};
+ghost use Rattle.mj_explore.specs.Found.{IsFateOf, is_fate_stopped, is_fate_stuck, is_for_memory};
 
 use crate::marks::is_over;
 use crate::waiting::all_wait;
 use mj_dev::Memory;
 use mj_run::Jobs;
 use mj_sessions::Sessions;
+use mj_steps::{Ending, Refusal};
 use mj_sys::Opening;
+use std::alloc::AllocError;
 
 /// What becomes of the jobs of a run.
 #[derive(Clone, Copy, PartialEq, Eq, Debug)]
@@ -39,15 +41,29 @@ impl Fate {
 }
 
 /// What has become of jobs that stand so. They may be stepped for that.
-pub fn fate_of<O: Opening>(jobs: &mut Jobs<Memory, Sessions<Memory>, O>) -> Fate
-    ensures { IsFateOf result (program_of jobs.old.image) O.opening jobs.old.history }
+pub fn fate_of<O: Opening>(jobs: &mut Jobs<Memory, Sessions<Memory>, O>) -> Result<Fate, AllocError>
+    ensures { IfOk result (λ fate. IsFateOf fate (program_of jobs.old.image) O.opening jobs.old.history) }
 {
     if is_over(&jobs.core) {
-        return Fate::Over;
+        return Ok(Fate::Over);
     }
-    if all_wait(jobs) {
-        Fate::Stuck
+    let all = all_wait(jobs)?;
+    if all {
+        Ok(Fate::Stuck)
     } else {
-        Fate::Stopped
+        Ok(Fate::Stopped)
     }
+}
+
+/// Whether stepping ended since memory was refused.
+pub fn is_for_memory(ending: Ending) -> bool
+    ensures { result ≡ is_for_memory ending }
+{
+    matches!(
+        ending,
+        Ending::Refused {
+            why: Refusal::Memory,
+            ..
+        }
+    )
 }

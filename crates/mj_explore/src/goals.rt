@@ -67,7 +67,7 @@ pub fn shown<O: Opening>(
 {
     match goal {
         Goal::Stuck => {
-            if is_stuck(jobs) {
+            if is_stuck(jobs)? {
                 Ok(Some(Finding::Sought))
             } else {
                 Ok(None)
@@ -109,12 +109,13 @@ fn has_event<O: Opening>(jobs: &Jobs<Memory, Sessions<Memory>, O>, goal: &Goal) 
 }
 
 // Whether jobs that haven't all ended wait.
-fn is_stuck<O: Opening>(jobs: &mut Jobs<Memory, Sessions<Memory>, O>) -> bool
-    ensures { result ≡ true → IsStuck (program_of jobs.old.image) O.opening jobs.old.history }
+fn is_stuck<O: Opening>(jobs: &mut Jobs<Memory, Sessions<Memory>, O>) -> Result<bool, AllocError>
+    ensures { IfOk result (λ is. is ≡ true → IsStuck (program_of jobs.old.image) O.opening jobs.old.history) }
 {
-    match fate_of(jobs) {
-        Fate::Stuck => true,
-        Fate::Over | Fate::Stopped => false,
+    let fate = fate_of(jobs)?;
+    match fate {
+        Fate::Stuck => Ok(true),
+        Fate::Over | Fate::Stopped => Ok(false),
     }
 }
 

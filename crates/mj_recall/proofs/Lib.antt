@@ -1,1 +1,2 @@
 mod Migrations
+mod Replacing

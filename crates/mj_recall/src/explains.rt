@@ -1,6 +1,6 @@
 // Traces that are explained.
 
-ghost use Rattle.std.specs.Prelude.{◌≡◌, ◌≤◌, ℕ, IfOk, None, length, true};
+ghost use Rattle.std.specs.Prelude.{◌≡◌, ◌≤◌, ℕ, IfOk, None, Some, length, true};
 ghost use Rattle.mj_text.specs.declared.limit.Limit.TheVariants.{V2};
 ghost use Rattle.mj_sys.specs.Shared.{are_global};
 ghost use Rattle.mj_load.specs.Image.{program_of};
@@ -11,7 +11,7 @@ ghost use Rattle.mj_recall.specs.Printed.{event_line, verdict_text};
 ghost use Rattle.mj_recall.specs.Statuses.{verdict_status};
 ghost use Rattle.mj_recall.specs.Explained.{known_of, WasExplained, IsExplained, TellsOf, TellsKnown, TellsStory, IsFirstAway};
 
-use crate::causes::tell_causes;
+use crate::causes::tell_difference;
 use crate::replays::{recorded, verdict_text};
 use mj_begin::{listed, loaded, page_apart};
 use mj_command_line::Explain;
@@ -29,12 +29,13 @@ use std::io::Write;
 use std::mem::forget;
 use std::rt::Files;
 
-// What is told of a trace: what is to be printed, the page, where one is wanted, and the exit status.
+// What is told of a trace: what is to be printed, the page, where one is wanted, the exit status, and which event isn't made, if one isn't.
 #[derive(Drop)]
 struct Told {
     words: Vec<u8>,
     page: Option<Vec<u8>>,
     status: u8,
+    differs: Option<usize>,
 }
 
 /// Tells what a trace shows, or which line of it isn't made, and gives the exit status. The trace is read first, then the routines, then the globals. A page is
@@ -53,19 +54,39 @@ where
         page_apart(rt, page, &order.record)?;
     }
     let trace = recorded(rt, order.record.trace, order.record.events)?;
-    let told = explained(rt, order, &trace);
+    let done = tell_all(rt, order, &trace, out, err);
     forget(trace);
+    done
+}
+
+// Tells what a trace shows that was read, or which line of it isn't made, and gives the exit status.
+fn tell_all<'a, R: Files + AllocGlobal, O: Write, E: Write>(
+    rt: &R,
+    order: &Explain<'a>,
+    trace: &Trace,
+    out: &mut O,
+    err: &mut E,
+) -> Result<u8, ProgramError<'a>>
+where
+    R::File: Lockable,
+    requires written { IsTrace trace.now }
+    requires few { length trace.now.events ≤ order.now.record.events }
+    ensures { IfOk result (λ status. status ≤ 1) }
+{
     let Told {
         words,
         page,
         status,
-    } = told?;
+        differs,
+    } = explained(rt, order, trace)?;
     let done = shown(rt, order.html, &words, &page, out);
     drop(words);
     drop(page);
     match done {
         Ok(()) => {
-            tell_causes(&order.record, status, err);
+            if let Some(at) = differs {
+                tell_difference(rt, &order.record, trace, at, err);
+            }
             Ok(status)
         }
         Err(stop) => Err(stop),
@@ -150,6 +171,7 @@ fn refused(alloc: Global, trace: &Trace, at: usize) -> Result<Told, AllocError>
     ensures text { IfOk result (λ told. told.words.items ≡ verdict_text trace.now (verdicts.Differs at)) }
     ensures none { IfOk result (λ told. told.page ≡ None) }
     ensures which { IfOk result (λ told. told.status ≡ verdict_status (verdicts.Differs at)) }
+    ensures differs { IfOk result (λ told. told.differs ≡ Some at) }
     ensures bound { IfOk result (λ told. told.status ≤ 1) }
 {
     let (text, status) = verdict_text(alloc, trace, Verdict::Differs(at))?;
@@ -157,6 +179,7 @@ fn refused(alloc: Global, trace: &Trace, at: usize) -> Result<Told, AllocError>
         words: text.into_bytes(),
         page: None,
         status,
+        differs: Some(at),
     })
 }
 
@@ -197,6 +220,7 @@ fn tell(
 ) -> Result<Told, AllocError>
     ensures told { IfOk result (λ told. TellsKnown globals.now.content trace.now (known_of retraced.now) told.words.items) }
     ensures status { IfOk result (λ told. told.status ≡ 0) }
+    ensures made { IfOk result (λ told. told.differs ≡ None) }
 {
     let story = story_of(
         alloc,
@@ -220,6 +244,7 @@ fn tell_story(
 ) -> Result<Told, AllocError>
     ensures words { IfOk result (λ told. TellsStory trace.now (known_of retraced.now) story.now told.words.items) }
     ensures status { IfOk result (λ told. told.status ≡ 0) }
+    ensures made { IfOk result (λ told. told.differs ≡ None) }
 {
     let shown = Shown {
         before: before_events(trace),
@@ -241,6 +266,7 @@ fn tell_story(
         words,
         page,
         status: 0,
+        differs: None,
     })
 }
 

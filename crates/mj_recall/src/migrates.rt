@@ -13,7 +13,7 @@ ghost use Rattle.mj_replay.specs.Traces.{Migrates};
 ghost use Rattle.mj_recall.specs.Migrations.{IsNewer};
 ghost use Rattle.mj_recall.specs.Printed.{migrated_line};
 
-use crate::causes::tell_causes;
+use crate::causes::tell_difference;
 use crate::replays::{recorded, verdict_text};
 use mj_begin::{listed, loaded, migrated_apart};
 use mj_command_line::Migrate;
@@ -40,39 +40,41 @@ where
     R::File: Lockable,
     ensures { IfOk result (λ status. status ≤ 1) }
 {
-    let (told, status) = migrated(rt, order)?;
-    print(told.as_bytes(), out)?;
-    tell_causes(&order.record, status, err);
-    Ok(status)
-}
-
-// Brings a trace to today's form and writes it: what is to be printed, and the exit status. The trace is read first, then the routines, then the globals;
-// where its events aren't a run, nothing is written.
-fn migrated<'a, R: Files + AllocGlobal>(
-    rt: &R,
-    order: &Migrate<'a>,
-) -> Result<(String, u8), ProgramError<'a>>
-where
-    R::File: Lockable,
-    ensures { IfOk result (λ told. told.1 ≤ 1) }
-{
     migrated_apart(rt, order.out, &order.record)?;
     let trace = recorded(rt, order.record.trace, order.record.events)?;
-    match brought(rt, order, &trace) {
-        Ok(Migrated::To(new)) => {
+    let done = migrate_over(rt, order, &trace, out, err);
+    forget(trace);
+    done
+}
+
+// Brings a trace to today's form over the routines and then the globals that are read for it, writes it, and says how many events it has. Where its events
+// aren't a run, nothing is written.
+fn migrate_over<'a, R: Files + AllocGlobal, O: Write, E: Write>(
+    rt: &R,
+    order: &Migrate<'a>,
+    trace: &Trace,
+    out: &mut O,
+    err: &mut E,
+) -> Result<u8, ProgramError<'a>>
+where
+    R::File: Lockable,
+    requires written { IsTrace trace.now }
+    requires few { length trace.now.events ≤ order.now.record.events }
+    ensures { IfOk result (λ status. status ≤ 1) }
+{
+    match brought(rt, order, trace)? {
+        Migrated::To(new) => {
             let told = written(rt, order.out, &new);
             forget(new);
-            forget(trace);
-            Ok((told?, 0))
+            let told = told?;
+            print(told.as_bytes(), out)?;
+            Ok(0)
         }
-        Ok(Migrated::Differs(at)) => {
-            let told = verdict_text(rt.alloc(), &trace, Verdict::Differs(at));
-            forget(trace);
-            Ok(told?)
-        }
-        Err(stop) => {
-            forget(trace);
-            Err(stop)
+        Migrated::Differs(at) => {
+            let (told, status) = verdict_text(rt.alloc(), trace, Verdict::Differs(at))?;
+            print(told.as_bytes(), out)?;
+            tell_difference(rt, &order.record, trace, at, err);
+            Ok(status)
         }
     }
 }

@@ -9,7 +9,7 @@ ghost use Rattle.mj_trace.specs.Trace.{limit_of};
 ghost use Rattle.mj_recall.specs.Printed.{verdict_text};
 ghost use Rattle.mj_recall.specs.Statuses.{verdict_status};
 
-use crate::causes::tell_causes;
+use crate::causes::tell_difference;
 use mj_begin::{file_bytes, listed, loaded};
 use mj_command_line::Replay;
 use mj_drafts::{DIFFERS, ProgramError, print};
@@ -32,31 +32,31 @@ pub fn replay<'a, R: Files + AllocGlobal, O: Write, E: Write>(
 ) -> Result<u8, ProgramError<'a>>
     ensures { IfOk result (λ status. status ≤ 1) }
 {
-    let (told, status) = replayed(rt, order)?;
-    print(told.as_bytes(), out)?;
-    tell_causes(order, status, err);
-    Ok(status)
+    let trace = recorded(rt, order.trace, order.events)?;
+    let done = replay_over(rt, order, &trace, out, err);
+    forget(trace);
+    done
 }
 
-// Replays a trace: what is to be printed, and the exit status. The trace is read first, then the routines, then the globals.
-fn replayed<'a, R: Files + AllocGlobal>(
+// Replays a trace over the routines and then the globals that are read for it, and says whether it is that of a run.
+fn replay_over<'a, R: Files + AllocGlobal, O: Write, E: Write>(
     rt: &R,
     order: &Replay<'a>,
-) -> Result<(String, u8), ProgramError<'a>>
-    ensures { IfOk result (λ told. told.1 ≤ 1) }
+    trace: &Trace,
+    out: &mut O,
+    err: &mut E,
+) -> Result<u8, ProgramError<'a>>
+    requires written { IsTrace trace.now }
+    requires few { length trace.now.events ≤ order.now.events }
+    ensures { IfOk result (λ status. status ≤ 1) }
 {
-    let trace = recorded(rt, order.trace, order.events)?;
-    match verdict(rt, order, &trace) {
-        Ok(verdict) => {
-            let told = verdict_text(rt.alloc(), &trace, verdict);
-            forget(trace);
-            Ok(told?)
-        }
-        Err(stop) => {
-            forget(trace);
-            Err(stop)
-        }
+    let verdict = verdict(rt, order, trace)?;
+    let (told, status) = verdict_text(rt.alloc(), trace, verdict)?;
+    print(told.as_bytes(), out)?;
+    if let Verdict::Differs(at) = verdict {
+        tell_difference(rt, order, trace, at, err);
     }
+    Ok(status)
 }
 
 /// Reads the trace in a file, where it may have so many events.

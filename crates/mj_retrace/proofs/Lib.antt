@@ -6,3 +6,4 @@ pub mod Noting
 pub mod Holding
 pub mod Unmade
 pub mod Through
+pub mod Fronts

@@ -1,5 +1,5 @@
 -- What a step over a record, and making a job ready, leave of the routines and the history; and the event that is made again.
-use Rattle.std.specs.Prelude.{Result, Ok, Err, slice_get}
+use Rattle.std.specs.Prelude.{Result, Ok, Err, IfOk, IfSome, slice_get}
 use Rattle.std.proofs.Common.{◌≡◌, ℕ, zero, suc, ◌+◌, ◌*◌, ◌<◌, ◌≤◌, ◌⊎◌, inl, inr, List, [], ◌∷◌, ◌++◌, length, Bool, true, Option, Some, None, refl, sym, ap, ◌∙◌, subst, arith}
 use Rattle.std.proofs.lemmas.List.{get_or-set_same, length-set}
 use Rattle.std.proofs.lemmas.Option.{slice_get_within, same_Some}
@@ -19,7 +19,7 @@ use Rattle.mj_sys.specs.Shared.{Shared, served}
 use Rattle.mj_sys.specs.History.{History, state_of, log_of}
 use Rattle.mj_core.specs.declared.seen.Seen.{Seen}
 use Rattle.mj_core.specs.declared.seen.Seen.TheVariants as seen
-use Rattle.mj_core.specs.Runs.{start_in}
+use Rattle.mj_core.specs.Runs.{IsRun, start_in}
 use Rattle.mj_core.specs.Shown.{AtAsk, Shown, stand_at, with_stand, spent_by, with_spent}
 use Rattle.mj_core.specs.Gives.{stands_so, answered, is_late, MayGoOn, JobStepGives, GivesReady, Readies}
 use Rattle.mj_core.specs.Recorded.{repeating, RecordStepGives}
@@ -232,3 +232,17 @@ event_made opening first old new step given ask reply place steps few going is (
           (by_row opening old new step.job ask reply place going.stands few_old is row (is_late step.way) given there goes.2)),
       ap (λ (s : Shown). s.over) goes.2.1.5.1.1 ∙ going.over,
     )
+
+-- behind an event that was made the history is a run with that, if it stands there
+pub event_run : (opening : Shared) (first old new : Shown) (step : Step) (given : Option Reply) (ask : Ask) (place steps : ℕ)
+    → length (state_of opening first.history).rows ≤ rows_limit → IsGoing opening first step.job steps old → RecordStepGives opening old step given (Ok (seen.Event place)) new
+    → IsRun (program_of new.image) opening new.history → {E : Type 0} → (told : Result (Option Reply) E)
+    → IfOk told (λ t. IfSome t (λ reply. IsThere new.history place ask reply))
+    → IfOk told (λ t. IfSome t (λ reply. IsRun (program_of first.image) opening (first.history ++ event_by step.job ask reply ∷ [])))
+event_run opening first old new step given ask place steps few going gives run (Err e) there = tt
+event_run opening first old new step given ask place steps few going gives run (Ok None) there = tt
+event_run opening first old new step given ask place steps few going gives run (Ok (Some reply)) there =
+    let made = (event_made opening first old new step given ask reply place steps few going there gives).0 in
+    let P : Loaded → History → Type 0 = λ i h. IsRun (program_of i) opening h in
+    let same : new.image ≡ first.image = step_image opening old new step given (Ok (seen.Event place)) gives ∙ going.image in
+    subst (λ i. P i (first.history ++ event_by step.job ask reply ∷ [])) same (subst (λ h. P new.image h) made.more run)

@@ -1,3 +1,4 @@
 pub mod Retraced
 pub mod Made
+pub mod Instead
 pub mod Noted

@@ -15,7 +15,7 @@ use mj_sys::Opening;
 use std::alloc::AllocError;
 
 /// How often a job may use up the turns of a step before it asks something.
-const RUNS: u32 = 1_000_000;
+pub const RUNS: u32 = 1_000_000;
 
 /// Has a job make its next event, and says whether that is this one. No job's end was seen before.
 pub fn make_again<O: Opening>(
@@ -56,8 +56,8 @@ pub fn make_again<O: Opening>(
     Ok(false)
 }
 
-// How a job is stepped that is told this.
-fn way_of(ask: &Ask, reply: &Reply) -> Way
+/// How a job is stepped that is told this.
+pub fn way_of(ask: &Ask, reply: &Reply) -> Way
     ensures { result ≡ way_of ask.now reply.now }
 {
     if is_due(ask, reply) {

@@ -59,8 +59,8 @@ fn add_ask<O: Opening>(
     }
 }
 
-// What a job asks next, and where it stands there, if it goes on and asks soon.
-fn next_ask<O: Opening>(
+/// What a job asks next, and where it stands there, if it goes on and asks soon.
+pub fn next_ask<O: Opening>(
     core: &mut Core<Blank, Heeds, O>,
     job: u32,
 ) -> Result<Option<(Ask, Spot)>, AllocError>

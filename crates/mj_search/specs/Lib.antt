@@ -1,3 +1,4 @@
+pub mod Goals
 pub mod Printed
 pub mod Statuses
 pub mod Told

@@ -64,3 +64,11 @@ faults_line name = codes "    the expression faults over the globals that the fi
 
 abbrev pub refusal_line : Fault → List ℕ
 refusal_line fault = faults_line (name_of fault)
+
+-- what the first run came to, behind four blanks
+abbrev pub tally_hint : Tally → List ℕ
+tally_hint tally = if is_untroubled tally then [] else codes "    " ++ tally_lines tally
+
+-- both: a fault of a job may be why the expression faults
+abbrev pub refusal_lines : Fault → Tally → List ℕ
+refusal_lines fault tally = refusal_line fault ++ tally_hint tally

@@ -23,12 +23,15 @@ abbrev pub indented : ℕ → List ℕ → List ℕ
 indented last [] = []
 indented last (byte ∷ text) = (if last == 10 then codes "      " else []) ++ byte ∷ indented byte text
 
--- the first 400 bytes, as such lines
+-- all bytes, or the first 400 and two dots in place of the others; and these as such lines
 abbrev pub is_long : List ℕ → Bool
 is_long text = nat_lt 400 (length text)
 
+abbrev pub fitted : List ℕ → List ℕ
+fitted text = if is_long text then take 400 text ++ 46 ∷ 46 ∷ 10 ∷ [] else text
+
 abbrev pub cut : List ℕ → List ℕ
-cut text = if is_long text then indented 10 (take 400 text) ++ 46 ∷ 46 ∷ 10 ∷ [] else indented 10 text
+cut text = indented 10 (fitted text)
 
 -- an end: how many runs had it, and what it is
 abbrev pub end_lines : End → List ℕ

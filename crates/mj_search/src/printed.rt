@@ -3,7 +3,7 @@
 ghost use Rattle.std.specs.Prelude.{◌≡◌, ◌≤◌, ◌++◌, IfOk, IfNone, IfSome, OnOk, length, option_map};
 ghost use Rattle.std.specs.String.{string_bytes};
 ghost use Rattle.mj_search.specs.Printed.{counts_lines, faulty_line, faults_line, found_line, goal_word, is_untroubled, plain_line, refusal_by};
-ghost use Rattle.mj_search.specs.Printed.{refusal_line, refusal_of, runs_line, tally_line, tally_lines};
+ghost use Rattle.mj_search.specs.Printed.{refusal_line, refusal_lines, refusal_of, runs_line, tally_hint, tally_line, tally_lines};
 ghost use Rattle.mj_search.specs.Statuses.{found_status};
 
 use mj_explore::{Explored, Finding, Tally};
@@ -161,8 +161,30 @@ fn refusal_by(runs: u32, finding: Finding) -> Option<Fault>
     }
 }
 
-/// The line behind the one that refuses an expression.
-pub fn refusal_line(alloc: Global, fault: Fault) -> Result<String, AllocError>
+/// What stands behind the line that refuses an expression: by which fault it is, and what the first run came to, where a job's own fault may be the cause.
+pub fn refusal_text(alloc: Global, fault: Fault, tally: Tally) -> Result<Vec<u8>, AllocError>
+    ensures { IfOk result (λ text. text.items ≡ refusal_lines fault tally) }
+{
+    let mut text = Vec::new(alloc);
+    let line = refusal_line(alloc, fault)?;
+    text.extend_from_slice(line.as_bytes())?;
+    put_hint(alloc, &mut text, tally)?;
+    Ok(text)
+}
+
+// Puts what the first run came to behind four blanks to the end of a text, where a job faulted in it, or it got stuck or was stopped.
+fn put_hint(alloc: Global, text: &mut Vec<u8>, tally: Tally) -> Result<(), AllocError>
+    ensures { OnOk result (text.new.items ≡ text.old.items ++ tally_hint tally) }
+{
+    if is_untroubled(tally) {
+        return Ok(());
+    }
+    text.extend_from_slice(b"    ")?;
+    put_tally(alloc, text, tally)
+}
+
+// The line on the fault by which an expression is refused.
+fn refusal_line(alloc: Global, fault: Fault) -> Result<String, AllocError>
     ensures { IfOk result (λ line. string_bytes line ≡ refusal_line fault) }
 {
     faults_line(alloc, fault.name())

@@ -1,17 +1,18 @@
 // Runs by chance.
 
-ghost use Rattle.std.specs.Prelude.{◌≡◌, ◌≢◌, ◌≤◌, All, IfOk, true};
+ghost use Rattle.std.specs.Prelude.{◌≡◌, ◌≢◌, ◌≤◌, All, IfOk, option_map, true};
 ghost use Rattle.mj_dev.specs.Shelves.{principal};
 ghost use Rattle.mj_sys.specs.Shared.{are_global};
 ghost use Rattle.mj_explore.specs.Scripts.{opening_in, supply_names};
+ghost use Rattle.mj_search.specs.Goals.{IsGoalOf};
 
-use crate::printed::{explored_text, refusal_line, refusal_of};
+use crate::printed::{explored_text, refusal_of, refusal_text};
 use crate::told::told_ends;
 use mj_begin::{Beginning, begin, file_bytes, refused, routine_bytes, routine_name};
 use mj_chance::put_steps;
 use mj_command_line::Explore;
 use mj_drafts::{Choice, Lockable, ProgramError, Word, print, stopped, tell_trouble, write_file};
-use mj_explore::{Explored, Goal, Script, Search, Source, Supply, Unread, condition};
+use mj_explore::{Explored, Goal, Script, Search, Source, Supply, Tally, Unread, condition};
 use mj_files::{BYTES_LIMIT, Side, Trouble, read_device, whole};
 use mj_globs::Globals;
 use mj_sys::Opening;
@@ -90,7 +91,9 @@ where
 }
 
 // What is looked for, by the word for it.
-fn goal_of<'a>(alloc: Global, until: Option<&'a str>) -> Result<Option<Goal>, ProgramError<'a>> {
+fn goal_of<'a>(alloc: Global, until: Option<&'a str>) -> Result<Option<Goal>, ProgramError<'a>>
+    ensures { IfOk result (IsGoalOf (option_map (λ word. word.now) until.entry)) }
+{
     let Some(word) = until else {
         return Ok(None);
     };
@@ -244,13 +247,19 @@ where
     ensures { result ≤ 4 }
 {
     match refusal_of(explored) {
-        Some(fault) => refuse(rt.alloc(), order.until, fault, err),
+        Some(fault) => refuse(rt.alloc(), order.until, fault, explored.tally, err),
         None => tell(rt, order, explored, out, err),
     }
 }
 
-// Refuses an expression, says by which fault, and gives the exit status.
-fn refuse<E: Write>(alloc: Global, until: Option<&str>, fault: Fault, err: &mut E) -> u8
+// Refuses an expression, says by which fault and what the first run came to, and gives the exit status.
+fn refuse<E: Write>(
+    alloc: Global,
+    until: Option<&str>,
+    fault: Fault,
+    tally: Tally,
+    err: &mut E,
+) -> u8
     ensures { result ≡ 3 }
 {
     let stop = ProgramError::Chosen {
@@ -259,8 +268,8 @@ fn refuse<E: Write>(alloc: Global, until: Option<&str>, fault: Fault, err: &mut 
     };
     let status = stopped(&stop, err);
     // Where memory is refused, or this can't be written, the line alone tells.
-    if let Ok(line) = refusal_line(alloc, fault) {
-        let _ = err.write_all(line.as_bytes());
+    if let Ok(text) = refusal_text(alloc, fault, tally) {
+        let _ = err.write_all(&text);
     }
     status
 }

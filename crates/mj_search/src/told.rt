@@ -1,6 +1,6 @@
 // What is told of runs by chance, where hints are wanted.
 
-ghost use Rattle.std.specs.Prelude.{◌≡◌, ◌≤◌, ◌++◌, length, take, IfOk, OnOk};
+ghost use Rattle.std.specs.Prelude.{◌≡◌, ◌≤◌, ◌++◌, length, take, codes, IfOk, OnOk};
 ghost use Rattle.std.specs.String.{string_bytes};
 ghost use Rattle.mj_search.specs.Told.{behind_head, cut, each_end, end_line, end_lines, ends_lines, how_word, indented, rest_line, whether_over};
 
@@ -69,21 +69,30 @@ fn put_end(alloc: Global, bytes: &mut Vec<u8>, end: &End) -> Result<(), AllocErr
 {
     let line = end_line(alloc, end.runs, how_word(whether_over(&end.text)))?;
     bytes.extend_from_slice(line.as_bytes())?;
-    put_shown(bytes, behind_head(&end.text))?;
+    put_shown(alloc, bytes, behind_head(&end.text))?;
     Ok(())
 }
 
 // Puts what is shown of these bytes to the end of others.
-fn put_shown(bytes: &mut Vec<u8>, shown: &[u8]) -> Result<(), AllocError>
+fn put_shown(alloc: Global, bytes: &mut Vec<u8>, shown: &[u8]) -> Result<(), AllocError>
     ensures { OnOk result (bytes.new.items ≡ bytes.old.items ++ cut shown.now) }
 {
     if shown.len() > BYTES {
-        put_indented(bytes, front(shown, BYTES))?;
-        bytes.extend_from_slice(b"..\n")?;
-        Ok(())
+        let text = dotted(alloc, front(shown, BYTES))?;
+        put_indented(bytes, &text)
     } else {
         put_indented(bytes, shown)
     }
+}
+
+// These bytes, and two dots in place of those that are left out.
+fn dotted(alloc: Global, text: &[u8]) -> Result<Vec<u8>, AllocError>
+    ensures { IfOk result (λ bytes. bytes.items ≡ text.now ++ codes "..\n") }
+{
+    let mut bytes = Vec::new(alloc);
+    bytes.extend_from_slice(text)?;
+    bytes.extend_from_slice(b"..\n")?;
+    Ok(bytes)
 }
 
 // The first of these bytes, so many.

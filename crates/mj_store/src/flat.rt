@@ -346,8 +346,8 @@ fn after<'a>(name: &Name, front: &[Sub], key: &'a Name) -> Option<&'a [Sub]>
     strip(front, key.subscripts().as_slice())
 }
 
-// What the list has after the front, where it begins with it.
-fn strip<'a>(front: &[Sub], list: &'a [Sub]) -> Option<&'a [Sub]>
+/// What a list has behind a front, where it begins with it.
+pub fn strip<'a>(front: &[Sub], list: &'a [Sub]) -> Option<&'a [Sub]>
     ensures { option_copied result ≡ after_front subscript_cmp front.now list.now }
 {
     match front {

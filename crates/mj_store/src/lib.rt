@@ -13,7 +13,7 @@ mod same;
 mod store;
 
 pub use access::{Access, Answer, ask, perform, run};
-pub use flat::Flat;
+pub use flat::{Flat, strip};
 pub use nodes::Nodes;
 pub use same::{are_same_nodes, is_same_answer};
 pub use store::{Direction, Store, is_too_deep};

@@ -288,7 +288,8 @@ impl Children {
     fn gap_behind(&self, sub: &Sub) -> Option<(Num, usize)>
         requires ordered { IsOrdered self.now.row.items self.now.others.entries }
         requires behind { AllBefore subscript_cmp sub.now self.now.row.items }
-        ensures end { IfSome result (λ g. IsNumber sub.now g.0 × IsEnd self.now.row.items g.1 g.0 × T (below_all subscript_cmp sub.now self.now.others.entries)) }
+        ensures end { IfSome result (λ g.
+            IsNumber sub.now g.0 × IsEnd self.now.row.items g.1 g.0 × T (below_all subscript_cmp sub.now self.now.others.entries)) }
         ensures room { IfSome result (λ g. g.1 < SHORT_ROW) }
     {
         let number = sub.number()?;

@@ -16,6 +16,6 @@ returns g c =
     let P : Shown → Type 0 = λ new. AreSteps by_memory g.O.Opening.opening c.in_ok-jobs.jobs new in
     let name : c.from_number.result ≡ principal = c.from_number.ensures ∙ decimal_digit 0 (lit< tt) in
     let wrote = c.deref.ensures.value ∙ c.in_ok-output.ensures ∙ ap (λ n. out_of core.history 1 n 1) name in
-    is_judged c.args.condition.now g.O.Opening.opening c.in_ok-jobs.jobs core begun.0 c.verdict_by.result c.fault_in-fault.result c.is_one.result c.deref.result.now
+    is_judged c.args.condition.now g.O.Opening.opening c.in_ok-jobs.jobs core begun.0 c.verdict_by-verdict.result c.fault_in-fault.result c.is_one.result c.deref.result.now
     begun.1 begun.2 (subst P (sym c.jobs.view_is) c.in_turn-ending.ensures.run) c.len-run.ensures.run (sym c.is_over.ensures ∙ c.if-not-is_over.false) wrote
-    c.is_one.ensures c.fault_in-fault.ensures c.verdict_by.ensures
+    c.is_one.ensures c.fault_in-fault.ensures c.verdict_by-verdict.ensures (sym c.is_of_device.ensures ∙ c.if-is_of_device.false)

@@ -1,5 +1,7 @@
-use Rattle.std.proofs.Common.{◌+◌, refl, arith}
+use Rattle.std.specs.Prelude.{option_map}
+use Rattle.std.proofs.Common.{Bor, refl, arith}
 use Rattle.mj_explore.specs.declared.exploring.Tally.{Tally}
+use Rattle.mj_explore.specs.declared.goals.Goal.{Goal}
 use Rattle.mj_explore.proofs.Making.{few, more, none, were}
 use Rattle.mj_explore.proofs.exploring.explore.Goals as goal
 
@@ -30,7 +32,8 @@ pub runs-preserved : goal.runs-preserved
 runs-preserved g c =
     let l = c.runs in
     let came = c.in_ok-came.came in
-    more c.args.script.now g.O.Opening.opening l.done l.ends.items c.run_once.new.ends.items l.tally c.tallied-tally.result came.has_faulted came.fate
+    let wanted = option_map (λ (r : Bor Goal). r.now) c.args.goal in
+    more c.args.script.now g.O.Opening.opening wanted came.shown l.done l.ends.items c.run_once.new.ends.items l.tally c.tallied-tally.result came.has_faulted came.fate
     l.invariant c.in_ok-came.ensures.noted
     (record { faults = c.tallied-tally.ensures.faulted; stuck = c.tallied-tally.ensures.stuck; stopped = c.tallied-tally.ensures.stopped })
 
@@ -38,7 +41,7 @@ pub returns-in-Some-clause-counted : goal.returns-in-Some-clause-counted
 returns-in-Some-clause-counted g c =
     let l = c.runs in
     let came = c.in_ok-came.came in
-    were c.args.script.now g.O.Opening.opening (l.done + 1) c.run_once.new.ends.items c.tallied-tally.result
-    (more c.args.script.now g.O.Opening.opening l.done l.ends.items c.run_once.new.ends.items l.tally c.tallied-tally.result came.has_faulted came.fate
-    l.invariant c.in_ok-came.ensures.noted
-    (record { faults = c.tallied-tally.ensures.faulted; stuck = c.tallied-tally.ensures.stuck; stopped = c.tallied-tally.ensures.stopped }))
+    let wanted = option_map (λ (r : Bor Goal). r.now) c.args.goal in
+    were c.args.script.now g.O.Opening.opening wanted came.shown c.in-Some.finding l.done l.ends.items c.run_once.new.ends.items l.tally c.tallied-tally.result
+    came.has_faulted came.fate c.in-Some.is l.invariant c.in_ok-came.ensures.noted
+    (record { faults = c.tallied-tally.ensures.faulted; stuck = c.tallied-tally.ensures.stuck; stopped = c.tallied-tally.ensures.stopped })

@@ -30,8 +30,10 @@ returns-clause-noted g c =
     let script = c.args.script.now in
     let text : List ℕ = c.in_ok-end_text.field-0.items in
     let faults : Shown → Bool = λ s. nat_lt 0 (count_by (bears marks.Fault) s.history) in
-    is_come script opening made.steps.items made.ending core c.has-has_faulted.result c.in_ok-came.came.1 c.args.ends.now.items c.note.new.ends.items
+    let wanted = option_map (λ (r : Bor Goal). r.now) c.args.goal in
+    is_come script opening wanted made.steps.items made.ending core c.in_ok-came.came.0 c.has-has_faulted.result c.in_ok-came.came.1 c.args.ends.now.items
+    c.note.new.ends.items
     (are_made script opening made.steps.items made.ending c.in_ok-jobs.jobs core begun.0 begun.1 begun.2 c.in_ok-made.ensures.listed)
-    c.in_ok-came.ensures.fate
+    c.in_ok-came.ensures.granted c.in_ok-came.ensures.shown c.in_ok-came.ensures.fate
     (c.has-has_faulted.ensures ∙ ap faults c.jobs.view_is)
     (noted_as (c.in_ok-end_text.ensures ∙ ap (λ (s : Shown). end_text opening s.history) c.jobs.view_is) c.in_ok-note.ensures.ok)

@@ -3,7 +3,7 @@ use Rattle.mj_core.specs.Shown.{Shown}
 use Rattle.mj_explore.specs.Marks.{is_over}
 use Rattle.mj_explore.proofs.fates.fate_of.Goals as goal
 
-pub returns-then-all_wait : goal.returns-then-all_wait
-returns-then-all_wait g c =
+pub returns-then-all : goal.returns-then-all
+returns-then-all g c =
     let over : Shown → Bool = λ (s : Shown). is_over g.O.Opening.opening s.history in
-    (sym (ap over c.jobs.view_is) ∙ sym c.is_over.ensures ∙ c.if-is_over.false, c.all_wait.ensures c.if-all_wait.true)
+    (sym (ap over c.jobs.view_is) ∙ sym c.is_over.ensures ∙ c.if-is_over.false, c.in_ok-all.ensures c.if-all.true)

@@ -15,12 +15,12 @@ pub each-preserved : goal.each-preserved
 each-preserved g c =
     let l = c.each in
     let opening = g.O.Opening.opening in
-    let is = c.if-not-waits.false in
+    let is = c.if-not-branch.false in
     record {
-      history = c.waits.ensures.history is ∙ l.invariant.history;
-      image = c.waits.ensures.image is ∙ l.invariant.image;
+      history = c.in_ok-waits.ensures.history is ∙ l.invariant.history;
+      image = c.in_ok-waits.ensures.image is ∙ l.invariant.image;
       held = one_held_more (IsHeldIn opening c.args.jobs.now) l.done l.invariant.held
-          (held_before opening l.jobs c.args.jobs.now (l.done + 1) l.invariant.history l.invariant.image (c.waits.ensures.held is));
+          (held_before opening l.jobs c.args.jobs.now (l.done + 1) l.invariant.history l.invariant.image (c.in_ok-waits.ensures.held is));
     }
 
 pub returns : goal.returns
