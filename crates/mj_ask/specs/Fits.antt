@@ -1,6 +1,7 @@
--- The table of asks: which reply fits which ask, and who serves it.
-use Rattle.std.specs.Prelude.{ℕ, ℤ, ◌==◌, Option, None, Bool, true, false, not, ◌&&◌, ◌||◌}
+-- The table of asks: which reply fits which ask, who serves it, and which locks it gives up.
+use Rattle.std.specs.Prelude.{ℕ, ℤ, ◌==◌, List, Option, Some, None, Bool, true, false, not, ◌&&◌, ◌||◌}
 use Rattle.std.specs.Option.{is_some}
+use Rattle.mj_subs.specs.Name.{Name}
 use Rattle.mj_store.specs.declared.access.Access.{Access}
 use Rattle.mj_store.specs.declared.access.Access.TheVariants as accesses
 use Rattle.mj_store.specs.declared.access.Answer.{Answer}
@@ -9,6 +10,8 @@ use Rattle.mj_ask.specs.declared.ask.Ask.{Ask}
 use Rattle.mj_ask.specs.declared.ask.Ask.TheVariants as asks
 use Rattle.mj_ask.specs.declared.ask.SharedAsk.{SharedAsk}
 use Rattle.mj_ask.specs.declared.ask.SharedAsk.TheVariants as shared_asks
+use Rattle.mj_ask.specs.declared.ask.GivenUp as borrowed
+use Rattle.mj_ask.specs.declared.ask.GivenUp.TheVariants as given
 use Rattle.mj_ask.specs.declared.ask.DeviceAsk.{DeviceAsk}
 use Rattle.mj_ask.specs.declared.ask.DeviceAsk.TheVariants as device_asks
 use Rattle.mj_ask.specs.declared.ask.Reply.{Reply}
@@ -116,3 +119,20 @@ fits a r = is_reply_to a r && (not (is_late r) || is_some (timeout_of a))
 abbrev pub is_shared : Ask → Bool
 is_shared (asks.Shared a) = true
 is_shared _ = false
+
+-- which of its locks a job gives up: one of each of these names, or all
+pub data GivenUp : Type 0 where
+  TheNames : (names : List Name) → GivenUp
+  AllNames : GivenUp
+
+-- which are given up by an ask, if it is an unlock
+abbrev pub gives_up : Ask → Option GivenUp
+gives_up (asks.Shared (shared_asks.Unlock names)) = Some (TheNames names)
+gives_up (asks.Shared shared_asks.UnlockAll) = Some AllNames
+gives_up _ = None
+
+-- the same as code has it, which borrows the names
+abbrev pub given_seen : Option borrowed.GivenUp → Option GivenUp
+given_seen None = None
+given_seen (Some (given.Names names)) = Some (TheNames names.now)
+given_seen (Some given.All) = Some AllNames

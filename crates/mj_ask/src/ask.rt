@@ -1,14 +1,15 @@
 // Questions and replies.
 
-ghost use Rattle.std.specs.Prelude.{◌≡◌, IfOk};
+ghost use Rattle.std.specs.Prelude.{◌≡◌, ◌↔◌, IfOk, IsTrue};
 ghost use Rattle.mj_ask.specs.Fits.{fits, is_reply_to, is_shared_reply, is_device_reply, is_late, is_shared};
-ghost use Rattle.mj_ask.specs.Fits.{timeout_of, shared_timeout, device_timeout, answers, is_data};
+ghost use Rattle.mj_ask.specs.Fits.{timeout_of, shared_timeout, device_timeout, answers, is_data, gives_up, given_seen};
 
 use crate::clash::BoxedClash;
 use crate::names::Names;
-use crate::start::Start;
+use crate::same::{are_same_names, is_same_access, is_same_clash, is_same_start};
+use crate::start::BoxedStart;
 use mj_num::Num;
-use mj_store::{Access, Answer};
+use mj_store::{Access, Answer, is_same_answer};
 use mj_text::{Fault, Text};
 use std::alloc::{AllocError, Global};
 
@@ -54,9 +55,18 @@ pub enum SharedAsk {
     /// the job gives the device up
     Close(Text),
     /// another job starts
-    Start(Start, Option<Num>),
+    Start(BoxedStart, Option<Num>),
     /// the job is over, by a fault or without one
     Halt(Option<Fault>),
+}
+
+/// Which of its locks a job gives up.
+#[derive(Clone, Copy)]
+pub enum GivenUp<'a> {
+    /// one of each of these names
+    Names(&'a Names),
+    /// all
+    All,
 }
 
 /// A question of a job to its session of a device. Where a timeout may stand and none does, the job waits.
@@ -137,6 +147,17 @@ impl Ask {
             Ask::Shared(ask) => ask.timeout(),
             Ask::Device(_, ask) => ask.timeout(),
             Ask::Rest(_) => None,
+        }
+    }
+
+    /// Which locks are given up by it, if it is an unlock.
+    pub fn gives_up(&self) -> Option<GivenUp<'_>>
+        ensures { given_seen result ≡ gives_up self.now }
+    {
+        match self {
+            Ask::Shared(SharedAsk::Unlock(names)) => Some(GivenUp::Names(names)),
+            Ask::Shared(SharedAsk::UnlockAll) => Some(GivenUp::All),
+            _ => None,
         }
     }
 
@@ -269,6 +290,75 @@ impl Reply {
             Reply::Job(number) => Reply::Job(*number),
             Reply::Clash(clash) => Reply::Clash(clash.try_clone()?),
         })
+    }
+}
+
+/// Whether the asks are the same.
+pub fn is_same_ask(one: &Ask, other: &Ask) -> bool
+    ensures { IsTrue result ↔ (one.now ≡ other.now) }
+{
+    match (one, other) {
+        (Ask::Shared(a), Ask::Shared(b)) => is_same_shared_ask(a, b),
+        (Ask::Device(a, c), Ask::Device(b, d)) => a == b && is_same_device_ask(c, d),
+        (Ask::Rest(a), Ask::Rest(b)) => a == b,
+        _ => false,
+    }
+}
+
+// Whether the asks of what all jobs share are the same.
+fn is_same_shared_ask(one: &SharedAsk, other: &SharedAsk) -> bool
+    ensures { IsTrue result ↔ (one.now ≡ other.now) }
+{
+    match (one, other) {
+        (SharedAsk::Access(a), SharedAsk::Access(b)) => is_same_access(a, b),
+        (SharedAsk::Try(a, c), SharedAsk::Try(b, d)) => {
+            are_same_names(a.as_slice(), b.as_slice()) && c == d
+        }
+        (SharedAsk::Unlock(a), SharedAsk::Unlock(b)) => are_same_names(a.as_slice(), b.as_slice()),
+        (SharedAsk::UnlockAll, SharedAsk::UnlockAll)
+        | (SharedAsk::Commit, SharedAsk::Commit)
+        | (SharedAsk::Rollback, SharedAsk::Rollback) => true,
+        (SharedAsk::Begin(a), SharedAsk::Begin(b)) => a == b,
+        (SharedAsk::Open(a, c), SharedAsk::Open(b, d)) => a == b && c == d,
+        (SharedAsk::Close(a), SharedAsk::Close(b)) => a == b,
+        (SharedAsk::Start(a, c), SharedAsk::Start(b, d)) => is_same_start(a.get(), b.get())
+            && c == d,
+        (SharedAsk::Halt(a), SharedAsk::Halt(b)) => a == b,
+        _ => false,
+    }
+}
+
+// Whether the asks of a device are the same.
+fn is_same_device_ask(one: &DeviceAsk, other: &DeviceAsk) -> bool
+    ensures { IsTrue result ↔ (one.now ≡ other.now) }
+{
+    match (one, other) {
+        (DeviceAsk::Write(a), DeviceAsk::Write(b)) => a == b,
+        (DeviceAsk::Line(a), DeviceAsk::Line(b)) => a == b,
+        (DeviceAsk::Byte(a), DeviceAsk::Byte(b)) => a == b,
+        (DeviceAsk::Begin, DeviceAsk::Begin) | (DeviceAsk::End, DeviceAsk::End) => true,
+        _ => false,
+    }
+}
+
+/// Whether the replies are the same.
+pub fn is_same_reply(one: &Reply, other: &Reply) -> bool
+    ensures { IsTrue result ↔ (one.now ≡ other.now) }
+{
+    match (one, other) {
+        (Reply::Answer(a), Reply::Answer(b)) => is_same_answer(a, b),
+        (Reply::Line(a), Reply::Line(b)) => a == b,
+        (Reply::Byte(a), Reply::Byte(b)) => a == b,
+        (Reply::Job(a), Reply::Job(b)) => a == b,
+        (Reply::Clash(a), Reply::Clash(b)) => is_same_clash(a.get(), b.get()),
+        (Reply::Done, Reply::Done)
+        | (Reply::Limit, Reply::Limit)
+        | (Reply::Got, Reply::Got)
+        | (Reply::Late, Reply::Late)
+        | (Reply::NoSession, Reply::NoSession)
+        | (Reply::Failed, Reply::Failed)
+        | (Reply::End, Reply::End) => true,
+        _ => false,
     }
 }
 

@@ -6,7 +6,7 @@ ghost use Rattle.mj_ask.specs.Keeping.{kept_subscript, kept_of, KeepsAnswer};
 
 use mj_num::Num;
 use mj_store::{Answer, Nodes};
-use mj_subs::{Name, Sub};
+use mj_subs::{SharedName, Sub};
 use mj_text::Text;
 use std::alloc::{AllocError, Global};
 use std::marker::Model;
@@ -21,7 +21,7 @@ pub enum Kept {
     /// a number of `$DATA`, or a subscript that is a canonic number
     Number(Num),
     /// the name of a global
-    Name(Name),
+    Name(SharedName),
     /// nodes
     Subtree(Nodes),
 }

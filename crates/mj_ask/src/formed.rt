@@ -122,13 +122,13 @@ fn is_to_global(access: &Access) -> bool
     ensures { result ≡ is_access access.now }
 {
     match access {
-        Access::Order(name, _) | Access::Query(name) => is_search_name(name),
-        Access::Put(name, nodes) => is_global_name(name) && is_subtree(nodes),
+        Access::Order(name, _) | Access::Query(name) => is_search_name(name.get()),
+        Access::Put(name, nodes) => is_global_name(name.get()) && is_subtree(nodes),
         Access::Value(name)
         | Access::Data(name)
         | Access::Subtree(name)
         | Access::Set(name, _)
-        | Access::Kill(name) => is_global_name(name),
+        | Access::Kill(name) => is_global_name(name.get()),
     }
 }
 
@@ -160,7 +160,7 @@ fn is_shared_ask(ask: &SharedAsk) -> bool
     match ask {
         SharedAsk::Access(access) => is_access(access),
         SharedAsk::Try(names, _) | SharedAsk::Unlock(names) => are_names(names.as_slice()),
-        SharedAsk::Start(start, _) => start.entry().is_entry(),
+        SharedAsk::Start(start, _) => start.get().entry().is_entry(),
         _ => true,
     }
 }
@@ -169,7 +169,7 @@ fn is_kept(kept: &Kept) -> bool
     ensures { result ≡ is_kept kept.now }
 {
     match kept {
-        Kept::Name(name) => is_global_name(name),
+        Kept::Name(name) => is_global_name(name.get()),
         Kept::Subtree(nodes) => is_subtree(nodes),
         Kept::Nothing | Kept::Text(_) | Kept::Number(_) => true,
     }
@@ -198,7 +198,7 @@ fn is_answer(answer: &Answer) -> bool
 {
     match answer {
         Answer::Order(Some(next)) => is_filled(next),
-        Answer::Query(Some(name)) => is_global_name(name),
+        Answer::Query(Some(name)) => is_global_name(name.get()),
         Answer::Subtree(nodes) => is_subtree(nodes),
         _ => true,
     }

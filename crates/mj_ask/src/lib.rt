@@ -17,7 +17,7 @@ mod same;
 mod start;
 mod within;
 
-pub use ask::{Ask, DeviceAsk, Kind, Reply, SharedAsk};
+pub use ask::{Ask, DeviceAsk, GivenUp, Kind, Reply, SharedAsk, is_same_ask, is_same_reply};
 pub use bounds::{Bounds, EVENTS_LIMIT};
 pub use clash::{BoxedClash, Clash, Kept};
 pub use entry::Entry;
@@ -27,5 +27,5 @@ pub use formed::{
 pub use late::is_timed_out;
 pub use names::Names;
 pub use noted::{Noted, Spot};
-pub use same::{is_same_ask, is_same_reply, is_same_start};
-pub use start::Start;
+pub use same::is_same_start;
+pub use start::{BoxedStart, Start};

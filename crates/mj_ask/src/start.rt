@@ -4,7 +4,7 @@ ghost use Rattle.std.specs.Prelude.{◌≡◌, IfOk};
 
 use crate::entry::Entry;
 use mj_text::Text;
-use std::alloc::AllocError;
+use std::alloc::{AllocError, Global};
 use std::marker::Model;
 
 /// Where a job starts, and the values that it is given: one for each actual, none where that was left out.
@@ -61,5 +61,45 @@ impl Start {
             entry: self.entry.try_clone()?,
             values: self.values.clone()?,
         })
+    }
+}
+
+/// A start behind a pointer, so that an ask is small. A contract sees the start.
+#[derive(Drop)]
+pub struct BoxedStart {
+    kept: Box<Start>,
+}
+
+impl Model for BoxedStart {
+    ghost use Rattle.mj_ask.specs.Started.{Started};
+
+    ghost Value = { Started };
+
+    ghost view = { λ b. b.kept.value };
+}
+
+impl BoxedStart {
+    /// The start behind a pointer.
+    pub fn new(alloc: Global, start: Start) -> Result<BoxedStart, AllocError>
+        ensures { IfOk result (λ boxed. boxed ≡ start) }
+    {
+        Ok(BoxedStart {
+            kept: Box::new(alloc, start)?,
+        })
+    }
+
+    /// The start.
+    pub fn get(&self) -> &Start
+        ensures { result.now ≡ self.now }
+    {
+        &self.kept
+    }
+
+    /// A copy of it.
+    pub fn try_clone(&self) -> Result<BoxedStart, AllocError>
+        ensures { IfOk result (λ boxed. boxed ≡ self.now) }
+    {
+        let alloc = *Box::allocator(&self.kept);
+        BoxedStart::new(alloc, self.kept.try_clone()?)
     }
 }

@@ -44,7 +44,7 @@ fn is_answer_within(answer: &Answer, limit: Limit) -> bool
     match answer {
         Answer::Value(Some(text)) => text.is_within(limit),
         Answer::Order(Some(next)) => next.is_within(limit),
-        Answer::Query(Some(name)) => name.subscripts().are_within(limit),
+        Answer::Query(Some(name)) => is_name_within(name.get(), limit),
         Answer::Subtree(nodes) => nodes.are_within(limit),
         _ => true,
     }
@@ -55,7 +55,7 @@ fn is_kept_within(kept: &Kept, limit: Limit) -> bool
 {
     match kept {
         Kept::Text(text) => text.is_within(limit),
-        Kept::Name(name) => name.subscripts().are_within(limit),
+        Kept::Name(name) => is_name_within(name.get(), limit),
         Kept::Subtree(nodes) => nodes.are_within(limit),
         Kept::Nothing | Kept::Number(_) => true,
     }
@@ -95,7 +95,7 @@ fn is_shared_within(ask: &SharedAsk, limit: Limit) -> bool
             limit,
         ),
         SharedAsk::Open(device, _) | SharedAsk::Close(device) => device.is_within(limit),
-        SharedAsk::Start(start, _) => are_values_within(start.values(), limit),
+        SharedAsk::Start(start, _) => are_values_within(start.get().values(), limit),
         _ => true,
     }
 }

@@ -35,11 +35,11 @@ module _ (units : List unit.Unit) (u : unit.Unit) (ctx : Context) (there : slice
     format_follows : (marks : List FormatMark) (o : Option Expr) (pc : ℕ) (stack : Stack) (rest : Timed)
         → HasAt code pc (format_code pc marks o) → Agree b (runs (pc + length (format_code pc marks o)) stack) rest → Agree b (runs pc stack) (arrange points here marks o rest)
     format_follows marks None pc stack rest has k =
-        one units u ctx there b pc stack (instr.WriteFormat marks) _ has.0 (λ n lt. write_at n (map mark_byte marks) (exec units n ctx (pc + 1) stack) rest (k.by n (omega arith)))
+        one units u ctx there b pc stack _ has.0 (λ n lt. write_at n (map mark_byte marks) (exec units n ctx (pc + 1) stack) rest (k.by n (omega arith)))
     format_follows marks (Some e) pc stack rest has k =
         let ce = expr_code pc e in
         expr_follows units u ctx there b points here invoked e pc stack _ (has_front code pc ce _ has) (λ v.
-        one units u ctx there b (pc + length ce) (v ∷ stack) (instr.WriteTab marks) _ (has_back code pc ce _ has).0 (λ n lt.
+        one units u ctx there b (pc + length ce) (v ∷ stack) _ (has_back code pc ce _ has).0 (λ n lt.
         tab_at n marks v (exec units n ctx (pc + length ce + 1) stack) rest ((moved units u ctx there b _ _ stack rest (end_of pc ce (instr.WriteTab marks)) k).by n (omega arith))))
 
     output_follows : (o : Output) (pc : ℕ) (stack : Stack) (rest : Timed) → HasAt code pc (output_code pc o) → Agree b (runs (pc + length (output_code pc o)) stack) rest
@@ -47,13 +47,13 @@ module _ (units : List unit.Unit) (u : unit.Unit) (ctx : Context) (there : slice
     output_follows (Shown e) pc stack rest has k =
         let ce = expr_code pc e in
         expr_follows units u ctx there b points here invoked e pc stack _ (has_front code pc ce _ has) (λ v.
-        one units u ctx there b (pc + length ce) (v ∷ stack) instr.Write _ (has_back code pc ce _ has).0 (λ n lt.
+        one units u ctx there b (pc + length ce) (v ∷ stack) _ (has_back code pc ce _ has).0 (λ n lt.
         write_at n v (exec units n ctx (pc + length ce + 1) stack) rest ((moved units u ctx there b _ _ stack rest (end_of pc ce instr.Write) k).by n (omega arith))))
     output_follows (Format l) pc stack rest has k = format_follows l.marks l.column pc stack rest has k
     output_follows (Coded e) pc stack rest has k =
         let ce = expr_code pc e in
         expr_follows units u ctx there b points here invoked e pc stack _ (has_front code pc ce _ has) (λ v.
-        one units u ctx there b (pc + length ce) (v ∷ stack) instr.WriteByte _ (has_back code pc ce _ has).0 (λ n lt.
+        one units u ctx there b (pc + length ce) (v ∷ stack) _ (has_back code pc ce _ has).0 (λ n lt.
         write_code_at n v (exec units n ctx (pc + length ce + 1) stack) rest ((moved units u ctx there b _ _ stack rest (end_of pc ce instr.WriteByte) k).by n (omega arith))))
 
     pub outputs_follow : (list : List Output) (pc : ℕ) (stack : Stack) (rest : Timed)
@@ -80,14 +80,14 @@ module _ (units : List unit.Unit) (u : unit.Unit) (ctx : Context) (there : slice
         let len' : at + 1 + 1 ≡ pc + length (ce ++ (cw ++ last)) = omega (arith, len) in
         expr_follows units u ctx there b points here invoked o.device pc stack _ (has_front code pc ce _ has) (λ v.
         timeout_follows units u ctx there b points here invoked o.timeout pw (v ∷ stack) _ (has_front code pw cw _ back) (λ t st l.
-        one units u ctx there b at st i (open_device v t rest) there_is.0 (λ n lt.
+        one units u ctx there b at st (open_device v t rest) there_is.0 (λ n lt.
         let past : Timed = exec units n ctx (at + 2) (drop (1 + wait_size w) st) in
         let begun : Stack → Timed = λ base. exec units n ctx (at + 1) base in
         waited o.timeout t st (v ∷ stack) l (λ z. request_device (top (drop (wait_size w) st)) z past (begun (drop (wait_size w) st))) n
         ∙ ap (λ base. request_device (top base) t past (begun base) n) (below_wait o.timeout t st (v ∷ stack) l)
         ∙ obtain_at n v t past rest (begun (v ∷ stack)) (turn (begin_session v rest))
         ((over units u ctx there b (at + 2) (drop (1 + wait_size w) st) stack rest (below_more o.timeout t st (v ∷ stack) 1 l) (moved units u ctx there b _ _ stack rest len k)).by n (omega arith))
-        ((one units u ctx there b (at + 1) (v ∷ stack) instr.BeginSession (begin_session v rest) there_is.1.0 (λ m lt'.
+        ((one units u ctx there b (at + 1) (v ∷ stack) (begin_session v rest) there_is.1.0 (λ m lt'.
         begin_session_at m v (exec units m ctx (at + 1 + 1) stack) rest ((moved units u ctx there b _ _ stack rest len' k).by m (omega arith)))).by n (omega arith)))))
 
     pub opens_follow : (list : List Opened) (pc : ℕ) (stack : Stack) (rest : Timed)
@@ -106,7 +106,7 @@ module _ (units : List unit.Unit) (u : unit.Unit) (ctx : Context) (there : slice
         let cu = use_code pc e in
         let front = has_front code pc cu _ has in
         expr_follows units u ctx there b points here invoked e pc stack _ (has_front code pc ce _ front) (λ v.
-        one units u ctx there b (pc + length ce) (v ∷ stack) instr.UseDevice _ (has_back code pc ce _ front).0 (λ n lt.
+        one units u ctx there b (pc + length ce) (v ∷ stack) _ (has_back code pc ce _ front).0 (λ n lt.
         use_device_at n v (exec units n ctx (pc + length ce + 1) stack) (use_all points here es rest)
         ((moved units u ctx there b _ _ stack (use_all points here es rest) (end_of pc ce instr.UseDevice)
         (uses_follow es (pc + length cu) stack rest (has_back code pc cu _ has) (moved units u ctx there b _ _ stack rest (seam pc cu (uses_code (pc + length cu) es)) k))).by n (omega arith))))
@@ -121,14 +121,14 @@ module _ (units : List unit.Unit) (u : unit.Unit) (ctx : Context) (there : slice
         let len : pe + 3 ≡ pc + length (ce ++ last) = omega (arith, length-append ce last) in
         let len' : pe + 1 + 1 + 1 ≡ pc + length (ce ++ last) = omega (arith, len) in
         expr_follows units u ctx there b points here invoked e pc stack _ (has_front code pc ce _ has) (λ v.
-        one units u ctx there b pe (v ∷ stack) instr.EndSession (close v rest) there_is.0 (λ n lt.
+        one units u ctx there b pe (v ∷ stack) (close v rest) there_is.0 (λ n lt.
         end_session_at n v (exec units n ctx (pe + 3) stack) rest
         (exec units n ctx (pe + 1) (v ∷ stack)) (turn (give_up v (fault Device)))
         (exec units n ctx (pe + 2) (v ∷ stack)) (turn (give_up v rest))
         ((moved units u ctx there b _ _ stack rest len k).by n (omega arith))
-        ((one units u ctx there b (pe + 1) (v ∷ stack) instr.GiveUpFailedDevice (give_up v (fault Device)) there_is.1.0 (λ m lt'. refl)).by n (omega arith))
+        ((one units u ctx there b (pe + 1) (v ∷ stack) (give_up v (fault Device)) there_is.1.0 (λ m lt'. refl)).by n (omega arith))
         ((moved units u ctx there b (pe + 2) (pe + 1 + 1) (v ∷ stack) (turn (give_up v rest)) (omega arith)
-        (one units u ctx there b (pe + 1 + 1) (v ∷ stack) instr.GiveUpDevice (give_up v rest) there_is.1.1.0 (λ m lt'.
+        (one units u ctx there b (pe + 1 + 1) (v ∷ stack) (give_up v rest) there_is.1.1.0 (λ m lt'.
         give_up_at m v (exec units m ctx (pe + 1 + 1 + 1) stack) rest ((moved units u ctx there b _ _ stack rest len' k).by m (omega arith))))).by n (omega arith))))
 
     pub closes_follow : (es : List Expr) (pc : ℕ) (stack : Stack) (rest : Timed)
@@ -159,7 +159,7 @@ module _ (units : List unit.Unit) (u : unit.Unit) (ctx : Context) (there : slice
         checked units u ctx there b points here invoked v pc stack _ (has_front code pc cs _ front) (has_back code pc cs _ front).0 (λ x ss many e.
         moved units u ctx there b _ _ (onto ss stack) _ (end_of pc cs (instr.CheckName ref))
         (timeout_follows units u ctx there b points here invoked r.timeout pw (onto ss stack) _ (has_front code pw cw _ back) (λ t st l.
-        one units u ctx there b at st (instr.Read r.mode w) (read_input r.mode t (λ text. turn (store x text rest))) there_is.0 (λ n lt.
+        one units u ctx there b at st (read_input r.mode t (λ text. turn (store x text rest))) there_is.0 (λ n lt.
         let behind : Stack → List ℕ → Timed = λ base text. exec units n ctx (at + 1) (text ∷ base) in
         waited r.timeout t st (onto ss stack) l (λ z. read_input r.mode z (behind (drop (wait_size w) st))) n
         ∙ ap (λ base. read_input r.mode t (behind base) n) (below_wait r.timeout t st (onto ss stack) l)
@@ -172,8 +172,8 @@ module _ (units : List unit.Unit) (u : unit.Unit) (ctx : Context) (there : slice
     input_follows : (i : Input) (pc : ℕ) (stack : Stack) (rest : Timed) → HasAt code pc (input_code pc i)
         → Agree b (runs (pc + length (input_code pc i)) stack) rest → Agree b (runs pc stack) (input points here i rest)
     input_follows (Prompted text) pc stack rest has k =
-        one units u ctx there b pc stack (instr.Push text) (turn (write text rest)) has.0 (λ n lt.
-        (one units u ctx there b (pc + 1) (text ∷ stack) instr.Write (write text rest) has.1.0 (λ m lt'.
+        one units u ctx there b pc stack (turn (write text rest)) has.0 (λ n lt.
+        (one units u ctx there b (pc + 1) (text ∷ stack) (write text rest) has.1.0 (λ m lt'.
         write_at m text (exec units m ctx (pc + 1 + 1) stack) rest ((moved units u ctx there b (pc + 1 + 1) _ stack rest (omega arith) k).by m (omega arith)))).by n (omega arith))
     input_follows (Arranged l) pc stack rest has k = format_follows l.marks l.column pc stack rest has k
     input_follows (Into r) pc stack rest has k = receive_follows r pc stack rest has k

@@ -65,8 +65,8 @@ module _ (units : List unit.Unit) (u : unit.Unit) (ctx : Context) (there : slice
 
   module _ (b : ℕ) where
     -- an instruction is a turn
-    pub one : (pc : ℕ) (stack : Stack) (i : Instr) (rest : Timed) → slice_get code pc ≡ Some i → ((n : ℕ) → n < b → acts i pc stack n n ≡ rest n) → Agree b (from pc stack) (turn rest)
-    one pc stack i rest h k = record { by = λ n le. at n le }
+    pub one : (pc : ℕ) (stack : Stack) {i : Instr} (rest : Timed) → slice_get code pc ≡ Some i → ((n : ℕ) → n < b → acts i pc stack n n ≡ rest n) → Agree b (from pc stack) (turn rest)
+    one pc stack rest h k = record { by = λ n le. at n le }
       where
         at : (n : ℕ) → n ≤ b → exec units n ctx pc stack n ≡ turn rest n
         at zero le = refl
@@ -109,13 +109,13 @@ module _ (units : List unit.Unit) (u : unit.Unit) (ctx : Context) (there : slice
             let back = has_back code pc cx (i ∷ ct) has in
             let len : pc + length cx + 1 + length ct ≡ pc + length (cx ++ i ∷ ct) = omega (arith, length-append cx (i ∷ ct)) in
             operand_follows x pc (v ∷ stack) _ (has_front code pc cx _ has) (λ w.
-            one (pc + length cx) (w ∷ v ∷ stack) i _ back.0 (λ n lt.
+            one (pc + length cx) (w ∷ v ∷ stack) _ back.0 (λ n lt.
             composed_at n (λ limit. binary_value limit op v w) _ _ (λ r.
             (tails_follow ts (pc + length cx + 1) r stack rest back.1 (λ q. moved _ _ (q ∷ stack) (rest q) len (k q))).by n (omega arith))))
 
         operand_follows : (x : Operand) (pc : ℕ) (stack : Stack) (rest : List ℕ → Timed) → HasAt code pc (operand_code pc x)
             → ((v : List ℕ) → Agree b (from (pc + length (operand_code pc x)) (v ∷ stack)) (rest v)) → Agree b (from pc stack) (ev_operand points here x rest)
-        operand_follows (Literal t) pc stack rest has k = one pc stack (instr.Push t) _ has.0 (λ n lt. (k t).by n (omega arith))
+        operand_follows (Literal t) pc stack rest has k = one pc stack _ has.0 (λ n lt. (k t).by n (omega arith))
         operand_follows (Value v) pc stack rest has k =
             let cs = subscripts_code pc v in
             let i = instr.Load (reference v) in
@@ -126,20 +126,20 @@ module _ (units : List unit.Unit) (u : unit.Unit) (ctx : Context) (there : slice
             ∙ given_at n (name_of (reference v).scope (reference v).word ss) _ _ (λ x e.
             read_at n x _ _ (λ w. (moved _ _ (w ∷ stack) (rest w) (end_of pc cs i) (k w)).by n (omega arith))))
         operand_follows (Intrinsic v) pc stack rest has k =
-            one pc stack (instr.PushSpecial v) _ has.0 (λ n lt.
+            one pc stack _ has.0 (λ n lt.
             look_at n (λ s. exec units n ctx (pc + 1) (special_value v s ∷ stack)) (λ s. rest (special_value v s)) (λ s. (k (special_value v s)).by n (omega arith)))
         operand_follows (Unary op x) pc stack rest has k =
             let cx = operand_code pc x in
             let i = instr.Unary op in
             operand_follows x pc stack _ (has_front code pc cx _ has) (λ v.
-            one (pc + length cx) (v ∷ stack) i _ (has_back code pc cx _ has).0 (λ n lt.
+            one (pc + length cx) (v ∷ stack) _ (has_back code pc cx _ has).0 (λ n lt.
             given_at n (unary_value op v) _ _ (λ r e. (moved _ _ (r ∷ stack) (rest r) (end_of pc cx i) (k r)).by n (omega arith))))
         operand_follows (Group e) pc stack rest has k = expr_follows e pc stack rest has k
         operand_follows (Call f es) pc stack rest has k =
             let ce = exprs_code pc es in
             let i = instr.CallFunction f (count es) in
             all_follow es pc stack _ (has_front code pc ce _ has) (λ vs many.
-            one (pc + length ce) (onto vs stack) i _ (has_back code pc ce _ has).0 (λ n lt.
+            one (pc + length ce) (onto vs stack) _ (has_back code pc ce _ has).0 (λ n lt.
             ap (λ l. composed (λ limit. call_value limit f l) (λ w. exec units n ctx (pc + length ce + 1) (w ∷ drop (count es) (onto vs stack))) n) (operands_are vs stack _ many)
             ∙ ap (λ st. composed (λ limit. call_value limit f vs) (λ w. exec units n ctx (pc + length ce + 1) (w ∷ st)) n) (rest_below vs stack _ many)
             ∙ composed_at n (λ limit. call_value limit f vs) _ _ (λ r. (moved _ _ (r ∷ stack) (rest r) (end_of pc ce i) (k r)).by n (omega arith))))
@@ -159,7 +159,7 @@ module _ (units : List unit.Unit) (u : unit.Unit) (ctx : Context) (there : slice
             ∙ given_at n (named_for f r.scope r.word ss) _ _ (λ x e.
             (all_follow es pv (onto ss stack) (λ vs. turn (about f x (optional 0 vs) rest)) (has_front code pv ce _ back.1) (λ vs some.
             let st = onto vs (onto ss stack) in
-            one (pv + length ce) st i _ (has_back code pv ce _ back.1).0 (λ m lt'.
+            one (pv + length ce) st _ (has_back code pv ce _ back.1).0 (λ m lt'.
             ap (λ j. given (named_for f r.scope r.word (operands r.count (drop j st))) (λ y. about f y (optional 0 (operands j st)) (λ w. exec units m ctx (pv + length ce + 1) (w ∷ drop total st))) m)
             few
             ∙ ap (λ l. given (named_for f r.scope r.word (operands r.count l))
@@ -181,7 +181,7 @@ module _ (units : List unit.Unit) (u : unit.Unit) (ctx : Context) (there : slice
             actuals_follow es pc stack _ (has_front code pc ca _ has) (λ vs many.
             let few : length vs ≡ given_count shape = many ∙ sym (plain_count (shape_of es)) in
             let begins : List (Option (List ℕ)) → Stack → ℕ → Timed = λ xs st n. machine.calls true (found units (entry_in u.name t)) xs (awaiting ctx behind st) (exec units n) in
-            one (pc + length ca) (onto vs stack) i _ (has_back code pc ca _ has).0 (λ n lt.
+            one (pc + length ca) (onto vs stack) _ (has_back code pc ca _ has).0 (λ n lt.
             ap (λ l. begins (spread shape l) (drop (given_count shape) (onto vs stack)) n n) (operands_are vs stack _ few)
             ∙ ap (λ st. begins (spread shape vs) st n n) (rest_below vs stack _ few)
             ∙ ap (λ xs. begins xs stack n n) (plain_spread (shape_of es) vs)
@@ -214,12 +214,12 @@ module _ (units : List unit.Unit) (u : unit.Unit) (ctx : Context) (there : slice
             let end : others + 1 ≡ pc + length (cc' ++ i ∷ (ce ++ j ∷ instr.SelectFails ∷ [])) =
             omega (arith, length-append cc' (i ∷ (ce ++ j ∷ instr.SelectFails ∷ [])), length-append ce (j ∷ instr.SelectFails ∷ [])) in
             expr_follows c pc stack _ (has_front code pc cc' _ has) (λ v.
-            one (pc + length cc') (v ∷ stack) i _ back.0 (λ n lt.
+            one (pc + length cc') (v ∷ stack) _ back.0 (λ n lt.
             given_at n (truth_value v) _ _ (λ t q.
             if_at n t (exec units n ctx value stack) _ (exec units n ctx others stack) _
             ((expr_follows e value stack (λ w. turn (rest w)) (has_front code value ce _ back.1) (λ w.
-            one (value + length ce) (w ∷ stack) j (rest w) back'.0 (λ m lt'. (moved _ _ (w ∷ stack) (rest w) end (k w)).by m (omega arith)))).by n (omega arith))
-            ((one others stack instr.SelectFails (fault NoTrue) back'.1.0 (λ m lt'. refl)).by n (omega arith)))))
+            one (value + length ce) (w ∷ stack) (rest w) back'.0 (λ m lt'. (moved _ _ (w ∷ stack) (rest w) end (k w)).by m (omega arith)))).by n (omega arith))
+            ((one others stack (fault NoTrue) back'.1.0 (λ m lt'. refl)).by n (omega arith)))))
         choices_follow (Before c e x) pc stack rest has k =
             let cc' = expr_code pc c in
             let value = pc + length cc' + 1 in
@@ -232,11 +232,11 @@ module _ (units : List unit.Unit) (u : unit.Unit) (ctx : Context) (there : slice
             let back' = has_back code value ce (j ∷ co) back.1 in
             let end : others + length co ≡ pc + length (cc' ++ i ∷ (ce ++ j ∷ co)) = omega (arith, length-append cc' (i ∷ (ce ++ j ∷ co)), length-append ce (j ∷ co)) in
             expr_follows c pc stack _ (has_front code pc cc' _ has) (λ v.
-            one (pc + length cc') (v ∷ stack) i _ back.0 (λ n lt.
+            one (pc + length cc') (v ∷ stack) _ back.0 (λ n lt.
             given_at n (truth_value v) _ _ (λ t q.
             if_at n t (exec units n ctx value stack) _ (exec units n ctx others stack) _
             ((expr_follows e value stack (λ w. turn (rest w)) (has_front code value ce _ back.1) (λ w.
-            one (value + length ce) (w ∷ stack) j (rest w) back'.0 (λ m lt'. (moved _ _ (w ∷ stack) (rest w) end (k w)).by m (omega arith)))).by n (omega arith))
+            one (value + length ce) (w ∷ stack) (rest w) back'.0 (λ m lt'. (moved _ _ (w ∷ stack) (rest w) end (k w)).by m (omega arith)))).by n (omega arith))
             ((choices_follow x others stack rest back'.1 (λ w. moved _ _ (w ∷ stack) (rest w) end (k w))).by n (omega arith)))))
 
         -- a variable's subscripts, and an instruction that takes its name
@@ -245,7 +245,7 @@ module _ (units : List unit.Unit) (u : unit.Unit) (ctx : Context) (there : slice
             → ((ss : List (List ℕ)) (n : ℕ) → n < b → length ss ≡ (reference v).count → acts i (pc + length (subscripts_code pc v)) (onto ss stack) n n
             ≡ given (name_of (reference v).scope (reference v).word ss) rest n) → Agree b (from pc stack) (ev_name points here v rest)
         name_follows (Var scope word es) i pc stack rest has at k =
-            all_follow es pc stack _ has (λ ss many. one _ (onto ss stack) i _ at (λ n lt. k ss n lt many))
+            all_follow es pc stack _ has (λ ss many. one _ (onto ss stack) _ at (λ n lt. k ss n lt many))
 
         -- and one that takes the name for a function
         named_follows : (f : NameFunction) (v : Variable) (i : Instr) (pc : ℕ) (stack : Stack) (rest : Name → Timed)
@@ -253,7 +253,7 @@ module _ (units : List unit.Unit) (u : unit.Unit) (ctx : Context) (there : slice
             → length ss ≡ (reference v).count → acts i (pc + length (subscripts_code pc v)) (onto ss stack) n n ≡ given (named_for f (reference v).scope (reference v).word ss) rest n)
             → Agree b (from pc stack) (ev_named points here f v rest)
         named_follows f (Var scope word es) i pc stack rest has at k =
-            all_follow es pc stack _ has (λ ss many. one _ (onto ss stack) i _ at (λ n lt. k ss n lt many))
+            all_follow es pc stack _ has (λ ss many. one _ (onto ss stack) _ at (λ n lt. k ss n lt many))
 
         pub all_follow : (es : Exprs) (pc : ℕ) (stack : Stack) (rest : List (List ℕ) → Timed)
             → HasAt code pc (exprs_code pc es) → ((vs : List (List ℕ)) → length vs ≡ count es → Agree b (from (pc + length (exprs_code pc es)) (onto vs stack)) (rest vs))
@@ -285,7 +285,7 @@ module _ (units : List unit.Unit) (u : unit.Unit) (ctx : Context) (there : slice
       timeout_follows (Some e) pc stack rest has k =
           let ce = expr_code pc e in
           expr_follows e pc stack _ (has_front code pc ce _ has) (λ v.
-          one (pc + length ce) (v ∷ stack) instr.CheckNumber _ (has_back code pc ce _ has).0 (λ n lt.
+          one (pc + length ce) (v ∷ stack) _ (has_back code pc ce _ has).0 (λ n lt.
           given_at n (reading v) (λ i. exec units n ctx (pc + length ce + 1) (v ∷ stack)) (λ i. rest (Some i)) (λ i q.
           (moved _ _ (v ∷ stack) (rest (Some i)) (end_of pc ce instr.CheckNumber) (k (Some i) (v ∷ stack) (v, refl, q))).by n (omega arith))))
 
@@ -294,7 +294,7 @@ module _ (units : List unit.Unit) (u : unit.Unit) (ctx : Context) (there : slice
           → HasAt code pc (subscripts_code pc v) → slice_get code (pc + length (subscripts_code pc v)) ≡ Some i → ((ss : List (List ℕ)) (n : ℕ) → n < b → length ss ≡ (reference v).count
           → acts i (pc + length (subscripts_code pc v)) (onto ss stack) n n ≡ given (name_of Local (reference v).word ss) rest n) → Agree b (from pc stack) (ev_local points here v rest)
       local_follows (Var scope word es) i pc stack rest has at k =
-          all_follow es pc stack _ has (λ ss many. one _ (onto ss stack) i _ at (λ n lt. k ss n lt many))
+          all_follow es pc stack _ has (λ ss many. one _ (onto ss stack) _ at (λ n lt. k ss n lt many))
 
       -- code behind a postcondition, and what comes after it
       pub when_follows : (o : Option Expr) (made : ℕ → List Instr) (done rest : Timed) (pc : ℕ) (stack : Stack) → HasAt code pc (code_if pc o made)
@@ -309,7 +309,7 @@ module _ (units : List unit.Unit) (u : unit.Unit) (ctx : Context) (there : slice
           let len : past ≡ pc + length (ce ++ instr.JumpUnless past ∷ made behind) = omega (arith, length-append ce (instr.JumpUnless past ∷ made behind)) in
           let after = moved past _ stack rest len k in
           expr_follows e pc stack _ (has_front code pc ce _ has) (λ v.
-          one (pc + length ce) (v ∷ stack) (instr.JumpUnless past) _ back.0 (λ n lt.
+          one (pc + length ce) (v ∷ stack) _ back.0 (λ n lt.
           given_at n (truth_value v) _ _ (λ t q.
           if_at n t (exec units n ctx behind stack) done (exec units n ctx past stack) rest
           ((f behind back.1 after).by n (omega arith))

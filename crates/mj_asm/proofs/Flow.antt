@@ -144,7 +144,7 @@ module _ (image : List Routine) (units : List unit.Unit) (alike : LeadAlike imag
           let len : pc + length ca + 1 ≡ pc + length (ca ++ i ∷ []) = omega (arith, length-append ca (i ∷ [])) in
           let after : follows_from (pc + length ca + 1) rest = moved units u ctx at b _ _ [] rest len h in
           actuals_follow units u ctx at b (points_of image d) here does_calls (as_actuals c.actuals) pc [] _ (has_front code_here pc ca _ has) (λ vs many.
-          one units u ctx at b (pc + length ca) (onto vs []) i _ (has_back code_here pc ca _ has).0 (λ n lt.
+          one units u ctx at b (pc + length ca) (onto vs []) _ (has_back code_here pc ca _ has).0 (λ n lt.
           ap (λ l. machine.calls false (found units (entry_of here c.target)) (spread shape l) (suspended ctx (pc + length ca + 1)) (after_one units n) n) (operands_are vs [] _ many)
           ∙ called_at false d n (entry_of here c.target) (spread shape vs) (suspended ctx (pc + length ca + 1)) (λ v. change popped rest) (omega arith) (lines n lt)
           (goes_on b n (pc + length ca + 1) loops rest (omega arith) after)))
@@ -162,7 +162,7 @@ module _ (image : List Routine) (units : List unit.Unit) (alike : LeadAlike imag
 
       block_follows : (pc : ℕ) (rest : Timed) → slice_get code_here pc ≡ Some (instr.DoBlock k) → follows_from (pc + 1) rest → follows_from pc (turn (block (points_of image d) here rest))
       block_follows pc rest has h =
-          one units u ctx at b pc [] (instr.DoBlock k) _ has (λ n lt.
+          one units u ctx at b pc [] _ has (λ n lt.
           let there' : Timed = exec units n (at_unit j (suspended ctx (pc + 1))) (start_of u (k + 1)) [] in
           let line : Timed = turn (points_of image d (AtLine (next_line here) (λ v. change popped rest))) in
           let enters : State → State → State = λ s. pushed (place_in u k) (level_of s + 1) false (Some s.test) in
@@ -179,7 +179,7 @@ module _ (image : List Routine) (units : List unit.Unit) (alike : LeadAlike imag
       jump_one : (y : Jumped) (pc : ℕ) (leave : Leave)
           → HasAt code_here pc (jump_code here y pc) → Leaves units b below leave → follows_from pc (turn (points_of image d (JumpedAt (entry_of here y.target) leave)))
       jump_one y pc leave has q =
-          one units u ctx at b pc [] (instr.Goto (entry_of here y.target)) _ has.0 (λ n lt.
+          one units u ctx at b pc [] _ has.0 (λ n lt.
           jumped_at d n (entry_of here y.target) below leave (omega arith) (lines n lt) (fewer_leaves units b n below leave (omega arith) q))
 
       jumps_follow : (list : List Jumped) (pc : ℕ) (leave : Leave) (rest : Timed) → HasAt code_here pc (jumps_code here pc list)
@@ -196,10 +196,10 @@ module _ (image : List Routine) (units : List unit.Unit) (alike : LeadAlike imag
       bare_follows : (out : Option ℕ) (way : Option Timed) (leave : Leave) (pc : ℕ) → HasAt code_here pc (quit_code pc out None) → QuitsFor b loops out way
           → Leaves units b below leave → follows_from pc (turn (elim way [ None ↦ quit_frame (leave []) | Some t ↦ t ]))
       bare_follows None None leave pc has q h =
-          one units u ctx at b pc [] instr.Quit (quit_frame (leave [])) has.0 (λ n lt. quits_same units n below leave (fewer_leaves units b n below leave (omega arith) h))
+          one units u ctx at b pc [] (quit_frame (leave [])) has.0 (λ n lt. quits_same units n below leave (fewer_leaves units b n below leave (omega arith) h))
       bare_follows None (Some t) leave pc has q h = absurd q
       bare_follows (Some c) None leave pc has q h = absurd q
-      bare_follows (Some c) (Some t) leave pc has q h = one units u ctx at b pc [] (instr.Jump c) t has.0 (λ n lt. q.by n (omega arith))
+      bare_follows (Some c) (Some t) leave pc has q h = one units u ctx at b pc [] t has.0 (λ n lt. q.by n (omega arith))
 
       -- a QUIT with a value: it looks at the frame, takes the value, and then ends the frame
       gives_follow : (out : Option ℕ) (way : Option Timed) (e : Expr) (leave : Leave) (pc : ℕ) → HasAt code_here pc (quit_code pc out (Some e)) → QuitsFor b loops out way
@@ -210,12 +210,12 @@ module _ (image : List Routine) (units : List unit.Unit) (alike : LeadAlike imag
           let inner : Timed = ev (points_of image d) here e (λ v. turn (end_frame (leave v))) in
           let given_back : follows_from (pc + 1) inner =
           expr_follows units u ctx at b (points_of image d) here does_calls e (pc + 1) [] _ (has_front code_here (pc + 1) ce _ has.1) (λ v.
-          one units u ctx at b (pc + 1 + length ce) (v ∷ []) instr.GiveValue (end_frame (leave v)) (has_back code_here (pc + 1) ce _ has.1).0 (λ n lt.
+          one units u ctx at b (pc + 1 + length ce) (v ∷ []) (end_frame (leave v)) (has_back code_here (pc + 1) ce _ has.1).0 (λ n lt.
           end_frame_at n (returns (after_one units n) below v) (leave v) (returns_same units n below v ∙ (h v).by n (omega arith)))) in
-          one units u ctx at b pc [] instr.CheckFunction (in_function inner) has.0 (λ n lt. in_function_at n (exec units n ctx (pc + 1) []) inner (given_back.by n (omega arith)))
+          one units u ctx at b pc [] (in_function inner) has.0 (λ n lt. in_function_at n (exec units n ctx (pc + 1) []) inner (given_back.by n (omega arith)))
       gives_follow None (Some t) e leave pc has q h = absurd q
       gives_follow (Some c) None e leave pc has q h = absurd q
-      gives_follow (Some c) (Some t) e leave pc has q h = one units u ctx at b pc [] instr.FailQuit (fault WrongQuit) has.0 (λ n lt. refl)
+      gives_follow (Some c) (Some t) e leave pc has q h = one units u ctx at b pc [] (fault WrongQuit) has.0 (λ n lt. refl)
 
       quit_follows : (out : Option ℕ) (value : Option Expr) (ways : Ways) (pc : ℕ) → HasAt code_here pc (quit_code pc out value) → QuitsFor b loops out ways.for_quit
           → Leaves units b below ways.leave → follows_from pc (quit (points_of image d) here value ways)
@@ -235,7 +235,7 @@ module _ (image : List Routine) (units : List unit.Unit) (alike : LeadAlike imag
           let len : target ≡ pc + length (ce ++ instr.SetTest target ∷ cr) = omega (arith, length-append ce (instr.SetTest target ∷ cr)) in
           let after = moved units u ctx at b target _ [] line_end len h in
           expr_follows units u ctx at b (points_of image d) here does_calls e pc [] _ (has_front code_here pc ce _ has) (λ v.
-          one units u ctx at b (pc + length ce) (v ∷ []) (instr.SetTest target) _ back.0 (λ n lt.
+          one units u ctx at b (pc + length ce) (v ∷ []) _ back.0 (λ n lt.
           given_at n (truth_value v) _ _ (λ t q.
           change_at n (set_test t) (if t then (exec units n ctx behind []) else (exec units n ctx target [])) (if t then ifs (points_of image d) here es line_end done else line_end)
           (if_at n t (exec units n ctx behind []) (ifs (points_of image d) here es line_end done) (exec units n ctx target []) line_end
@@ -252,7 +252,7 @@ module _ (image : List Routine) (units : List unit.Unit) (alike : LeadAlike imag
           let target = pc + 1 + length rest in
           let len : target ≡ pc + length (i target ∷ rest) = omega arith in
           let after = moved units u ctx at b target _ [] line_end len h in
-          one units u ctx at b pc [] (i target) _ has.0 (λ n lt.
+          one units u ctx at b pc [] _ has.0 (λ n lt.
           acts_so n ∙ if_test_at n t (exec units n ctx target []) line_end (exec units n ctx (pc + 1) []) done (after.by n (omega arith)) ((f after).by n (omega arith)))
 
       if_follows : (es : List Expr) (rest : ℕ → List Instr) (line_end done : Timed) (pc : ℕ) → HasAt code_here pc (if_code pc es rest)
@@ -289,7 +289,7 @@ module _ (image : List Routine) (units : List unit.Unit) (alike : LeadAlike imag
           let pass : Timed = points_of image d (Pass here (passes_of l) steps after ways) in
           let end = l.body + length (steps_code here l.body (Some close) steps) in
           let ended : Agree b (there (l ∷ ls) end) (turn (for_again (passes_of l) after pass)) =
-          one units u (in_frame (l ∷ ls)) at b end [] instr.ForAgain _ stands.again (λ n lt.
+          one units u (in_frame (l ∷ ls)) at b end [] _ stands.again (λ n lt.
           again_at n (passes_of l) (exec units n (in_frame (l ∷ ls)) l.resume []) after (exec units n (in_frame (l ∷ ls)) l.body []) pass
           (resumes.by n (omega arith)) (next n lt)) in
           record { by = λ n le. (follows b d deep lines (l ∷ ls) (Some close) (in_pass (passes_of l) after pass ways) l.body stands.body ended closes leaves).by n le }
@@ -332,7 +332,7 @@ module _ (image : List Routine) (units : List unit.Unit) (alike : LeadAlike imag
             moved units u (in_frame (l' ∷ ls)) at b behind
             (pc + length cr) [] after (sym len) (ranges_follow rs l' (pc + length cr) (kept l l'.passes l'.resume stands) (has_back code_here pc cr _ has) whole) in
             expr_follows units u c at b (points_of image d) here (does_calls b d deep lines (l ∷ ls)) a pc [] _ (has_front code_here pc ca _ front) (λ v.
-            one units u c at b (pc + length ca) (v ∷ []) i _ (has_back code_here pc ca _ front).0 (λ n lt.
+            one units u c at b (pc + length ca) (v ∷ []) _ (has_back code_here pc ca _ front).0 (λ n lt.
             store_at n l.name v (exec units n (in_frame (l' ∷ ls)) l.body [])
             (points_of image d (Pass here PassesOnce steps after ways)) (begun d n l' (kept l l'.passes l'.resume stands) after lt (omega arith) later)))
         ranges_follow (Endless a a2 ∷ rs) l pc stands has e =
@@ -350,7 +350,7 @@ module _ (image : List Routine) (units : List unit.Unit) (alike : LeadAlike imag
             let after : Timed = ranges (points_of image d) here l.name rs steps ways in
             expr_follows units u c at b (points_of image d) here (does_calls b d deep lines (l ∷ ls)) a pc [] _ (has_front code_here pc ca _ front) (λ v.
             expr_follows units u c at b (points_of image d) here (does_calls b d deep lines (l ∷ ls)) a2 second (v ∷ []) _ (has_front code_here second c2 _ back) (λ w.
-            one units u c at b last (w ∷ v ∷ []) i _ (has_back code_here second c2 _ back).0 (λ n lt.
+            one units u c at b last (w ∷ v ∷ []) _ (has_back code_here second c2 _ back).0 (λ n lt.
             reading_two_at n v w _ _ (λ x step.
             let l' : Loop = with_passes l (By step None) (last + 1) in
             let later : Agree b (there (l' ∷ ls) (last + 1)) after =
@@ -378,7 +378,7 @@ module _ (image : List Routine) (units : List unit.Unit) (alike : LeadAlike imag
             expr_follows units u c at b (points_of image d) here (does_calls b d deep lines (l ∷ ls)) a pc [] _ (has_front code_here pc ca _ front) (λ v.
             expr_follows units u c at b (points_of image d) here (does_calls b d deep lines (l ∷ ls)) a2 second (v ∷ []) _ (has_front code_here second c2 _ back) (λ w.
             expr_follows units u c at b (points_of image d) here (does_calls b d deep lines (l ∷ ls)) a3 third (w ∷ v ∷ []) _ (has_front code_here third c3 _ back') (λ z.
-            one units u c at b last (z ∷ w ∷ v ∷ []) i _ (has_back code_here third c3 _ back').0 (λ n lt.
+            one units u c at b last (z ∷ w ∷ v ∷ []) _ (has_back code_here third c3 _ back').0 (λ n lt.
             reading_two_at n v w _ _ (λ x step.
             given_at n (reading z) _ _ (λ end ok.
             let l' : Loop = with_passes l (By step (Some end)) (last + 1) in
@@ -405,7 +405,7 @@ module _ (image : List Routine) (units : List unit.Unit) (alike : LeadAlike imag
         let cb = steps_code here (close + 1) (Some close) steps in
         let target = close + 1 + length cb + 1 in
         let len : target ≡ close + length (body_code close (λ p o. steps_code here p o steps)) = omega (arith, length-append cb (instr.ForAgain ∷ [])) in
-        one units u (in_frame (l ∷ ls)) at b close [] (instr.ForClose target) line_end has.0 (λ n lt. (moved units u (in_frame ls) at b target _ [] line_end len h).by n (omega arith))
+        one units u (in_frame (l ∷ ls)) at b close [] line_end has.0 (λ n lt. (moved units u (in_frame ls) at b target _ [] line_end len h).by n (omega arith))
 
     for_follows : (steps : List LineCommand)
         → Follows steps → (b d : ℕ) → b ≤ d → ((m : ℕ) → m < b → DoLines image units m) → (loops : List Loop) (ways : Ways) (v : Variable) (rs : List Range) (pc : ℕ)
@@ -449,7 +449,7 @@ module _ (image : List Routine) (units : List unit.Unit) (alike : LeadAlike imag
         let len : pc + 1 + length cb ≡ pc + length (instr.ForForever ∷ cb) = omega arith in
         let behind : Agree b (there loops (pc + 1 + length cb)) ways.line_end = moved units u c at b _ _ [] ways.line_end len h in
         let ends : Agree b (there (l ∷ loops) (pc + 1)) (turn ways.line_end) = closed b steps (pc + 1) l loops ways.line_end has.1 behind in
-        one units u c at b pc [] instr.ForForever _ has.0 (λ n lt.
+        one units u c at b pc [] _ has.0 (λ n lt.
         begun steps follows loops (pc + 1) ways b d deep lines (λ l'. closed b steps (pc + 1) l' loops ways.line_end has.1 behind) leaves d n l
         (body_stands steps (pc + 1) l e has.1 follows loops ways) (turn ways.line_end) lt (omega arith) ends)
 
@@ -484,7 +484,7 @@ module _ (image : List Routine) (units : List unit.Unit) (alike : LeadAlike imag
         (λ p has' after. outputs_follow units u (in_frame loops) at b (points_of image d) here (does_calls b d deep lines loops) list p [] _ has' after)
     step_follows Halt c steps f b d deep lines loops out ways pc has h quits leaves =
         rest_follows Halt c (turn (end None)) steps f b d deep lines loops out ways pc has h quits leaves
-        (λ p has' after. one units u (in_frame loops) at b p [] instr.Halt _ has'.0 (λ n lt. refl))
+        (λ p has' after. one units u (in_frame loops) at b p [] _ has'.0 (λ n lt. refl))
     step_follows (Hang es) c steps f b d deep lines loops out ways pc has h quits leaves =
         rest_follows (Hang es) c (hang_all (points_of image d) here es (obey_all (points_of image d) here steps ways)) steps f b d deep lines loops out ways pc has h quits leaves
         (λ p has' after. hangs_follow units u (in_frame loops) at b (points_of image d) here (does_calls b d deep lines loops) es p [] _ has' after)

@@ -41,7 +41,7 @@ module _ (units : List unit.Unit) (u : unit.Unit) (ctx : Context) (there : slice
         let ch = hang_code pc e in
         let front = has_front code pc ch _ has in
         expr_follows units u ctx there b points here invoked e pc stack _ (has_front code pc ce _ front) (λ v.
-        one units u ctx there b (pc + length ce) (v ∷ stack) instr.Hang _ (has_back code pc ce _ front).0 (λ n lt.
+        one units u ctx there b (pc + length ce) (v ∷ stack) _ (has_back code pc ce _ front).0 (λ n lt.
         hang_at n v (exec units n ctx (pc + length ce + 1) stack) (hang_all points here es rest)
         ((moved units u ctx there b _ _ stack (hang_all points here es rest) (end_of pc ce instr.Hang)
         (hangs_follow es (pc + length ch) stack rest (has_back code pc ch _ has) (moved units u ctx there b _ _ stack rest (seam pc ch (hangs_code (pc + length ch) es)) k))).by n (omega arith))))
@@ -63,7 +63,7 @@ module _ (units : List unit.Unit) (u : unit.Unit) (ctx : Context) (there : slice
         let len : at + 1 ≡ pc + length (ca ++ (cw ++ i ∷ [])) = omega (arith, length-append ca (cw ++ i ∷ []), length-append cw (i ∷ [])) in
         actuals_follow units u ctx there b points here invoked actuals pc stack _ (has_front code pc ca _ has) (λ vs many.
         timeout_follows units u ctx there b points here invoked s.timeout pw (onto vs stack) _ (has_front code pw cw _ back) (λ t st l.
-        one units u ctx there b at st i (start_job entry (spread shape vs) t rest) (has_back code pw cw _ back).0 (λ n lt.
+        one units u ctx there b at st (start_job entry (spread shape vs) t rest) (has_back code pw cw _ back).0 (λ n lt.
         let behind : Timed = exec units n ctx (at + 1) (drop taken st) in
         waited s.timeout t st (onto vs stack) l (λ z. start_job entry (spread shape (operands (given_count shape) (drop (wait_size w) st))) z behind) n
         ∙ ap (λ base. start_job entry (spread shape (operands (given_count shape) base)) t behind n) (below_wait s.timeout t st (onto vs stack) l)
@@ -123,19 +123,19 @@ module _ (units : List unit.Unit) (u : unit.Unit) (ctx : Context) (there : slice
 
       taken_follow : (pc : ℕ) → slice_get code pc ≡ Some (instr.Lock rs w) → Agree b (runs (pc + 1) base) rest → Agree b (runs pc st) (turn (take_names xs t rest))
       taken_follow pc has k =
-          one units u ctx there b pc st (instr.Lock rs w) _ has (λ n lt.
+          one units u ctx there b pc st _ has (λ n lt.
           let behind : Timed = exec units n ctx (pc + 1) (drop taken st) in
           asked_for (λ ys z. take_names ys z behind) n ∙ take_names_at n xs t behind rest (all_gone (pc + 1) n lt k))
 
       given_follow : (pc : ℕ) → slice_get code pc ≡ Some (instr.Unlock rs w) → Agree b (runs (pc + 1) base) rest → Agree b (runs pc st) (turn (give_names xs t rest))
       given_follow pc has k =
-          one units u ctx there b pc st (instr.Unlock rs w) _ has (λ n lt.
+          one units u ctx there b pc st _ has (λ n lt.
           let behind : Timed = exec units n ctx (pc + 1) (drop taken st) in
           asked_for (λ ys z. give_names ys z behind) n ∙ give_names_at n xs t behind rest (all_gone (pc + 1) n lt k))
 
       taking_follows : (m : LockMode) (pc : ℕ) → HasAt code pc (taking_code m rs w) → Agree b (runs (pc + length (taking_code m rs w)) base) rest → Agree b (runs pc st) (lock m xs t rest)
       taking_follows mode.Whole pc has k =
-          one units u ctx there b pc st instr.UnlockAll _ has.0 (λ n lt.
+          one units u ctx there b pc st _ has.0 (λ n lt.
           unlock_all_at n (exec units n ctx (pc + 1) st) (turn (take_names xs t rest))
           ((taken_follow (pc + 1) has.1.0 (moved units u ctx there b (pc + 1 + 1) _ base rest (omega arith) k)).by n (omega arith)))
       taking_follows mode.Plus pc has k = taken_follow pc has.0 k
@@ -164,5 +164,5 @@ module _ (units : List unit.Unit) (u : unit.Unit) (ctx : Context) (there : slice
     pub lock_all_follows : (list : List Locked) (pc : ℕ) (stack : Stack) (rest : Timed)
         → HasAt code pc (lock_all_code pc list) → Agree b (runs (pc + length (lock_all_code pc list)) stack) rest → Agree b (runs pc stack) (lock_all points here list rest)
     lock_all_follows [] pc stack rest has k =
-        one units u ctx there b pc stack instr.UnlockAll _ has.0 (λ n lt. unlock_all_at n (exec units n ctx (pc + 1) stack) rest (k.by n (omega arith)))
+        one units u ctx there b pc stack _ has.0 (λ n lt. unlock_all_at n (exec units n ctx (pc + 1) stack) rest (k.by n (omega arith)))
     lock_all_follows (l ∷ list) pc stack rest has k = locks_follow (l ∷ list) pc stack rest has k

@@ -56,7 +56,6 @@ module _ (image : List Routine) (units : List unit.Unit) (u : unit.Unit) (ctx : 
     transaction_follows a pc rest has k =
         let cn = names_code (listed_by a) in
         let p = pc + length cn in
-        let i = instr.StartTransaction (restores_by a) (serial_by a) in
         let last = begin_code (restores_by a) (serial_by a) in
         let back = has_back code pc cn last has in
         let len : p + 2 ≡ pc + length (cn ++ last) = omega (arith, length-append cn last) in
@@ -65,31 +64,31 @@ module _ (image : List Routine) (units : List unit.Unit) (u : unit.Unit) (ctx : 
         let behind : Agree b (at (p + 1 + 1)) rest = moved units u ctx there b _ _ [] rest len' k in
         let marked : Timed = turn (points_of image d (Started rest)) in
         names_follow units u ctx there b (listed_by a) pc [] _ (has_front code pc cn _ has)
-        (one units u ctx there b p [] i (begin_transaction (restored_by a) (serial_by a) rest marked) back.0 (λ n lt.
+        (one units u ctx there b p [] (begin_transaction (restored_by a) (serial_by a) rest marked) back.0 (λ n lt.
         ap (λ o. begin_transaction o (serial_by a) (exec units n ctx (p + 2) []) (exec units n ctx (p + 1) []) n) (same_restored a)
         ∙ begin_transaction_at n (restored_by a) (serial_by a) (exec units n ctx (p + 2) []) rest (exec units n ctx (p + 1) []) marked
         (inner.by n (omega arith)) (marked_at b d n (p + 1) rest deep (omega arith) back.1.0 (λ m le. behind.by m le))))
 
     -- a transaction that begins once more
     again_follows : (pc : ℕ) → slice_get code pc ≡ Some instr.BeginRestart → Agree b (at pc) (turn begin_restart)
-    again_follows pc has = one units u ctx there b pc [] instr.BeginRestart begin_restart has (λ n lt. refl)
+    again_follows pc has = one units u ctx there b pc [] begin_restart has (λ n lt. refl)
 
     pub commit_follows : (pc : ℕ) (rest : Timed) → HasAt code pc commit_code → Agree b (at (pc + length commit_code)) rest
         → Agree b (at pc) (commit_transaction (points_of image d) here rest)
     commit_follows pc rest has k =
-        one units u ctx there b pc [] instr.Commit (commit (turn begin_restart) rest) has.0 (λ n lt.
+        one units u ctx there b pc [] (commit (turn begin_restart) rest) has.0 (λ n lt.
         commit_at n (exec units n ctx (pc + 1) []) (turn begin_restart) (exec units n ctx (pc + 2) []) rest
         ((again_follows (pc + 1) has.1.0).by n (omega arith)) (k.by n (omega arith)))
 
     pub restart_follows : (pc : ℕ) → HasAt code pc restart_code → Agree b (at pc) (restart_transaction (points_of image d) here)
     restart_follows pc has =
-        one units u ctx there b pc [] instr.RollBackForRestart (roll_back_for_restart (turn begin_restart)) has.0 (λ n lt.
+        one units u ctx there b pc [] (roll_back_for_restart (turn begin_restart)) has.0 (λ n lt.
         give_back_at n (exec units n ctx (pc + 1) []) (turn begin_restart) ((again_follows (pc + 1) has.1.0).by n (omega arith)))
 
     pub roll_back_follows : (pc : ℕ) (rest : Timed) → slice_get code pc ≡ Some instr.RollBack → Agree b (at (pc + 1)) rest → Agree b (at pc) (turn (roll_back rest))
     roll_back_follows pc rest has k =
-        one units u ctx there b pc [] instr.RollBack (roll_back rest) has (λ n lt. roll_back_at n (exec units n ctx (pc + 1) []) rest (k.by n (omega arith)))
+        one units u ctx there b pc [] (roll_back rest) has (λ n lt. roll_back_at n (exec units n ctx (pc + 1) []) rest (k.by n (omega arith)))
 
     -- BREAK does nothing
     pub break_follows : (pc : ℕ) (rest : Timed) → slice_get code pc ≡ Some (instr.Discard 0) → Agree b (at (pc + 1)) rest → Agree b (at pc) (turn rest)
-    break_follows pc rest has k = one units u ctx there b pc [] (instr.Discard 0) rest has (λ n lt. k.by n (omega arith))
+    break_follows pc rest has k = one units u ctx there b pc [] rest has (λ n lt. k.by n (omega arith))

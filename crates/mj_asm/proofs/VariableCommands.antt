@@ -36,7 +36,7 @@ module _ (units : List unit.Unit) (u : unit.Unit) (ctx : Context) (there : slice
   names_follow [] pc stack rest has k = moved units u ctx there b pc (pc + 0) stack rest (omega arith) k
   names_follow (word ∷ words) pc stack rest has k =
       let len : pc + 1 + length (names_code words) ≡ pc + length (names_code (word ∷ words)) = omega arith in
-      one units u ctx there b pc stack (instr.Discard 0) _ has.0 (λ n lt. (names_follow words (pc + 1) stack rest has.1 (moved units u ctx there b _ _ stack rest len k)).by n (omega arith))
+      one units u ctx there b pc stack _ has.0 (λ n lt. (names_follow words (pc + 1) stack rest has.1 (moved units u ctx there b _ _ stack rest len k)).by n (omega arith))
 
   module _ (points : Points) (here : Here) (invoked : DoesCalls units u ctx there b points here) where
     destination_follows : (d : Destination) (pc : ℕ) (stack : Stack) (rest : Aim → Timed) → HasAt code pc (destination_code pc d)
@@ -73,7 +73,7 @@ module _ (units : List unit.Unit) (u : unit.Unit) (ctx : Context) (there : slice
         → slice_get code pc ≡ Some (instr.Store r depth) → Agree b (runs (pc + 1) (drop depth.taken stack)) rest
         → Agree b (runs pc stack) (turn (store x (top stack) rest))
     stored r depth x ss pc stack base rest many e under at k =
-        one units u ctx there b pc stack (instr.Store r depth) _ at (λ n lt.
+        one units u ctx there b pc stack _ at (λ n lt.
         ap (λ l. given (name_of r.scope r.word (operands r.count l)) (λ y. store y (top stack) (exec units n ctx (pc + 1) (drop depth.taken stack))) n) under
         ∙ ap (λ l. given (name_of r.scope r.word l) (λ y. store y (top stack) (exec units n ctx (pc + 1) (drop depth.taken stack))) n) (operands_are ss base r.count many)
         ∙ ap (λ o. given o (λ y. store y (top stack) (exec units n ctx (pc + 1) (drop depth.taken stack))) n) e
@@ -95,7 +95,7 @@ module _ (units : List unit.Unit) (u : unit.Unit) (ctx : Context) (there : slice
         let under : drop n (drop depth.above stack) ≡ onto l.0 base = ap (drop n) l.4 ∙ rest_below ts (onto l.0 base) n l.3 in
         let args : operands n (drop depth.above stack) ≡ ts = ap (operands n) l.4 ∙ operands_are ts (onto l.0 base) n l.3 in
         let deeper : (w : List ℕ) → drop (depth.above + n + 1) (w ∷ stack) ≡ onto l.0 base = λ w. drop_more (depth.above + n) w stack ∙ sym (drop-drop n depth.above stack) ∙ under in
-        one units u ctx there b pc stack (instr.SetPiece r n depth) _ has.0 (λ m lt.
+        one units u ctx there b pc stack _ has.0 (λ m lt.
         ap (λ st. given (name_of r.scope r.word (operands r.count st)) (λ y. assign_piece y (operands n (drop depth.above stack)) (top stack) (past m) (behind m)) m) under
         ∙ ap (λ ss. given (name_of r.scope r.word ss) (λ y. assign_piece y (operands n (drop depth.above stack)) (top stack) (past m) (behind m)) m) (operands_are l.0 base r.count l.1)
         ∙ ap (λ o. given o (λ y. assign_piece y (operands n (drop depth.above stack)) (top stack) (past m) (behind m)) m) l.2
@@ -144,7 +144,7 @@ module _ (units : List unit.Unit) (u : unit.Unit) (ctx : Context) (there : slice
         destinations_follow list pc stack _ (has_front code pc cd _ has) (λ ts st l.
         expr_follows units u ctx there b points here invoked e (pc + length cd) st (λ v. put_all ts v (turn rest)) (has_front code (pc + length cd) ce _ back) (λ v.
         stores_follow list ts at v st stack (turn rest) l (has_front code at cs _ back')
-        (one units u ctx there b (at + length cs) (v ∷ st) i rest (has_back code at cs _ back').0 (λ n lt.
+        (one units u ctx there b (at + length cs) (v ∷ st) rest (has_back code at cs _ back').0 (λ n lt.
         (over units u ctx there b (at + length cs + 1) (drop (sizes list + 1) (v ∷ st)) stack rest (drop_more (sizes list) v st ∙ below_all list ts st stack l)
         (moved units u ctx there b _ _ stack rest len k)).by n (omega arith)))))
 
@@ -171,7 +171,7 @@ module _ (units : List unit.Unit) (u : unit.Unit) (ctx : Context) (there : slice
         let back = has_back code pc cs (i ∷ j ∷ []) has in
         let len : behind + 1 ≡ pc + length (cs ++ i ∷ j ∷ []) = omega (arith, length-append cs (i ∷ j ∷ [])) in
         checked units u ctx there b points here invoked v pc stack _ (has_front code pc cs _ has) back.0 (λ x ss many e.
-        one units u ctx there b behind (onto ss stack) j _ back.1.0 (λ n lt.
+        one units u ctx there b behind (onto ss stack) _ back.1.0 (λ n lt.
         ap (λ l. given (name_of r.scope r.word l) (λ y. remove y (exec units n ctx (behind + 1) (drop r.count (onto ss stack)))) n) (operands_are ss stack _ many)
         ∙ ap (λ o. given o (λ y. remove y (exec units n ctx (behind + 1) (drop r.count (onto ss stack)))) n) e
         ∙ remove_at n x (exec units n ctx (behind + 1) (drop r.count (onto ss stack))) rest
@@ -179,7 +179,7 @@ module _ (units : List unit.Unit) (u : unit.Unit) (ctx : Context) (there : slice
     kill_follows (Spared words) pc stack rest has k =
         let cn = names_code words in
         names_follow words pc stack _ (has_front code pc cn _ has)
-        (one units u ctx there b (pc + length cn) stack (instr.KillExcept words) _ (has_back code pc cn _ has).0 (λ n lt.
+        (one units u ctx there b (pc + length cn) stack _ (has_back code pc cn _ has).0 (λ n lt.
         change_at n (kill_except words) (exec units n ctx (pc + length cn + 1) stack) rest ((moved units u ctx there b _ _ stack rest (end_of pc cn (instr.KillExcept words)) k).by n (omega arith))))
 
     kills_follow : (list : List Killed) (pc : ℕ) (stack : Stack) (rest : Timed)
@@ -193,7 +193,7 @@ module _ (units : List unit.Unit) (u : unit.Unit) (ctx : Context) (there : slice
     pub kill_all_follows : (list : List Killed) (pc : ℕ) (stack : Stack) (rest : Timed)
         → HasAt code pc (kill_all_code pc list) → Agree b (runs (pc + length (kill_all_code pc list)) stack) rest → Agree b (runs pc stack) (kill_all points here list rest)
     kill_all_follows [] pc stack rest has k =
-        one units u ctx there b pc stack (instr.KillExcept []) _ has.0 (λ n lt. change_at n (kill_except []) (exec units n ctx (pc + 1) stack) rest (k.by n (omega arith)))
+        one units u ctx there b pc stack _ has.0 (λ n lt. change_at n (kill_except []) (exec units n ctx (pc + 1) stack) rest (k.by n (omega arith)))
     kill_all_follows (x ∷ list) pc stack rest has k = kills_follow (x ∷ list) pc stack rest has k
 
     merge_follows : (m : Merged) (pc : ℕ) (stack : Stack) (rest : Timed) → HasAt code pc (merge_code pc m)
@@ -222,7 +222,7 @@ module _ (units : List unit.Unit) (u : unit.Unit) (ctx : Context) (there : slice
         ap (λ l. given (name_of a.scope a.word l) (λ z. take_nodes z y (exec units n ctx (at + 1) (onto ss stack))) n) (operands_are ss stack _ many)
         ∙ ap (λ o. given o (λ z. take_nodes z y (exec units n ctx (at + 1) (onto ss stack))) n) e
         ∙ take_nodes_at n x y (exec units n ctx (at + 1) (onto ss stack)) (turn (put_nodes x rest))
-        ((one units u ctx there b (at + 1) (onto ss stack) p (put_nodes x rest) back'.1.0 (λ o lt'.
+        ((one units u ctx there b (at + 1) (onto ss stack) (put_nodes x rest) back'.1.0 (λ o lt'.
         ap (λ l. given (name_of a.scope a.word l) (λ z. put_nodes z (exec units o ctx (at + 1 + 1) (drop a.count (onto ss stack)))) o) (operands_are ss stack _ many)
         ∙ ap (λ r. given r (λ z. put_nodes z (exec units o ctx (at + 1 + 1) (drop a.count (onto ss stack)))) o) e
         ∙ put_nodes_at o x (exec units o ctx (at + 1 + 1) (drop a.count (onto ss stack))) rest
@@ -240,11 +240,11 @@ module _ (units : List unit.Unit) (u : unit.Unit) (ctx : Context) (there : slice
     renewal_follows : (x : Renewed) (pc : ℕ) (stack : Stack) (rest : Timed) → HasAt code pc (set_piece_code x)
         → Agree b (runs (pc + length (set_piece_code x)) stack) rest → Agree b (runs pc stack) (renewal x rest)
     renewal_follows (Fresh word) pc stack rest has k =
-        one units u ctx there b pc stack (instr.New (word ∷ [])) _ has.0 (λ n lt. change_at n (newed (Only (word ∷ []))) (exec units n ctx (pc + 1) stack) rest (k.by n (omega arith)))
+        one units u ctx there b pc stack _ has.0 (λ n lt. change_at n (newed (Only (word ∷ []))) (exec units n ctx (pc + 1) stack) rest (k.by n (omega arith)))
     renewal_follows (Kept words) pc stack rest has k =
         let cn = names_code words in
         names_follow words pc stack _ (has_front code pc cn _ has)
-        (one units u ctx there b (pc + length cn) stack (instr.NewExcept words) _ (has_back code pc cn _ has).0 (λ n lt.
+        (one units u ctx there b (pc + length cn) stack _ (has_back code pc cn _ has).0 (λ n lt.
         change_at n (newed (AllBut words)) (exec units n ctx (pc + length cn + 1) stack) rest ((moved units u ctx there b _ _ stack rest (end_of pc cn (instr.NewExcept words)) k).by n (omega arith))))
 
     news_follow : (list : List Renewed) (pc : ℕ) (stack : Stack) (rest : Timed) → HasAt code pc (news_code list)
@@ -258,5 +258,5 @@ module _ (units : List unit.Unit) (u : unit.Unit) (ctx : Context) (there : slice
     pub new_all_follows : (list : List Renewed) (pc : ℕ) (stack : Stack) (rest : Timed)
         → HasAt code pc (new_all_code list) → Agree b (runs (pc + length (new_all_code list)) stack) rest → Agree b (runs pc stack) (new_all list rest)
     new_all_follows [] pc stack rest has k =
-        one units u ctx there b pc stack (instr.NewExcept []) _ has.0 (λ n lt. change_at n (newed (AllBut [])) (exec units n ctx (pc + 1) stack) rest (k.by n (omega arith)))
+        one units u ctx there b pc stack _ has.0 (λ n lt. change_at n (newed (AllBut [])) (exec units n ctx (pc + 1) stack) rest (k.by n (omega arith)))
     new_all_follows (x ∷ list) pc stack rest has k = news_follow (x ∷ list) pc stack rest has k

@@ -1,5 +1,8 @@
 // What a device is.
 
+ghost use Rattle.std.specs.Prelude.{◌≡◌, ◌++◌};
+ghost use Rattle.mj_dev.specs.Did.{failures_of, bytes_of};
+
 use mj_text::Text;
 
 /// How a call to a device went.
@@ -95,6 +98,17 @@ pub trait Device: Drop {
     /// The lines that were read.
     fn given(&self) -> &[Text]
         ensures { result.now ≡ given self.now };
+}
+
+/// Keeps the bytes of a write behind those of the writes before, all or none.
+pub fn take(taken: &mut Vec<u8>, bytes: &[u8]) -> Did
+    ensures failures { failures_of result ≡ 0 }
+    ensures taken { taken.new.items ≡ taken.old.items ++ bytes_of result bytes.now }
+{
+    match taken.extend_from_slice(bytes) {
+        Ok(()) => Did::Done,
+        Err(_) => Did::Memory,
+    }
 }
 
 // A box of a device is a device: a call goes to the one inside.

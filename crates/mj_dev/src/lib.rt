@@ -17,13 +17,15 @@ mod rest;
 mod row;
 mod session;
 mod talk;
+mod watched;
 
 pub use blank::{Blank, pool_of};
-pub use counted::Counted;
-pub use device::{Device, Did, Input};
+pub use counted::Counts;
+pub use device::{Device, Did, Input, take};
 pub use fail::Fail;
 pub use lines::Lines;
 pub use memory::Memory;
 pub use pool::Pool;
 pub use session::Session;
 pub use talk::{Code, Cursor, State};
+pub use watched::{Watch, Watched};

@@ -2,7 +2,7 @@
 
 ghost use Rattle.std.specs.Prelude.{◌≡◌, []};
 
-use crate::device::{Device, Did, Input};
+use crate::device::{Device, Did, Input, take};
 use crate::lines::Lines;
 use mj_text::Text;
 use std::alloc::Global;
@@ -66,10 +66,7 @@ impl Device for Memory {
     }
 
     fn write(&mut self, bytes: &[u8]) -> Did {
-        match self.taken.extend_from_slice(bytes) {
-            Ok(()) => Did::Done,
-            Err(_) => Did::Memory,
-        }
+        take(&mut self.taken, bytes)
     }
 
     fn read(&mut self) -> Input

@@ -6,6 +6,7 @@ use Rattle.mj_store.specs.Questions.{rest_of, same_word}
 use Rattle.mj_store.specs.Runs.{name_of}
 use Rattle.mj_store.specs.declared.access.Access.{Access}
 use Rattle.mj_store.specs.declared.access.Access.TheVariants as accesses
+use Rattle.mj_ask.specs.Fits.{gives_up, is_done}
 use Rattle.mj_ask.specs.Keeping.{is_limit}
 use Rattle.mj_ask.specs.declared.ask.Ask.{Ask}
 use Rattle.mj_ask.specs.declared.ask.Ask.TheVariants as asks
@@ -73,9 +74,7 @@ is_counted_access (Some a) = is_change a || not (is_write a)
 
 -- whether an unlock was done, which waits for the commit of a transaction
 abbrev pub is_unlock : Ask → Reply → Bool
-is_unlock (asks.Shared (shared_asks.Unlock names)) replies.Done = true
-is_unlock (asks.Shared shared_asks.UnlockAll) replies.Done = true
-is_unlock _ _ = false
+is_unlock ask reply = is_some (gives_up ask) && is_done reply
 
 -- whether an event is one of the accesses of a transaction, which counts reads, changes and unlocks
 abbrev pub is_counted : Ask → Reply → Bool

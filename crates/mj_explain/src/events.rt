@@ -90,11 +90,7 @@ fn is_counted_access(access: Option<&Access>) -> bool
 fn is_unlock(ask: &Ask, reply: &Reply) -> bool
     ensures { result ≡ is_unlock ask.now reply.now }
 {
-    match (ask, reply) {
-        (Ask::Shared(SharedAsk::Unlock(_)), Reply::Done) => true,
-        (Ask::Shared(SharedAsk::UnlockAll), Reply::Done) => true,
-        _ => false,
-    }
+    ask.gives_up().is_some() && matches!(reply, Reply::Done)
 }
 
 /// Whether a commit was done.
@@ -122,7 +118,7 @@ fn sets(name: &Name, access: Option<&Access>) -> bool
     ensures { result ≡ sets name.now (option_copied access.entry) }
 {
     match access {
-        Some(Access::Set(other, _)) => other == name,
+        Some(Access::Set(other, _)) => other.get() == name,
         _ => false,
     }
 }
@@ -132,13 +128,16 @@ pub fn touches(name: &Name, access: &Access) -> bool
     ensures { result ≡ touches name.now access.now }
 {
     match access {
-        Access::Value(other) | Access::Set(other, _) => other == name,
-        Access::Order(other, _) => stands_along(name, other),
-        Access::Query(other) => is_same_word(other, name),
+        Access::Value(other) | Access::Set(other, _) => other.get() == name,
+        Access::Order(other, _) => stands_along(name, other.get()),
+        Access::Query(other) => is_same_word(other.get(), name),
         Access::Data(other)
         | Access::Subtree(other)
         | Access::Kill(other)
-        | Access::Put(other, _) => { rest_of(other, other.subscripts().as_slice(), name).is_some() }
+        | Access::Put(other, _) => {
+            let other = other.get();
+            rest_of(other, other.subscripts().as_slice(), name).is_some()
+        }
     }
 }
 

@@ -186,7 +186,7 @@ fn look(
     };
     match access {
         Access::Value(name) => {
-            lasts.note_read(event.job, name, place)?;
+            lasts.note_read(event.job, name.get(), place)?;
             Ok(None)
         }
         Access::Data(_) | Access::Order(_, _) | Access::Query(_) => {
@@ -194,6 +194,7 @@ fn look(
             Ok(None)
         }
         Access::Set(name, _) => {
+            let name = name.get();
             let look = lasts.look_by(events, event.job, name);
             let loss = lasts.loss_at(name, look, place);
             lasts.note_set(event.job, name, look, place)?;

@@ -46,17 +46,18 @@ fn is_look(name: &Name, access: &Access, answer: &Answer) -> bool
     ensures { result ≡ is_look name.now access.now answer.now }
 {
     match (access, answer) {
-        (Access::Value(other), Answer::Value(_)) => other == name,
-        (Access::Data(other), Answer::Data(told)) => data_leaves_out(
-            rest_of(other, other.subscripts().as_slice(), name),
-            *told,
-        ),
+        (Access::Value(other), Answer::Value(_)) => other.get() == name,
+        (Access::Data(other), Answer::Data(told)) => {
+            let other = other.get();
+            data_leaves_out(rest_of(other, other.subscripts().as_slice(), name), *told)
+        }
         (Access::Order(other, way), Answer::Order(next)) => {
-            order_leaves_out(name, other, *way, next.as_ref())
+            order_leaves_out(name, other.get(), *way, next.as_ref())
         }
-        (Access::Query(other), Answer::Query(next)) => {
-            query_leaves_out(name, other, next.as_ref())
+        (Access::Query(other), Answer::Query(Some(next))) => {
+            query_leaves_out(name, other.get(), Some(next.get()))
         }
+        (Access::Query(other), Answer::Query(None)) => query_leaves_out(name, other.get(), None),
         _ => false,
     }
 }

@@ -43,6 +43,7 @@ pub fn is_loss(
     let Ask::Shared(SharedAsk::Access(Access::Set(name, _))) = &over.ask else {
         return Ok(false);
     };
+    let name = name.get();
     let Some(lost) = events.get(loss.first_write) else {
         return Ok(false);
     };

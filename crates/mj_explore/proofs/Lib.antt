@@ -1,9 +1,6 @@
-mod Adding
 mod Counting
 mod Faulting
 mod Holding
-mod Loading
-mod Principals
 mod Ending
 mod Making
 mod Noting

@@ -7,7 +7,7 @@ use Rattle.std.proofs.lemmas.List.{length-append, map-append}
 use Rattle.std.proofs.lemmas.List.Sums.{count_by-le-length, sum_by_push}
 use Rattle.std.proofs.lemmas.List.Elements.{All-push}
 use Rattle.mj_sys.specs.Shared.{Shared}
-use Rattle.mj_explore.specs.Scripts.{Scripted}
+use Rattle.mj_script.specs.Scripts.{Scripted}
 use Rattle.mj_explore.specs.Ends.{IsNoted, end_text, noted, different, often, once_more, texts_of}
 use Rattle.mj_load.specs.Image.{Loaded, program_of}
 use Rattle.mj_steps.specs.declared.step.Step.{Step}
@@ -20,7 +20,7 @@ use Rattle.mj_core.specs.Shown.{Shown, begun}
 use Rattle.mj_run.specs.Stepping.{StepsAs, AreSteps}
 use Rattle.mj_run.proofs.Stepping.{steps_image}
 use Rattle.mj_explore.specs.declared.goals.Goal.{Goal}
-use Rattle.mj_explore.specs.Scripts.{IsImageOf}
+use Rattle.mj_script.specs.Scripts.{IsImageOf}
 use Rattle.mj_explore.specs.declared.marks.Mark.TheVariants as marks
 use Rattle.mj_explore.specs.declared.fates.Fate.{Fate}
 use Rattle.mj_explore.specs.declared.fates.Fate.TheVariants as fates

@@ -5,7 +5,7 @@ use Rattle.mj_ask.specs.Started.{Started}
 use Rattle.mj_ast.specs.Syntax.{Command, If, Write, Line, LineCommand, Routine}
 use Rattle.mj_ast.specs.Tokens.{is_blank}
 use Rattle.mj_rou.specs.Read.{IsRoutineRead}
-use Rattle.mj_explore.specs.Scripts.{Scripted}
+use Rattle.mj_script.specs.Scripts.{Scripted}
 
 -- a `^` is among these bytes, without which no global is named
 abbrev pub has_caret : List ℕ → Bool

@@ -38,7 +38,7 @@ use Rattle.mj_explore.specs.declared.ends.End.{End}
 use Rattle.mj_explore.specs.declared.exploring.Tally.{Tally}
 use Rattle.mj_explore.specs.Marks.{bears, fault_in, is_over}
 use Rattle.mj_explore.specs.Ends.{IsNoted, end_text, different, often, texts_of}
-use Rattle.mj_explore.specs.Scripts.{Scripted, IsImageOf, opening_in}
+use Rattle.mj_script.specs.Scripts.{Scripted, IsImageOf, opening_in}
 
 -- devices in memory, of whose calls the replies come
 abbrev pub by_memory : Answering

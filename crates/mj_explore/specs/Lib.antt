@@ -1,4 +1,3 @@
-pub mod Scripts
 pub mod Conditions
 pub mod Marks
 pub mod Ends

@@ -4,18 +4,18 @@ ghost use Rattle.std.specs.Prelude.{◌≡◌, ◌∷◌, [], true, false, codes
 ghost use Rattle.std.specs.Str.{bytes_eq};
 ghost use Rattle.mj_ast.specs.Trees.{routine_of, line_of as tree_of, step_of, command_of};
 ghost use Rattle.mj_sys.specs.Shared.{are_global};
-ghost use Rattle.mj_explore.specs.Scripts.{opening_in};
+ghost use Rattle.mj_script.specs.Scripts.{opening_in};
 ghost use Rattle.mj_explore.specs.Conditions.{IsConditionOf, IsExpression, IsReadSo, condition_line, front_line, ends_in_blank, has_caret, judge_start};
 ghost use Rattle.mj_explore.specs.Conditions.{is_plain, is_single_if, is_single_write, judges, line_judges, line_tests, step_tests, step_writes, tests};
 ghost use Rattle.mj_explore.specs.Found.{IsJudged, is_of_device, verdict_by};
 
 use crate::fates::is_for_memory;
 use crate::marks::{fault_in, is_over};
-use crate::scripts::{Script, Source, Unread, begin};
 use mj_ask::{Entry, Start};
 use mj_ast::{Command, Line, LineCommand, Routine};
 use mj_globs::Globals;
 use mj_rou::LoadError;
+use mj_script::{Script, Source, Unread, begin};
 use mj_sys::Opening;
 use mj_text::{Failure, Fault, Text};
 use std::alloc::{AllocError, Global};

@@ -4,7 +4,7 @@ ghost use Rattle.std.specs.Prelude.{◌≡◌, ◌≤◌, ◌<◌, ◌+◌, ◌-
 ghost use Rattle.mj_load.specs.Image.{program_of};
 ghost use Rattle.mj_sys.specs.Shared.{are_global};
 ghost use Rattle.mj_explore.specs.declared.exploring.Found.{Found as FoundOf};
-ghost use Rattle.mj_explore.specs.Scripts.{opening_in};
+ghost use Rattle.mj_script.specs.Scripts.{opening_in};
 ghost use Rattle.mj_explore.specs.Found.{IsShownFor, IsFoundFor, IsFateOf, WereMade, IsCome, is_fate_stopped, is_fate_stuck, is_for_memory};
 
 use crate::ends::{End, end_text, note};
@@ -12,11 +12,11 @@ use crate::fates::{Fate, fate_of, is_for_memory};
 use crate::goals::{Finding, Goal, seen};
 use crate::marks::{Mark, has};
 use crate::probes::Probe;
-use crate::scripts::{Script, begin};
 use mj_chance::{Chance, Made, shorten, step_by_choice};
 use mj_dev::Memory;
 use mj_globs::Globals;
 use mj_run::Jobs;
+use mj_script::{Script, begin};
 use mj_sessions::Sessions;
 use mj_steps::{Ending, Step};
 use mj_sys::Opening;

@@ -7,9 +7,9 @@ ghost use Rattle.mj_explore.specs.Found.{EndsJudged, IsStuck, Shows, found_verdi
 use crate::conditions::{Verdict, verdict_over};
 use crate::fates::{Fate, fate_of};
 use crate::marks::{Mark, count, is_over};
-use crate::scripts::Script;
 use mj_dev::Memory;
 use mj_run::Jobs;
+use mj_script::Script;
 use mj_sessions::Sessions;
 use mj_sys::Opening;
 use mj_text::Fault;

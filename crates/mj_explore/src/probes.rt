@@ -3,14 +3,14 @@
 ghost use Rattle.std.specs.Prelude.{◌≡◌, true, IfOk, IfSome};
 ghost use Rattle.mj_dev.specs.Told.{IsToldBy};
 ghost use Rattle.mj_sys.specs.Shared.{are_global};
-ghost use Rattle.mj_explore.specs.Scripts.{opening_in};
+ghost use Rattle.mj_script.specs.Scripts.{opening_in};
 ghost use Rattle.mj_explore.specs.Found.{IsFound};
 
 use crate::exploring::RUN_LIMIT;
 use crate::goals::{Finding, Goal, shown};
-use crate::scripts::{Script, begin};
 use mj_chance::{Made, Trial, Wishes, step_by_choice};
 use mj_globs::Globals;
+use mj_script::{Script, begin};
 use mj_steps::{Ending, Step};
 use mj_sys::Opening;
 use std::alloc::{AllocError, Global};

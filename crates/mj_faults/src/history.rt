@@ -81,7 +81,9 @@ fn started_by<'a>(job: u32, ask: &'a Ask, reply: &Reply) -> Option<&'a Start>
     ensures { option_copied result ≡ the_started_by job ask.now reply.now }
 {
     match (ask, reply) {
-        (Ask::Shared(SharedAsk::Start(start, _)), Reply::Job(made)) if *made == job => Some(start),
+        (Ask::Shared(SharedAsk::Start(start, _)), Reply::Job(made)) if *made == job => {
+            Some(start.get())
+        }
         _ => None,
     }
 }

@@ -26,19 +26,13 @@ const FLAGS: usize = ROWS_LIMIT + 1;
 
 /// Tells more of jobs that were stepped: which limit was reached, and where jobs are that haven't ended; what to do where all wait; why a step can't be made;
 /// and that a file of steps ended before the jobs had. Where memory is refused, or this can't be written, nothing more is told.
-pub fn tell_end<R, E, D, G>(
+pub fn tell_end<R: Files + AllocGlobal, E: Write, D: Device, G: Opening>(
     rt: &R,
     core: &Core<D, Sessions<D>, G>,
     ending: Ending,
     order: &Run<'_>,
     err: &mut E,
-)
-where
-    R: Files + AllocGlobal,
-    E: Write,
-    D: Device,
-    G: Opening,
-{
+) {
     let mut bytes = Vec::new(rt.alloc());
     if put_end(&mut bytes, core, ending, order).is_ok() {
         let _ = err.write_all(&bytes);
@@ -47,18 +41,13 @@ where
 }
 
 /// Tells so of jobs that workers ran up to as many events as there may be. These are the places of each job's asks.
-pub fn tell_full<R, E, H>(
+pub fn tell_full<R: Files + AllocGlobal, E: Write, H: Events>(
     rt: &R,
     told: &H,
     places: &[Option<&Places>],
     order: &Run<'_>,
     err: &mut E,
-)
-where
-    R: Files + AllocGlobal,
-    E: Write,
-    H: Events,
-{
+) {
     let mut bytes = Vec::new(rt.alloc());
     if put_full(&mut bytes, told, places, order).is_ok() {
         let _ = err.write_all(&bytes);

@@ -37,19 +37,14 @@ fn copied(alloc: Global, starts: &[Start]) -> Result<Vec<Start>, AllocError>
 }
 
 /// Tells of each job of a run that faulted, on standard error, where the starts were kept with which the run began.
-pub fn tell_faults<R, E, H>(
+pub fn tell_faults<R: Files + AllocGlobal, E: Write, H: Events>(
     rt: &R,
     order: &Run<'_>,
     image: &Image,
     starts: &Option<Vec<Start>>,
     told: &H,
     err: &mut E,
-)
-where
-    R: Files + AllocGlobal,
-    E: Write,
-    H: Events,
-{
+) {
     let Some(starts) = starts else {
         return;
     };
@@ -63,16 +58,13 @@ where
 }
 
 // What is told of each job of a run that faulted, by the routines of these files, as far as they can be read once more.
-fn faults<R, H>(
+fn faults<R: Files + AllocGlobal, H: Events>(
     rt: &R,
     files: &[&str],
     image: &Image,
     starts: &[Start],
     told: &H,
 ) -> Result<Vec<u8>, AllocError>
-where
-    R: Files + AllocGlobal,
-    H: Events,
     ensures { IfOk result (λ bytes. (sources : List (List ℕ × List ℕ)) × AddsAll image.now sources starts.now (H.history told.now) [] bytes.items) }
 {
     let sources = sources(rt, files)?;

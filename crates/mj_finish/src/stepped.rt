@@ -21,7 +21,7 @@ use std::rt::Files;
 
 /// Tells of the run of a core, then what each job waits for, if that was asked for, then where jobs faulted, if the starts were kept for that, and gives
 /// the exit status.
-pub fn finish<R, O, E, D, G>(
+pub fn finish<R: Files + AllocGlobal, O: Write, E: Write, D: Device, G: Opening>(
     rt: &R,
     core: &mut Core<D, Sessions<D>, G>,
     ending: Ending,
@@ -32,12 +32,7 @@ pub fn finish<R, O, E, D, G>(
     err: &mut E,
 ) -> u8
 where
-    R: Files + AllocGlobal,
     R::File: Lockable,
-    O: Write,
-    E: Write,
-    D: Device,
-    G: Opening,
     requires { IfSome outlet.now.trace (λ t. IsHead core.old.image G.opening t.opening.items) }
     ensures { result ≤ 4 }
 {
@@ -54,7 +49,7 @@ where
 }
 
 // Tells of the run of a core. Where memory was refused for that, there is no status.
-fn tell_core<R, O, E, D, G>(
+fn tell_core<R: Files + AllocGlobal, O: Write, E: Write, D: Device, G: Opening>(
     rt: &R,
     core: &Core<D, Sessions<D>, G>,
     ending: Ending,
@@ -64,12 +59,7 @@ fn tell_core<R, O, E, D, G>(
     err: &mut E,
 ) -> Option<u8>
 where
-    R: Files + AllocGlobal,
     R::File: Lockable,
-    O: Write,
-    E: Write,
-    D: Device,
-    G: Opening,
     requires { IfSome outlet.now.trace (λ t. IsHead core.now.image G.opening t.opening.items) }
     ensures { IfSome result (λ status. status ≤ 4) }
 {
@@ -84,18 +74,14 @@ where
 }
 
 /// Writes the trace of a core, if there is to be one, and gives the exit status of that. Only then its places take memory.
-pub fn trace_core<R, E, D, G>(
+pub fn trace_core<R: Files + AllocGlobal, E: Write, D: Device, G: Opening>(
     rt: &R,
     core: &Core<D, Sessions<D>, G>,
     outlet: &Outlet<'_, R::File>,
     err: &mut E,
 ) -> u8
 where
-    R: Files + AllocGlobal,
     R::File: Lockable,
-    E: Write,
-    D: Device,
-    G: Opening,
     requires { IfSome outlet.now.trace (λ t. IsHead core.now.image G.opening t.opening.items) }
     ensures { result ≤ 4 }
 {
@@ -113,20 +99,14 @@ where
 
 /// Tells more of the run of a core, where hints are wanted: what helps at such an end; where jobs faulted, if the starts were kept for that; and what the
 /// system says of devices that failed.
-pub fn tell_more<R, E, D, G>(
+pub fn tell_more<R: Files + AllocGlobal, E: Write, D: Device, G: Opening>(
     rt: &R,
     core: &Core<D, Sessions<D>, G>,
     ending: Ending,
     order: &Run<'_>,
     kept: &Option<Vec<Start>>,
     err: &mut E,
-)
-where
-    R: Files + AllocGlobal,
-    E: Write,
-    D: Device,
-    G: Opening,
-{
+) {
     if order.hints {
         tell_end(rt, core, ending, order, err);
     }

@@ -18,7 +18,7 @@ use std::io::Write;
 use std::rt::Files;
 
 /// Writes what so many jobs wrote, then tells the rest of their run.
-pub fn tell_run<R, O, E, H>(
+pub fn tell_run<R: Files + AllocGlobal, O: Write, E: Write, H: Events>(
     rt: &R,
     order: &Run<'_>,
     outlet: &Outlet<'_, R::File>,
@@ -30,11 +30,7 @@ pub fn tell_run<R, O, E, H>(
     err: &mut E,
 ) -> Option<(u8, bool)>
 where
-    R: Files + AllocGlobal,
     R::File: Lockable,
-    O: Write,
-    E: Write,
-    H: Events,
     ensures { IfSome result (λ told. told.0 ≤ 4) }
 {
     let shown = match show(rt, told, jobs, out) {
@@ -48,7 +44,7 @@ where
 /// Tells, behind what jobs wrote, why they were stopped, if they were, and writes the globals that they left. Gives the exit status, the greatest where several
 /// apply, that of their output among them, and whether the trace is to be written behind that. Where memory was refused to the jobs the files stay as they are.
 /// Where the globals can't be written the trace still is. Where memory is refused here there is no status.
-pub fn tell_rest<R, E>(
+pub fn tell_rest<R: Files + AllocGlobal, E: Write>(
     rt: &R,
     order: &Run<'_>,
     outlet: &Outlet<'_, R::File>,
@@ -58,9 +54,7 @@ pub fn tell_rest<R, E>(
     err: &mut E,
 ) -> Option<(u8, bool)>
 where
-    R: Files + AllocGlobal,
     R::File: Lockable,
-    E: Write,
     requires { shown ≤ 4 }
     ensures { IfSome result (λ told. told.0 ≤ 4) }
 {
@@ -77,7 +71,7 @@ where
 }
 
 /// Writes the trace of a run, if there is to be one, and gives the exit status of that. These are the places of each job's asks.
-pub fn tell_trace<R, E, H, G>(
+pub fn tell_trace<R: Files + AllocGlobal, E: Write, H: Events, G: Opening>(
     rt: &R,
     outlet: &Outlet<'_, R::File>,
     image: &Image,
@@ -86,11 +80,7 @@ pub fn tell_trace<R, E, H, G>(
     err: &mut E,
 ) -> u8
 where
-    R: Files + AllocGlobal,
     R::File: Lockable,
-    E: Write,
-    H: Events,
-    G: Opening,
     requires head { IfSome outlet.now.trace (λ t. IsHead image.now G.opening t.opening.items) }
     requires run { IsRun (program_of image.now) G.opening (H.history told.now) }
     requires placed { ArePlacedIn (program_of image.now) G.opening (H.history told.now) (places_at (places_lent places.now)) }

@@ -190,8 +190,11 @@ fn touches(access: &Access, name: &Name) -> bool
     ensures { result ≡ touches access.now name.now }
 {
     match access {
-        Access::Set(written, _) => name.overlap(written) && !written.above(name),
-        Access::Kill(written) | Access::Put(written, _) => name.overlap(written),
+        Access::Set(written, _) => {
+            let written = written.get();
+            name.overlap(written) && !written.above(name)
+        }
+        Access::Kill(written) | Access::Put(written, _) => name.overlap(written.get()),
         Access::Value(_)
         | Access::Data(_)
         | Access::Order(_, _)

@@ -21,14 +21,14 @@ use Rattle.mj_txlog.specs.declared.entry.Unlock.{Unlock}
 use Rattle.mj_txlog.specs.declared.entry.Entry.TheVariants as entries
 use Rattle.mj_txlog.proofs.Alike.{seen_more}
 use Rattle.mj_txn.specs.Closing.{is_local_write, told_in, after_told}
-use Rattle.mj_sys.specs.Transactions.{transaction_of, told_to, with_access, with_names, with_waiting, begun_as}
+use Rattle.mj_sys.specs.Transactions.{transaction_of, told_to, with_access, with_names, with_waiting, unlock_of, begun_as}
 use Rattle.mj_sys.specs.Opening.{NoneIsOpen}
 use Rattle.mj_sys.specs.Shared.{Shared, changed, open_of, served}
 use Rattle.mj_sys.specs.declared.event.Event.{Event}
 use Rattle.mj_sys.specs.History.{History, after, state_of, IsServed}
 use Rattle.mj_core.specs.Happen.{Happens, AllHappen}
 use Rattle.mj_core.specs.Runs.{IsRun}
-use Rattle.mj_serial.specs.Rules.{Exactly, IsToldByRule, transaction_after}
+use Rattle.mj_serial.specs.Rules.{Exactly, IsToldByRule, after_unlock_of, transaction_after}
 use Rattle.mj_serial.proofs.Logs.{leaves, seen_access}
 use Rattle.mj_serial.proofs.Sights.{HasPlaces, Obeys, AllObeys, obeys, unshared}
 use Rattle.mj_inspect.specs.Own.{IsFrom, after_answer, seen_in, seen_or, seen_after, seen_at, seen_behind, seen_on}
@@ -112,33 +112,21 @@ begun_by : (committed : Content) (t : Option Transaction) (kind : Kind) → Some
 begun_by committed None kind = refl
 begun_by committed (Some t) kind = refl
 
+given_up_by : (committed : Content) (t : Option Transaction) (u : Option Unlock) → seen_in committed t ≡ seen_in committed (after_unlock_of t u)
+given_up_by committed t None = refl
+given_up_by committed t (Some u) = waiting_by committed t u
+
+-- any other than these leaves for later what it is an unlock of, if it is one
 after_ask : (committed globals : Content) (t : Option Transaction) (a : Ask) (r : Reply) → IsToldByRule Exactly t globals a r
     → seen_after committed (seen_in committed t) a r ≡ seen_in committed (transaction_after t globals a r)
 after_ask committed globals t (asks.Shared (shared.Access a)) r told =
     ap (λ (q : Reply). seen_after committed (seen_in committed t) (asks.Shared (shared.Access a)) q) told ∙ accessed_by committed globals t a
 after_ask committed globals t (asks.Shared (shared.Try names timeout)) replies.Got told = names_by committed t names
-after_ask committed globals t (asks.Shared (shared.Try names timeout)) replies.Done told = refl
-after_ask committed globals t (asks.Shared (shared.Try names timeout)) (replies.Answer x) told = refl
-after_ask committed globals t (asks.Shared (shared.Try names timeout)) replies.Limit told = refl
-after_ask committed globals t (asks.Shared (shared.Try names timeout)) replies.Late told = refl
-after_ask committed globals t (asks.Shared (shared.Try names timeout)) replies.NoSession told = refl
-after_ask committed globals t (asks.Shared (shared.Try names timeout)) replies.Failed told = refl
-after_ask committed globals t (asks.Shared (shared.Try names timeout)) replies.End told = refl
-after_ask committed globals t (asks.Shared (shared.Try names timeout)) (replies.Line x) told = refl
-after_ask committed globals t (asks.Shared (shared.Try names timeout)) (replies.Byte x) told = refl
-after_ask committed globals t (asks.Shared (shared.Try names timeout)) (replies.Job x) told = refl
-after_ask committed globals t (asks.Shared (shared.Try names timeout)) (replies.Clash x) told = refl
-after_ask committed globals t (asks.Shared (shared.Unlock names)) r told = waiting_by committed t _
-after_ask committed globals t (asks.Shared shared.UnlockAll) r told = waiting_by committed t _
 after_ask committed globals t (asks.Shared (shared.Begin kind)) r told = begun_by committed t kind
 after_ask committed globals t (asks.Shared shared.Commit) r told = refl
 after_ask committed globals t (asks.Shared shared.Rollback) r told = refl
-after_ask committed globals t (asks.Shared (shared.Open name timeout)) r told = refl
-after_ask committed globals t (asks.Shared (shared.Close name)) r told = refl
-after_ask committed globals t (asks.Shared (shared.Start start timeout)) r told = refl
 after_ask committed globals t (asks.Shared (shared.Halt fault)) r told = refl
-after_ask committed globals t (asks.Device device a) r told = refl
-after_ask committed globals t (asks.Rest time) r told = refl
+after_ask committed globals t a r told = given_up_by committed t (unlock_of a)
 
 -- ---- behind an event
 

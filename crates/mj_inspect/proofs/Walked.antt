@@ -15,19 +15,10 @@ use Rattle.mj_inspect.specs.Own.{IsFrom, seen_after, seen_at, seen_behind, seen_
 
 -- whatever was seen before, nothing is open behind an ask that closes
 none_behind : (committed : Content) (own : Option Content) (a : Ask) (reply : Reply) → closes a ≡ true → seen_after committed own a reply ≡ None
-none_behind committed own (asks.Shared (shared.Access x)) reply e = absurd cc
-none_behind committed own (asks.Shared (shared.Try x t)) reply e = absurd cc
-none_behind committed own (asks.Shared (shared.Unlock x)) reply e = absurd cc
-none_behind committed own (asks.Shared shared.UnlockAll) reply e = absurd cc
-none_behind committed own (asks.Shared (shared.Begin kind)) reply e = absurd cc
 none_behind committed own (asks.Shared shared.Commit) reply e = refl
 none_behind committed own (asks.Shared shared.Rollback) reply e = refl
-none_behind committed own (asks.Shared (shared.Open x t)) reply e = absurd cc
-none_behind committed own (asks.Shared (shared.Close x)) reply e = absurd cc
-none_behind committed own (asks.Shared (shared.Start x t)) reply e = absurd cc
-none_behind committed own (asks.Shared (shared.Halt x)) reply e = refl
-none_behind committed own (asks.Device x a) reply e = absurd cc
-none_behind committed own (asks.Rest x) reply e = absurd cc
+none_behind committed own (asks.Shared (shared.Halt fault)) reply e = refl
+none_behind committed own _ reply e = absurd (let no : false ≡ true = e in cc)
 
 both_true : (a b : Bool) → (a && b) ≡ true → (a ≡ true) × (b ≡ true)
 both_true true b e = (refl, e)

@@ -9,6 +9,7 @@ use Rattle.mj_pcode.specs.declared.instr.Reference.{Reference}
 use Rattle.mj_pcode.specs.declared.instr.Instr.{Instr}
 use Rattle.mj_pcode.specs.declared.instr.Instr.TheVariants as instrs
 use Rattle.mj_pcode.specs.declared.instr.Unit.{Unit as Code}
+use Rattle.mj_pcode.specs.Machine.{is_outside}
 
 -- the variable is shared by all jobs
 abbrev pub is_shared : Scope → Bool
@@ -23,7 +24,8 @@ abbrev pub is_spelling : NameFunction → Bool
 is_spelling functions.Name = true
 is_spelling _ = false
 
--- an instruction may ask. A QUIT of its first frame ends a job, which asks so
+-- An instruction may ask: about a global, to write, to end the job, as a QUIT of its first frame does, to begin a transaction once more, and each that concerns
+-- the world outside, but the USE of a device that is open already
 abbrev pub asks : Instr → Bool
 asks (instrs.Load reference) = is_global reference
 asks (instrs.Store reference depth) = is_global reference
@@ -34,27 +36,11 @@ asks (instrs.MergeTake into reference) = is_global reference
 asks (instrs.CallNameFunction function reference count) = not (is_spelling function) && is_global reference
 asks instrs.Write = true
 asks (instrs.WriteFormat marks) = true
-asks (instrs.WriteTab marks) = true
-asks instrs.WriteByte = true
 asks instrs.Halt = true
 asks instrs.Quit = true
-asks instrs.Hang = true
-asks (instrs.StartJob entry shape wait) = true
-asks instrs.UnlockAll = true
-asks (instrs.Lock references wait) = true
-asks (instrs.Unlock references wait) = true
-asks (instrs.OpenDevice wait) = true
-asks instrs.BeginSession = true
-asks instrs.EndSession = true
-asks instrs.GiveUpFailedDevice = true
-asks instrs.GiveUpDevice = true
-asks (instrs.Read mode wait) = true
-asks (instrs.StartTransaction restores serial) = true
-asks instrs.Commit = true
-asks instrs.RollBackForRestart = true
 asks instrs.BeginRestart = true
-asks instrs.RollBack = true
-asks _ = false
+asks instrs.UseDevice = false
+asks instr = is_outside instr
 
 -- One of the instructions of a line may ask: of those behind the instruction that enters it, up to the one that enters another. `here` says that the
 -- first of these is one of the line's. Behind the last line a job ends that is in no other frame, and asks so from there.

@@ -38,7 +38,7 @@ fn line_asks(instrs: &[Instr], line: u32) -> bool
     here
 }
 
-// Whether an instruction may ask.
+// Whether an instruction may ask: about a global, to write, to end the job, to begin a transaction once more, or of the world outside.
 fn asks(instr: &Instr) -> bool
     ensures { result ≡ asks instr.now }
 {
@@ -52,29 +52,11 @@ fn asks(instr: &Instr) -> bool
         Instr::CallNameFunction(function, reference, _) => {
             *function != NameFunction::Name && is_global(reference)
         }
-        Instr::Write
-        | Instr::WriteFormat(_)
-        | Instr::WriteTab(_)
-        | Instr::WriteByte
-        | Instr::Halt
-        | Instr::Quit
-        | Instr::Hang
-        | Instr::StartJob(_, _, _)
-        | Instr::UnlockAll
-        | Instr::Lock(_, _)
-        | Instr::Unlock(_, _)
-        | Instr::OpenDevice(_)
-        | Instr::BeginSession
-        | Instr::EndSession
-        | Instr::GiveUpFailedDevice
-        | Instr::GiveUpDevice
-        | Instr::Read(_, _)
-        | Instr::StartTransaction(_, _)
-        | Instr::Commit
-        | Instr::RollBackForRestart
-        | Instr::BeginRestart
-        | Instr::RollBack => true,
-        _ => false,
+        Instr::Write | Instr::WriteFormat(_) | Instr::Halt | Instr::Quit | Instr::BeginRestart =>
+            true,
+        // a device that is open already only becomes the current one
+        Instr::UseDevice => false,
+        _ => instr.is_outside(),
     }
 }
 

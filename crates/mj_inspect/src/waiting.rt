@@ -141,7 +141,7 @@ fn job_of<'a>(ask: &'a Ask, reply: &Reply) -> Option<(u32, &'a Start)>
 {
     match ask {
         Ask::Shared(SharedAsk::Start(start, _)) => match reply {
-            Reply::Job(job) => Some((*job, start)),
+            Reply::Job(job) => Some((*job, start.get())),
             _ => None,
         },
         _ => None,

@@ -7,7 +7,7 @@ ghost use Rattle.mj_machine.specs.Kept.{Obeys, Stays, replied};
 
 use crate::actuals::{given_count, spread};
 use crate::timed::{ask_in_time, timeout_of, wait_size};
-use mj_ask::{Ask, Entry, Reply, SharedAsk, Start};
+use mj_ask::{Ask, BoxedStart, Entry, Reply, SharedAsk, Start};
 use mj_machine::quiet::fail;
 use mj_machine::{Machine, TurnOutcome, stack};
 use mj_pcode::{Shape, Wait};
@@ -42,6 +42,7 @@ pub fn start_job(
     let operands = stack::topmost(stack::under(&machine.stack, above), actuals);
     let values = spread(alloc, shape.as_slice(), operands)?;
     let start = Start::new(entry.try_clone()?, values);
-    let ask = Ask::Shared(SharedAsk::Start(start, timeout));
+    let boxed = BoxedStart::new(alloc, start)?;
+    let ask = Ask::Shared(SharedAsk::Start(boxed, timeout));
     ask_in_time(alloc, pc, actuals + above, ask, timeout, machine, given)
 }

@@ -54,7 +54,7 @@ where
 }
 
 // Runs it from what was read.
-fn live_from<R, I, O, E>(
+fn live_from<R: Files + AllocGlobal + Clock + Copy + Drop, I: Read, O: Write, E: Write>(
     rt: R,
     order: &Run<'_>,
     beginning: Beginning<Port<R>>,
@@ -64,11 +64,7 @@ fn live_from<R, I, O, E>(
     err: &mut E,
 ) -> u8
 where
-    R: Files + AllocGlobal + Clock + Copy + Drop,
     R::File: Lockable,
-    I: Read,
-    O: Write,
-    E: Write,
     requires given { WereGiven order.now beginning.starts.items beginning.pool beginning.image beginning.globals.content beginning.steps }
     requires worded { Each IsRoutineWorded (routines_of beginning.image) }
     requires whole { AreWhole beginning.pool }
@@ -100,7 +96,7 @@ fn stop_of<'a>(trouble: &Trouble) -> ProgramError<'a> {
 
 // Runs the job over these devices, which are of the same names as those that it was to begin with, and tells of what it left, which is forgotten, since the
 // process ends behind this.
-fn with_lines<R, O, E, D, G>(
+fn with_lines<R: Files + AllocGlobal + Clock + Drop, O: Write, E: Write, D: Device, G: Opening>(
     rt: &R,
     order: &Run<'_>,
     beginning: Beginning<Port<R>>,
@@ -110,12 +106,7 @@ fn with_lines<R, O, E, D, G>(
     err: &mut E,
 ) -> u8
 where
-    R: Files + AllocGlobal + Clock + Drop,
     R::File: Lockable,
-    O: Write,
-    E: Write,
-    D: Device,
-    G: Opening,
     requires same { pool ≡ beginning.pool }
     requires opening { opening_of beginning.globals.content beginning.pool beginning.starts.items ≡ G.opening }
     requires given { WereGiven order.now beginning.starts.items beginning.pool beginning.image beginning.globals.content beginning.steps }
@@ -148,7 +139,7 @@ where
 }
 
 // Tells of what a live run left, behind what was written of it, and where jobs faulted, if the starts were kept for that, and gives the exit status.
-fn finish<R, W, E, D, G>(
+fn finish<R: Files + AllocGlobal, W: Write + Drop, E: Write, D: Device, G: Opening>(
     rt: &R,
     order: &Run<'_>,
     lived: Lived<D, G, W>,
@@ -157,12 +148,7 @@ fn finish<R, W, E, D, G>(
     err: &mut E,
 ) -> u8
 where
-    R: Files + AllocGlobal,
     R::File: Lockable,
-    W: Write + Drop,
-    E: Write,
-    D: Device,
-    G: Opening,
     requires { IfSome outlet.now.trace (λ t. IsHead lived.core.image G.opening t.opening.items) }
     ensures { result ≤ 4 }
 {
@@ -190,7 +176,7 @@ where
 }
 
 // Writes what is to be written behind it. Where memory was refused for that, there is no status.
-fn tell<R, W, E, D, G>(
+fn tell<R: Files + AllocGlobal, W: Write, E: Write, D: Device, G: Opening>(
     rt: &R,
     order: &Run<'_>,
     core: &Core<D, Sessions<D>, G>,
@@ -201,12 +187,7 @@ fn tell<R, W, E, D, G>(
     err: &mut E,
 ) -> Option<u8>
 where
-    R: Files + AllocGlobal,
     R::File: Lockable,
-    W: Write,
-    E: Write,
-    D: Device,
-    G: Opening,
     requires { IfSome outlet.now.trace (λ t. IsHead core.now.image G.opening t.opening.items) }
     ensures { IfSome result (λ status. status ≤ 4) }
 {
@@ -236,17 +217,11 @@ fn faulted<H: Events>(told: &H) -> u8
 }
 
 // Writes what the jobs wrote that the first one started: as it is printed of a run of so many, behind what that printed of the first one.
-fn show_others<'a, R, W, D, G>(
+fn show_others<'a, R: Files + AllocGlobal, W: Write, D: Device, G: Opening>(
     rt: &R,
     core: &Core<D, Sessions<D>, G>,
     out: &mut W,
-) -> Result<(), ProgramError<'a>>
-where
-    R: Files + AllocGlobal,
-    W: Write,
-    D: Device,
-    G: Opening,
-{
+) -> Result<(), ProgramError<'a>> {
     let jobs = core.jobs() as u32;
     if jobs == 1 {
         return Ok(());

@@ -149,7 +149,7 @@ where
 }
 
 // Steps the jobs, and writes what comes of them. What they leave is forgotten: the process ends behind this, and a drop of it all takes a tenth of a run.
-fn with_files<R, O, E, D, G>(
+fn with_files<R: Files + AllocGlobal, O: Write, E: Write, D: Device, G: Opening>(
     rt: &R,
     order: &Run<'_>,
     beginning: Beginning<D>,
@@ -158,12 +158,7 @@ fn with_files<R, O, E, D, G>(
     err: &mut E,
 ) -> u8
 where
-    R: Files + AllocGlobal,
     R::File: Lockable,
-    O: Write,
-    E: Write,
-    D: Device,
-    G: Opening,
     requires opening { opening_of beginning.globals.content beginning.pool beginning.starts.items ≡ G.opening }
     requires given { WereGiven order.now beginning.starts.items beginning.pool beginning.image beginning.globals.content beginning.steps }
     requires worded { Each IsRoutineWorded (routines_of beginning.image) }

@@ -67,9 +67,9 @@ where
         pool,
         starts,
     } = beginning;
+    let kept = kept_starts(rt.alloc(), &starts, order.hints);
     drop(steps);
     let n = workers.max(1).min(WORKERS_LIMIT);
-    let kept = kept_starts(rt.alloc(), &starts, order.hints);
     let status = match run_together::<D, G, R>(rt, rt.alloc(), n, &image, globals, pool, starts) {
         Ok(ended) => {
             let status = tell_ended(rt, order, outlet, &image, &ended, &kept, out, err);
@@ -87,7 +87,7 @@ where
 
 // Tells of the run that is gathered of what workers leave. Where it can't be gathered, nothing is printed, and there is no trace. Where memory was refused for
 // that, there is no status.
-fn tell_ended<R, O, E, D, G>(
+fn tell_ended<R: Files + AllocGlobal, O: Write, E: Write, D: Device, G: Opening>(
     rt: &R,
     order: &Run<'_>,
     outlet: &Outlet<'_, R::File>,
@@ -98,12 +98,7 @@ fn tell_ended<R, O, E, D, G>(
     err: &mut E,
 ) -> Option<u8>
 where
-    R: Files + AllocGlobal,
     R::File: Lockable,
-    O: Write,
-    E: Write,
-    D: Device,
-    G: Opening,
     requires head { IfSome outlet.now.trace (λ t. IsHead image.now G.opening t.opening.items) }
     requires images { All (λ r. r.image ≡ image.now) ended.now.rans.items }
     ensures { IfSome result (λ status. status ≤ 4) }

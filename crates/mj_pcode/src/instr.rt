@@ -1,5 +1,8 @@
 // Instructions, and the unit that a routine becomes.
 
+ghost use Rattle.std.specs.Prelude.{◌≡◌};
+ghost use Rattle.mj_pcode.specs.Machine.{is_outside};
+
 use crate::labels::Labels;
 use crate::marks::Marks;
 use crate::references::References;
@@ -199,6 +202,36 @@ pub enum Instr {
     BeginRestart,
     /// the transaction is rolled back, and isn't open any more
     RollBack,
+}
+
+impl Instr {
+    /// Whether it concerns more than the operands and the variables of a job: time, jobs, locks, transactions, and devices but for what is written there as it
+    /// stands. The two by which a restart is marked, and goes back, aren't of these.
+    pub fn is_outside(&self) -> bool
+        ensures { result ≡ is_outside self.now }
+    {
+        match self {
+            Instr::WriteTab(_)
+            | Instr::WriteByte
+            | Instr::Hang
+            | Instr::StartJob(_, _, _)
+            | Instr::UnlockAll
+            | Instr::Lock(_, _)
+            | Instr::Unlock(_, _)
+            | Instr::OpenDevice(_)
+            | Instr::BeginSession
+            | Instr::UseDevice
+            | Instr::EndSession
+            | Instr::GiveUpFailedDevice
+            | Instr::GiveUpDevice
+            | Instr::Read(_, _)
+            | Instr::StartTransaction(_, _)
+            | Instr::Commit
+            | Instr::RollBackForRestart
+            | Instr::RollBack => true,
+            _ => false,
+        }
+    }
 }
 
 /// A line as it is found: where its instructions begin, its level, and its formals.

@@ -58,7 +58,7 @@ where
 type Next<'a, F> = (Again, Outlet<'a, F>);
 
 // Begins, or begins again, and answers commands. The exit status, or what goes over where all is to begin again.
-fn begun<'a, R, B, O, E>(
+fn begun<'a, R: Files + AllocGlobal + Copy + Drop, B: BufRead, O: Write, E: Write>(
     rt: R,
     order: &Debug<'a>,
     next: Option<Next<'a, R::File>>,
@@ -67,11 +67,7 @@ fn begun<'a, R, B, O, E>(
     err: &mut E,
 ) -> Result<u8, Next<'a, R::File>>
 where
-    R: Files + AllocGlobal + Copy + Drop,
     R::File: Lockable,
-    B: BufRead,
-    O: Write,
-    E: Write,
     ensures { IfOk result (λ status. status ≤ 4) }
 {
     if let Some(file) = order.replay {
@@ -89,7 +85,7 @@ where
 }
 
 // Begins again, and answers commands. What is ready for what the run leaves stays so: the file to which the globals go is locked all the time.
-fn begun_again<'a, R, B, O, E>(
+fn begun_again<'a, R: Files + AllocGlobal + Copy + Drop, B: BufRead, O: Write, E: Write>(
     rt: R,
     order: &Debug<'a>,
     again: Again,
@@ -99,11 +95,7 @@ fn begun_again<'a, R, B, O, E>(
     err: &mut E,
 ) -> Result<u8, Next<'a, R::File>>
 where
-    R: Files + AllocGlobal + Copy + Drop,
     R::File: Lockable,
-    B: BufRead,
-    O: Write,
-    E: Write,
     ensures { IfOk result (λ status. status ≤ 4) }
 {
     match without_outlet(rt.alloc(), &order.run) {
@@ -117,7 +109,7 @@ where
 }
 
 // Begins again by these words, which are those of before but for what nothing is left of.
-fn begun_with<'a, R, B, O, E>(
+fn begun_with<'a, R: Files + AllocGlobal + Copy + Drop, B: BufRead, O: Write, E: Write>(
     rt: R,
     order: &Debug<'a>,
     run: Run<'a>,
@@ -128,11 +120,7 @@ fn begun_with<'a, R, B, O, E>(
     err: &mut E,
 ) -> Result<u8, Next<'a, R::File>>
 where
-    R: Files + AllocGlobal + Copy + Drop,
     R::File: Lockable,
-    B: BufRead,
-    O: Write,
-    E: Write,
     requires starts { run.starts.items ≡ order.now.run.starts.items }
     requires files { run.files.items ≡ order.now.run.files.items }
     requires devices { run.devices.items ≡ order.now.run.devices.items }
@@ -194,7 +182,7 @@ fn copied<'a>(alloc: Global, words: &[&'a str]) -> Result<Vec<&'a str>, AllocErr
 }
 
 // Opens a trace, and answers commands. The exit status, or what goes over where it is to be opened again.
-fn replayed<'a, R, B, O, E>(
+fn replayed<'a, R: Files + AllocGlobal, B: BufRead, O: Write, E: Write>(
     rt: &R,
     order: &Debug<'a>,
     file: &'a str,
@@ -204,11 +192,7 @@ fn replayed<'a, R, B, O, E>(
     err: &mut E,
 ) -> Result<u8, Next<'a, R::File>>
 where
-    R: Files + AllocGlobal,
     R::File: Lockable,
-    B: BufRead,
-    O: Write,
-    E: Write,
     ensures { IfOk result (λ status. status ≤ 4) }
 {
     match opened(rt, order, file) {
@@ -225,16 +209,13 @@ where
 }
 
 // Says why a trace can't be opened, and gives the exit status. Behind that, where the words ask for hints, it tells more of what is refused.
-fn unopened<'a, R, E>(
+fn unopened<'a, R: Files + AllocGlobal, E: Write>(
     rt: &R,
     order: &Run<'a>,
     file: &'a str,
     stop: &ProgramError<'_>,
     err: &mut E,
 ) -> u8
-where
-    R: Files + AllocGlobal,
-    E: Write,
     ensures { result ≤ 4 }
 {
     let Ok(files) = copied(rt.alloc(), &order.files) else {
@@ -260,7 +241,7 @@ where
 const ALONE: &[u8] = b"    `--replay` goes without `--start`, `--device`, `--save` and `--trace`\n";
 
 // Answers commands from what a trace says that its run began with.
-fn replayed_from<'a, R, B, O, E>(
+fn replayed_from<'a, R: Files + AllocGlobal, B: BufRead, O: Write, E: Write>(
     rt: &R,
     order: &Debug<'a>,
     trace: &Trace,
@@ -270,11 +251,7 @@ fn replayed_from<'a, R, B, O, E>(
     err: &mut E,
 ) -> Result<u8, Next<'a, R::File>>
 where
-    R: Files + AllocGlobal,
     R::File: Lockable,
-    B: BufRead,
-    O: Write,
-    E: Write,
     ensures { IfOk result (λ status. status ≤ 4) }
 {
     let again = match next {
@@ -309,7 +286,7 @@ where
 }
 
 // Answers commands from what was read.
-fn debug_from<'a, R, B, O, E>(
+fn debug_from<'a, R: Files + AllocGlobal + Copy + Drop, B: BufRead, O: Write, E: Write>(
     rt: R,
     order: &Debug<'a>,
     beginning: Beginning<Port<R>>,
@@ -320,11 +297,7 @@ fn debug_from<'a, R, B, O, E>(
     err: &mut E,
 ) -> Result<u8, Next<'a, R::File>>
 where
-    R: Files + AllocGlobal + Copy + Drop,
     R::File: Lockable,
-    B: BufRead,
-    O: Write,
-    E: Write,
     requires given { WereGiven order.now.run beginning.starts.items beginning.pool beginning.image beginning.globals.content beginning.steps }
     requires whole { AreWhole beginning.pool }
     ensures { IfOk result (λ status. status ≤ 4) }
@@ -335,7 +308,7 @@ where
 }
 
 // Answers commands, with a prompt where the words ask for one.
-fn with_prompt<'a, R, B, O, E, D, G>(
+fn with_prompt<'a, R: Files + AllocGlobal, B: BufRead, O: Write, E: Write, D: Device, G: Opening>(
     rt: &R,
     order: &Debug<'a>,
     beginning: Beginning<D>,
@@ -347,13 +320,7 @@ fn with_prompt<'a, R, B, O, E, D, G>(
     err: &mut E,
 ) -> Result<u8, Next<'a, R::File>>
 where
-    R: Files + AllocGlobal,
     R::File: Lockable,
-    B: BufRead,
-    O: Write,
-    E: Write,
-    D: Device,
-    G: Opening,
     requires opening { opening_of beginning.globals.content beginning.pool beginning.starts.items ≡ G.opening }
     requires whole { AreWhole beginning.pool }
     ensures { IfOk result (λ status. status ≤ 4) }
@@ -381,7 +348,7 @@ where
 }
 
 // Answers commands over what the jobs begin with, and notes of how they start.
-fn over<R, B, O, E, D, G>(
+fn over<R: Files + AllocGlobal, B: BufRead, O: Write, E: Write, D: Device, G: Opening>(
     rt: &R,
     order: &Debug<'_>,
     prompt: &Option<Prompt>,
@@ -394,13 +361,7 @@ fn over<R, B, O, E, D, G>(
     err: &mut E,
 ) -> Result<u8, Again>
 where
-    R: Files + AllocGlobal,
     R::File: Lockable,
-    B: BufRead,
-    O: Write,
-    E: Write,
-    D: Device,
-    G: Opening,
     requires opening { opening_of beginning.globals.content beginning.pool beginning.starts.items ≡ G.opening }
     requires whole { AreWhole beginning.pool }
     ensures { IfOk result (λ status. status ≤ 4) }
@@ -418,7 +379,7 @@ where
 }
 
 // Makes a debugger, and answers commands over it.
-fn over_notes<R, B, O, E, D, G>(
+fn over_notes<R: Files + AllocGlobal, B: BufRead, O: Write, E: Write, D: Device, G: Opening>(
     rt: &R,
     order: &Debug<'_>,
     prompt: &Option<Prompt>,
@@ -432,13 +393,7 @@ fn over_notes<R, B, O, E, D, G>(
     err: &mut E,
 ) -> Result<u8, Again>
 where
-    R: Files + AllocGlobal,
     R::File: Lockable,
-    B: BufRead,
-    O: Write,
-    E: Write,
-    D: Device,
-    G: Opening,
     requires opening { opening_of beginning.globals.content beginning.pool beginning.starts.items ≡ G.opening }
     requires whole { AreWhole beginning.pool }
     ensures { IfOk result (λ status. status ≤ 4) }
@@ -480,7 +435,7 @@ where
 }
 
 // Answers commands over a debugger, and writes what is left.
-fn over_debugger<R, B, O, E, D, G>(
+fn over_debugger<R: Files + AllocGlobal, B: BufRead, O: Write, E: Write, D: Device, G: Opening>(
     rt: &R,
     debugger: &mut Debugger<D, Sessions<D>, G>,
     order: &Debug<'_>,
@@ -494,13 +449,7 @@ fn over_debugger<R, B, O, E, D, G>(
     err: &mut E,
 ) -> Result<u8, Again>
 where
-    R: Files + AllocGlobal,
     R::File: Lockable,
-    B: BufRead,
-    O: Write,
-    E: Write,
-    D: Device,
-    G: Opening,
     ensures { IfOk result (λ status. status ≤ 4) }
 {
     match talk(
@@ -527,7 +476,7 @@ fn notes_of(alloc: Global, starts: &[Start]) -> Result<Notes, AllocError>
 
 // Writes the globals, then the trace, and gives the exit status: the greatest where several apply. Where the globals can't be written the trace still is,
 // unless memory was refused.
-fn finish<R, E, D, G>(
+fn finish<R: Files + AllocGlobal, E: Write, D: Device, G: Opening>(
     rt: &R,
     debugger: &Debugger<D, Sessions<D>, G>,
     order: &Debug<'_>,
@@ -536,11 +485,7 @@ fn finish<R, E, D, G>(
     err: &mut E,
 ) -> u8
 where
-    R: Files + AllocGlobal,
     R::File: Lockable,
-    E: Write,
-    D: Device,
-    G: Opening,
     requires { told ≤ 4 }
     ensures { result ≤ 4 }
 {

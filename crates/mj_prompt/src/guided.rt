@@ -26,7 +26,7 @@ pub enum Exchanged {
 }
 
 /// Answers a line at a prompt.
-pub fn guided<'a, R, O, E, D, G>(
+pub fn guided<'a, R: Files + AllocGlobal, O: Write, E: Write, D: Device, G: Opening>(
     rt: &R,
     debugger: &mut Debugger<D, Sessions<D>, G>,
     order: &Debug<'_>,
@@ -37,12 +37,7 @@ pub fn guided<'a, R, O, E, D, G>(
     err: &mut E,
 ) -> Result<Exchanged, ProgramError<'a>>
 where
-    R: Files + AllocGlobal,
     R::File: Lockable,
-    O: Write,
-    E: Write,
-    D: Device,
-    G: Opening,
 {
     let Some(request) = mj_guide::read(rt.alloc(), line)? else {
         print(b"?\n", out)?;
@@ -53,7 +48,7 @@ where
 }
 
 // Does what a request asks for.
-fn done<'a, R, O, E, D, G>(
+fn done<'a, R: Files + AllocGlobal, O: Write, E: Write, D: Device, G: Opening>(
     rt: &R,
     debugger: &mut Debugger<D, Sessions<D>, G>,
     order: &Debug<'_>,
@@ -64,12 +59,7 @@ fn done<'a, R, O, E, D, G>(
     err: &mut E,
 ) -> Result<Exchanged, ProgramError<'a>>
 where
-    R: Files + AllocGlobal,
     R::File: Lockable,
-    O: Write,
-    E: Write,
-    D: Device,
-    G: Opening,
 {
     match request {
         Request::Plain(Command::Quit) => Ok(Exchanged::Over),
@@ -118,7 +108,7 @@ pub fn stop_of<'a>(why: Unanswered) -> ProgramError<'a> {
 
 // Writes the steps that did something to a file, and answers `ok`. Where that can't be, it is told, and the debugger goes on. A file whose name is no text
 // spells no command.
-fn keep<'a, R, O, E>(
+fn keep<'a, R: Files + AllocGlobal, O: Write, E: Write>(
     rt: &R,
     order: &Debug<'_>,
     prompt: &Prompt,
@@ -128,10 +118,7 @@ fn keep<'a, R, O, E>(
     err: &mut E,
 ) -> Result<(), ProgramError<'a>>
 where
-    R: Files + AllocGlobal,
     R::File: Lockable,
-    O: Write,
-    E: Write,
 {
     let Ok(name) = str::from_utf8(file) else {
         print(b"?\n", out)?;
@@ -150,14 +137,13 @@ where
 }
 
 // Writes the steps to a file that is none of the run.
-fn written_steps<'b, R>(
+fn written_steps<'b, R: Files + AllocGlobal>(
     rt: &R,
     order: &Debug<'_>,
     name: &'b str,
     bytes: &[u8],
 ) -> Result<(), ProgramError<'b>>
 where
-    R: Files + AllocGlobal,
     R::File: Lockable,
 {
     written_besides(rt, name, &order.run, order.replay)?;

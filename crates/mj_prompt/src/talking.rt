@@ -37,7 +37,7 @@ pub enum Talked {
 }
 
 /// Makes the steps again that go over, or else those of a trace, and answers commands.
-pub fn talk<R, B, O, E, D, G>(
+pub fn talk<R: Files + AllocGlobal, B: BufRead, O: Write, E: Write, D: Device, G: Opening>(
     rt: &R,
     debugger: &mut Debugger<D, Sessions<D>, G>,
     order: &Debug<'_>,
@@ -50,13 +50,7 @@ pub fn talk<R, B, O, E, D, G>(
     err: &mut E,
 ) -> Result<Talked, AllocError>
 where
-    R: Files + AllocGlobal,
     R::File: Lockable,
-    B: BufRead,
-    O: Write,
-    E: Write,
-    D: Device,
-    G: Opening,
     ensures { IfOk result (λ talked. IsEnd talked debugger.new) }
 {
     if let Some(again) = again {
@@ -90,16 +84,12 @@ where
 
 // Has jobs of which nothing was asked yet make the steps again that go over, notes them, and tells whether the record is that of before, up to the place. The
 // names that were watched stay so. What was told so far.
-fn resumed<'a, O, D, G>(
+fn resumed<'a, O: Write, D: Device, G: Opening>(
     debugger: &mut Debugger<D, Sessions<D>, G>,
     notes: &mut Notes,
     again: Again,
     out: &mut O,
 ) -> Result<Said, ProgramError<'a>>
-where
-    O: Write,
-    D: Device,
-    G: Opening,
     ensures told { IfOk result
         (λ said. IsResumed (history_of again.told.items) debugger.new.core.history (O.contents out.old) (O.contents out.new)) }
     ensures marks { IfOk result (λ said. (line : Place) → is_breakpoint debugger.new.core.image debugger.new.marks line
@@ -141,17 +131,13 @@ fn tell<'a, O: Write>(line: &[u8], out: &mut O) -> Result<(), ProgramError<'a>>
 }
 
 // Has jobs of which nothing was asked yet make the steps of a trace, and tells where the record isn't that of the trace. Whether it isn't.
-fn followed<E, D, G>(
+fn followed<E: Write, D: Device, G: Opening>(
     debugger: &mut Debugger<D, Sessions<D>, G>,
     notes: &mut Notes,
     trace: &Trace,
     hints: bool,
     err: &mut E,
 ) -> Result<bool, AllocError>
-where
-    E: Write,
-    D: Device,
-    G: Opening,
     ensures { IfOk result
         (λ differs. IsOpened (program_of debugger.new.core.image) G.opening trace.now debugger.new.core.history differs) }
 {
@@ -178,7 +164,7 @@ fn tell_apart<E: Write>(line: usize, hints: bool, err: &mut E) {
 }
 
 // Answers commands up to the one that ends, or up to the end of the input, or as far as they can be answered. So far this was told.
-fn converse<R, B, O, E, D, G>(
+fn converse<R: Files + AllocGlobal, B: BufRead, O: Write, E: Write, D: Device, G: Opening>(
     rt: &R,
     debugger: &mut Debugger<D, Sessions<D>, G>,
     order: &Debug<'_>,
@@ -190,13 +176,7 @@ fn converse<R, B, O, E, D, G>(
     err: &mut E,
 ) -> Result<Talked, AllocError>
 where
-    R: Files + AllocGlobal,
     R::File: Lockable,
-    B: BufRead,
-    O: Write,
-    E: Write,
-    D: Device,
-    G: Opening,
     ensures { IfOk result (λ talked. IsEnd talked debugger.new) }
 {
     let mut said = before;
@@ -221,7 +201,7 @@ where
 }
 
 // Reads the next command, and answers it. At a prompt an empty line stands for the last one.
-fn exchange<'a, R, B, O, E, D, G>(
+fn exchange<'a, R: Files + AllocGlobal, B: BufRead, O: Write, E: Write, D: Device, G: Opening>(
     rt: &R,
     debugger: &mut Debugger<D, Sessions<D>, G>,
     order: &Debug<'_>,
@@ -233,13 +213,7 @@ fn exchange<'a, R, B, O, E, D, G>(
     err: &mut E,
 ) -> Result<Exchanged, ProgramError<'a>>
 where
-    R: Files + AllocGlobal,
     R::File: Lockable,
-    B: BufRead,
-    O: Write,
-    E: Write,
-    D: Device,
-    G: Opening,
 {
     let Some(line) = next_line(rt.alloc(), reader)? else {
         return Ok(Exchanged::Over);
@@ -256,17 +230,12 @@ where
 }
 
 // Answers a command without a prompt.
-fn plain<'a, O, D, G>(
+fn plain<'a, O: Write, D: Device, G: Opening>(
     alloc: Global,
     debugger: &mut Debugger<D, Sessions<D>, G>,
     line: &[u8],
     out: &mut O,
-) -> Result<Exchanged, ProgramError<'a>>
-where
-    O: Write,
-    D: Device,
-    G: Opening,
-{
+) -> Result<Exchanged, ProgramError<'a>> {
     let Some(command) = mj_dialogue::read(alloc, line)? else {
         print(b"?\n", out)?;
         return Ok(Exchanged::Answered { full: false });

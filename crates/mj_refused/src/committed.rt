@@ -100,7 +100,7 @@ fn change_all(alloc: Global, globals: &mut Globals, events: &str) -> Result<(), 
 fn change_each(globals: &mut Globals, events: &[Noted]) -> Result<(), AllocError> {
     for event in events {
         if let Ask::Shared(SharedAsk::Access(Access::Set(name, text))) = &event.ask {
-            globals.set(name, text)?;
+            globals.set(name.get(), text)?;
         }
     }
     Ok(())

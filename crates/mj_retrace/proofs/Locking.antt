@@ -34,7 +34,7 @@ use Rattle.mj_txn.specs.Testing.{outcome_of}
 use Rattle.mj_txn.specs.Closing.{unlocked, unlocked_by, commit_closed}
 use Rattle.mj_sys.specs.declared.event.Event.{Event}
 use Rattle.mj_sys.specs.Devices.{Device, device_at, with_device, opened_by}
-use Rattle.mj_sys.specs.Transactions.{after_unlock, closed_as, locks_back}
+use Rattle.mj_sys.specs.Transactions.{unlock_of, after_unlock, closed_as, locks_back}
 use Rattle.mj_sys.specs.Shared.{Shared, open_of, busy, tried, started, has_room, open_free, open_known, open_named, answered, served}
 use Rattle.mj_sys.specs.History.{left_by, after}
 use Rattle.mj_retrace.specs.Retraced.{locked_by}
@@ -75,6 +75,10 @@ unlock_each locks job (entries.Unlock u ∷ rest) =
 unlock_now : (t : Option Transaction) (job : ℕ) (locks : Locks) (u : Unlock) → AreNoHigher locks (after_unlock t job locks u)
 unlock_now None job locks u = unlock locks job u
 unlock_now (Some t) job locks u = same_no_higher locks
+
+unlock_if : (t : Option Transaction) (job : ℕ) (locks : Locks) (o : Option Unlock) → AreNoHigher locks (elim o [ None ↦ locks | Some u ↦ after_unlock t job locks u ])
+unlock_if t job locks None = same_no_higher locks
+unlock_if t job locks (Some u) = unlock_now t job locks u
 
 back : (t : Option Transaction) (job : ℕ) (locks : Locks) → AreNoHigher locks (locks_back t job locks)
 back None job locks = same_no_higher locks
@@ -217,21 +221,18 @@ module _ (s : Shared) (job : ℕ) where
 
   takes_by : (a : SharedAsk) (reply : Reply) (late : Bool) (t : Shared) → answered s job a late ≡ Some (reply, t)
       → Takes s.locks job (locked_by (asks.Shared a) reply) (left_by s (answered s job a true)).locks
-  takes_by (shared_asks.Access a) reply late t is = equal [] _ refl
   takes_by (shared_asks.Try names timeout) reply late t is =
       try_by names timeout reply t late (conflict_of s.locks job names) (is_past_limit (after_take s.locks job names) job) is
-  takes_by (shared_asks.Unlock names) reply late t is = lower [] _ (unlock_now (open_of s job) job s.locks (unlocks.Names names))
-  takes_by shared_asks.UnlockAll reply late t is = lower [] _ (unlock_now (open_of s job) job s.locks unlocks.All)
-  takes_by (shared_asks.Begin kind) reply late t is = equal [] _ refl
   takes_by shared_asks.Commit reply late t is = lower [] _ (close (open_of s job) job s.globals s.locks)
   takes_by shared_asks.Rollback reply late t is = lower [] _ (back (open_of s job) job s.locks)
   takes_by (shared_asks.Open name timeout) reply late t is = equal [] _ (named_leaves name timeout)
-  takes_by (shared_asks.Close name) reply late t is = equal [] _ refl
   takes_by (shared_asks.Start start timeout) reply late t is = equal [] _ (start_leaves start)
   takes_by (shared_asks.Halt fault) reply late t is =
       lower [] _ (
       let backed : Locks = locks_back (open_of s job) job s.locks in
       no_higher_on s.locks backed (after_give_all backed job) (back (open_of s job) job s.locks) (given_all backed job))
+  -- any other gives up what it is an unlock of, if it is one
+  takes_by a reply late t is = lower [] _ (unlock_if (open_of s job) job s.locks (unlock_of (asks.Shared a)))
 
 -- an event that may not change who holds what doesn't
 pub unchanged : (s : Shared) (e : Event) → changes_locks e.ask ≡ false → (after s e).locks ≡ s.locks

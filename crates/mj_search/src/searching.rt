@@ -3,7 +3,7 @@
 ghost use Rattle.std.specs.Prelude.{◌≡◌, ◌≢◌, ◌≤◌, All, IfOk, option_map, true};
 ghost use Rattle.mj_dev.specs.Shelves.{principal};
 ghost use Rattle.mj_sys.specs.Shared.{are_global};
-ghost use Rattle.mj_explore.specs.Scripts.{opening_in, supply_names};
+ghost use Rattle.mj_script.specs.Scripts.{opening_in, supply_names};
 ghost use Rattle.mj_search.specs.Goals.{IsGoalOf};
 
 use crate::printed::{explored_text, refusal_of, refusal_text};
@@ -12,9 +12,10 @@ use mj_begin::{Beginning, begin, file_bytes, refused, routine_bytes, routine_nam
 use mj_chance::put_steps;
 use mj_command_line::Explore;
 use mj_drafts::{Choice, Lockable, ProgramError, Word, print, stopped, tell_trouble, write_file};
-use mj_explore::{Explored, Goal, Script, Search, Source, Supply, Tally, Unread, condition};
+use mj_explore::{Explored, Goal, Search, Tally, condition};
 use mj_files::{BYTES_LIMIT, Side, Trouble, read_device, whole};
 use mj_globs::Globals;
+use mj_script::{Script, Source, Supply, Unread};
 use mj_sys::Opening;
 use mj_text::Fault;
 use std::alloc::{AllocError, Global};
@@ -24,7 +25,7 @@ use std::rt::Files;
 
 /// Makes the runs that are ordered, tells of them, keeps the steps of one that shows what is looked for, and gives the exit status. An expression that faults
 /// over what the first run left is refused: nothing is told of the run then, and no steps are kept.
-pub fn explore<R, I, O, E>(
+pub fn explore<R: Files + AllocGlobal + Copy + Drop, I: Read, O: Write, E: Write>(
     rt: R,
     order: &Explore<'_>,
     input: &mut I,
@@ -32,11 +33,7 @@ pub fn explore<R, I, O, E>(
     err: &mut E,
 ) -> u8
 where
-    R: Files + AllocGlobal + Copy + Drop,
     R::File: Lockable,
-    I: Read,
-    O: Write,
-    E: Write,
     ensures { result ≤ 4 }
 {
     match explored(rt, order, input) {
@@ -67,15 +64,13 @@ fn of_keep<'a>(stop: ProgramError<'a>) -> ProgramError<'a> {
 }
 
 // Makes the runs.
-fn explored<'a, R, I>(
+fn explored<'a, R: Files + AllocGlobal + Copy + Drop, I: Read>(
     rt: R,
     order: &Explore<'a>,
     input: &mut I,
 ) -> Result<Explored, ProgramError<'a>>
 where
-    R: Files + AllocGlobal + Copy + Drop,
     R::File: Lockable,
-    I: Read,
 {
     let goal = goal_of(rt.alloc(), order.until)?;
     let (script, globals) = script_of(rt, order, input)?;
@@ -112,15 +107,13 @@ fn goal_of<'a>(alloc: Global, until: Option<&'a str>) -> Result<Option<Goal>, Pr
 }
 
 // What the runs begin with, read as for any run, and the globals. Standard input is read behind all files.
-fn script_of<'a, R, I>(
+fn script_of<'a, R: Files + AllocGlobal + Copy + Drop, I: Read>(
     rt: R,
     order: &Explore<'a>,
     input: &mut I,
 ) -> Result<(Script, Globals), ProgramError<'a>>
 where
-    R: Files + AllocGlobal + Copy + Drop,
     R::File: Lockable,
-    I: Read,
     ensures { IfOk result (λ r. are_global r.1.content ≡ true) }
 {
     let (beginning, outlet) = begin(rt, &order.run, input)?;
@@ -135,9 +128,10 @@ where
         pool,
         starts,
     } = beginning;
-    drop(steps);
+    // what a core would begin with besides
     drop(image);
     drop(pool);
+    drop(steps);
     match Script::new(rt.alloc(), sources, starts, lines, supplies) {
         Ok(script) => Ok((script, globals)),
         Err(Unread::Memory) => Err(ProgramError::Memory),

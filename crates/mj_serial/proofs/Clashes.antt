@@ -24,9 +24,10 @@ use Rattle.mj_txlog.specs.declared.entry.Unlock.{Unlock}
 use Rattle.mj_txn.specs.Commits.{Hold, DiffersNow}
 use Rattle.mj_txn.specs.Closing.{is_local_write, clash_of}
 use Rattle.mj_txn.specs.declared.changed.Changed.{Changed}
+use Rattle.mj_sys.specs.Transactions.{unlock_of}
 use Rattle.mj_sys.specs.History.{History}
 use Rattle.mj_serial.specs.Programs.{Log, replies_of, Program, IsSteady, Asks, AreAsked}
-use Rattle.mj_serial.specs.Blocks.{Block, stands_from, nowhere, open_after, unlock_of, unlock_entry, entry_of, accesses_of}
+use Rattle.mj_serial.specs.Blocks.{Block, stands_from, nowhere, open_after, unlock_entry, entry_of, accesses_of}
 use Rattle.mj_serial.specs.Alone.{Desk, told_alone, used_after, go, desk_of, others_of}
 use Rattle.mj_serial.specs.Serial.{MustClash}
 use Rattle.mj_serial.specs.Rules.{Exactly, IsKindTold, IsCommitTold, sight_of, sight_behind, committed_by, clashes_at, ClashesMustBy}

@@ -21,8 +21,9 @@ use Rattle.mj_txlog.specs.declared.entry.Unlock.{Unlock}
 use Rattle.mj_txlog.proofs.Alike.{seen_more}
 use Rattle.mj_txn.specs.Commits.{Hold}
 use Rattle.mj_txn.specs.Closing.{is_local_write}
+use Rattle.mj_sys.specs.Transactions.{unlock_of}
 use Rattle.mj_serial.specs.Programs.{Log, replies_of, Program, IsSteady, AreAsked}
-use Rattle.mj_serial.specs.Blocks.{is_taken, unlock_of, unlock_entry, accesses_of}
+use Rattle.mj_serial.specs.Blocks.{is_taken, unlock_entry, accesses_of}
 use Rattle.mj_serial.specs.Alone.{Desk, used_after, told_alone, access_alone, serve_alone, in_front, go, others_of}
 use Rattle.mj_serial.proofs.Logs.{still_needs, used_all, IsKept, Kept, seen_access}
 

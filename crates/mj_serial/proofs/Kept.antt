@@ -19,11 +19,11 @@ use Rattle.mj_txlog.specs.Accesses.{Transaction, is_write, is_full, seen, reply_
 use Rattle.mj_txlog.specs.declared.entry.Entry.TheVariants as entry
 use Rattle.mj_txlog.specs.declared.entry.Unlock.{Unlock}
 use Rattle.mj_txn.specs.Closing.{is_local_write, told_in, after_told}
-use Rattle.mj_sys.specs.Transactions.{is_serial}
+use Rattle.mj_sys.specs.Transactions.{is_serial, unlock_of}
 use Rattle.mj_sys.specs.declared.event.Event.{Event}
 use Rattle.mj_sys.specs.History.{History, log_of}
 use Rattle.mj_serial.specs.Programs.{Log, Program, Asks, AreAsked}
-use Rattle.mj_serial.specs.Blocks.{Block, ScanStand, taken, longer, block_after, stand_after, stands_from, unlock_of, unlock_entry, entry_of, accesses_of}
+use Rattle.mj_serial.specs.Blocks.{Block, ScanStand, taken, longer, block_after, stand_after, stands_from, unlock_entry, entry_of, accesses_of}
 use Rattle.mj_serial.specs.Rules.{Rule, Sight, IsUnlockTold, IsToldByRule, after_unlock_of, transaction_after, sight_after, sight_behind, AreTold}
 use Rattle.mj_serial.proofs.Logs.{asked_more, used_all, used_is, IsKept, KeptAt, Kept, kept_more, accesses_append}
 

@@ -24,11 +24,10 @@ use Rattle.mj_txn.specs.Closing.{commit_closed}
 use Rattle.mj_txn.specs.Testing.{first_changed, outcome_by}
 use Rattle.mj_txn.specs.declared.changed.Changed.{Changed}
 use Rattle.mj_txn.specs.declared.committing.Outcome.TheVariants as outcome
-use Rattle.mj_sys.specs.Transactions.{Transactions, transaction_of, with_transaction, with_access, with_names, begun_as, closed_as}
+use Rattle.mj_sys.specs.Transactions.{Transactions, transaction_of, with_transaction, with_access, with_names, unlock_of, begun_as, closed_as}
 use Rattle.mj_sys.specs.Devices.{Device, Devices, device_at}
 use Rattle.mj_sys.specs.Shared.{Shared, open_of, busy, tried, open_free, open_known, has_room, served}
 use Rattle.mj_sys.specs.History.{left_by}
-use Rattle.mj_serial.specs.Blocks.{unlock_of}
 use Rattle.mj_serial.specs.Rules.{Exactly, IsKindTold, IsCommitTold, committed_as, IsToldByRule, after_unlock_of, transaction_after, globals_left}
 use Rattle.mj_serial.proofs.Tests.{first_none, some_first}
 

@@ -14,9 +14,8 @@ use Rattle.mj_txlog.specs.Accesses.{Accesses}
 use Rattle.mj_txlog.specs.declared.entry.Entry.{Entry}
 use Rattle.mj_txlog.specs.declared.entry.Entry.TheVariants as entry
 use Rattle.mj_txlog.specs.declared.entry.Unlock.{Unlock}
-use Rattle.mj_txlog.specs.declared.entry.Unlock.TheVariants as unlock
 use Rattle.mj_txn.specs.Closing.{is_local_write}
-use Rattle.mj_sys.specs.Transactions.{is_serial}
+use Rattle.mj_sys.specs.Transactions.{is_serial, unlock_of}
 use Rattle.mj_sys.specs.declared.event.Event.{Event}
 use Rattle.mj_sys.specs.History.{History}
 use Rattle.mj_serial.specs.Programs.{Log}
@@ -29,18 +28,13 @@ is_taken a v = not (is_limit v || is_local_write a)
 abbrev pub taken : Access → Answer → Option Entry
 taken a v = if is_taken a v then Some (entry.Access a v) else None
 
--- what an ask gives up, if it is an unlock. So an ask is an access, an unlock, or neither
-abbrev pub unlock_of : Ask → Option Unlock
-unlock_of (asks.Shared (shared_asks.Unlock names)) = Some (unlock.Names names)
-unlock_of (asks.Shared shared_asks.UnlockAll) = Some unlock.All
-unlock_of _ = None
-
 -- an unlock that was done, of those that wait for the commit
 abbrev pub unlock_entry : Option Unlock → Reply → Option Entry
 unlock_entry (Some u) replies.Done = Some (entry.Unlock u)
 unlock_entry _ _ = None
 
--- what an ask and its reply are among the accesses of a transaction, if they are one: a read, a write, or an unlock that waits for the commit
+-- What an ask and its reply are among the accesses of a transaction, if they are one: a read, a write, or an unlock that waits for the commit. An ask is an
+-- access, an unlock, or neither
 abbrev pub entry_of : Ask → Reply → Option Entry
 entry_of (asks.Shared (shared_asks.Access a)) (replies.Answer v) = taken a v
 entry_of (asks.Shared (shared_asks.Access a)) _ = None

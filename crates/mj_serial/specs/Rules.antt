@@ -16,12 +16,11 @@ use Rattle.mj_txlog.specs.declared.entry.Unlock.{Unlock}
 use Rattle.mj_txn.specs.Commits.{HoldsNow, Hold, Differs}
 use Rattle.mj_txn.specs.Closing.{clash_of}
 use Rattle.mj_txn.specs.declared.changed.Changed.{Changed}
-use Rattle.mj_sys.specs.Transactions.{told_to, with_access, with_names, unlock_told, with_waiting, begun_as}
+use Rattle.mj_sys.specs.Transactions.{told_to, with_access, with_names, unlock_of, unlock_told, with_waiting, begun_as}
 use Rattle.mj_sys.specs.Shared.{globals_after}
 use Rattle.mj_sys.specs.declared.event.Event.{Event}
 use Rattle.mj_sys.specs.History.{History, log_of}
 use Rattle.mj_serial.specs.Programs.{Program, IsSteady, AreAsked}
-use Rattle.mj_serial.specs.Blocks.{unlock_of}
 use Rattle.mj_serial.specs.Serial.{AsAlone, MustClash}
 
 -- what the commit of a SERIAL transaction may be told, on these globals and with these accesses

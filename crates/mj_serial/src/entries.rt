@@ -1,10 +1,13 @@
 // What an event is among the accesses of a transaction.
 
-ghost use Rattle.std.specs.Prelude.{◌≡◌, IfOk};
+ghost use Rattle.std.specs.Prelude.{◌≡◌, IfOk, option_map};
+ghost use Rattle.mj_ask.specs.Fits.{given_seen};
+ghost use Rattle.mj_ask.specs.declared.ask.Reply.TheVariants as replies;
 ghost use Rattle.mj_txn.specs.Closing.{is_local_write};
-ghost use Rattle.mj_serial.specs.Blocks.{is_taken, taken, entry_of};
+ghost use Rattle.mj_sys.specs.Transactions.{unlock_as};
+ghost use Rattle.mj_serial.specs.Blocks.{is_taken, taken, unlock_entry, entry_of};
 
-use mj_ask::{Ask, Reply, SharedAsk};
+use mj_ask::{Ask, GivenUp, Reply, SharedAsk};
 use mj_store::{Access, Answer};
 use mj_txlog::{Entry, NameList, Unlock, is_write};
 use std::alloc::{AllocError, Global};
@@ -15,12 +18,22 @@ pub fn entry_of(alloc: Global, ask: &Ask, reply: &Reply) -> Result<Option<Entry>
 {
     match (ask, reply) {
         (Ask::Shared(SharedAsk::Access(access)), Reply::Answer(answer)) => taken(access, answer),
-        (Ask::Shared(SharedAsk::Unlock(names)), Reply::Done) => {
+        (_, Reply::Done) => unlock_entry(alloc, ask.gives_up()),
+        _ => Ok(None),
+    }
+}
+
+// The unlock by which this was given up, if it was one. It was done.
+fn unlock_entry(alloc: Global, given: Option<GivenUp<'_>>) -> Result<Option<Entry>, AllocError>
+    ensures { IfOk result (λ entry. entry ≡ unlock_entry (option_map unlock_as (given_seen given.entry)) replies.Done) }
+{
+    match given {
+        Some(GivenUp::Names(names)) => {
             let list = NameList::of(alloc, names.as_slice())?;
             Ok(Some(Entry::Unlock(Unlock::Names(list))))
         }
-        (Ask::Shared(SharedAsk::UnlockAll), Reply::Done) => Ok(Some(Entry::Unlock(Unlock::All))),
-        _ => Ok(None),
+        Some(GivenUp::All) => Ok(Some(Entry::Unlock(Unlock::All))),
+        None => Ok(None),
     }
 }
 

@@ -1,4 +1,5 @@
 pub mod Nodes
+pub mod Kept
 pub mod Questions
 pub mod Within
 pub mod Changes

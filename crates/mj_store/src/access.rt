@@ -5,7 +5,7 @@ ghost use Rattle.mj_store.specs.Runs.{name_of, answer_of, after_access, answers_
 
 use crate::nodes::Nodes;
 use crate::store::{Direction, Store, is_too_deep};
-use mj_subs::{Name, Sub};
+use mj_subs::{Name, SharedName, Sub};
 use mj_text::{Failure, Fault, Text};
 use std::alloc::{AllocError, Global};
 
@@ -13,21 +13,21 @@ use std::alloc::{AllocError, Global};
 #[derive(Drop)]
 pub enum Access {
     /// the text of a name
-    Value(Name),
+    Value(SharedName),
     /// whether a text stands at a name, and whether one stands below it
-    Data(Name),
+    Data(SharedName),
     /// the next subscript in a direction
-    Order(Name, Direction),
+    Order(SharedName, Direction),
     /// the next name with a text
-    Query(Name),
+    Query(SharedName),
     /// what stands at a name and below it
-    Subtree(Name),
+    Subtree(SharedName),
     /// a name gets a text
-    Set(Name, Text),
+    Set(SharedName, Text),
     /// a name goes, with all below it
-    Kill(Name),
+    Kill(SharedName),
     /// names below a name get texts
-    Put(Name, Nodes),
+    Put(SharedName, Nodes),
 }
 
 impl Access {
@@ -43,7 +43,7 @@ impl Access {
             | Access::Subtree(name)
             | Access::Set(name, _)
             | Access::Kill(name)
-            | Access::Put(name, _) => name,
+            | Access::Put(name, _) => name.get(),
         }
     }
 
@@ -74,7 +74,7 @@ pub enum Answer {
     /// the subscript, if there is one
     Order(Option<Sub>),
     /// the name, if there is one
-    Query(Option<Name>),
+    Query(Option<SharedName>),
     /// the nodes
     Subtree(Nodes),
     /// a change is done
@@ -126,15 +126,15 @@ pub fn perform<S: Store>(store: &mut S, access: &Access) -> Result<Answer, Alloc
 {
     Ok(match access {
         Access::Set(name, text) => {
-            store.set(name, text)?;
+            store.set(name.get(), text)?;
             Answer::Done
         }
         Access::Kill(name) => {
-            store.kill(name);
+            store.kill(name.get());
             Answer::Done
         }
         Access::Put(name, nodes) => {
-            match store.put(name, nodes) {
+            match store.put(name.get(), nodes) {
                 Ok(()) => Answer::Done,
                 Err(Failure::Fault(Fault::Limit)) => Answer::Limit,
                 Err(_) => return Err(AllocError),
@@ -153,20 +153,23 @@ pub fn ask<S: Store>(store: &S, access: &Access) -> Result<Answer, AllocError>
     ensures { IfOk result (λ a. a ≡ answer_of access.now (S.contents store.now)) }
 {
     Ok(match access {
-        Access::Value(name) => match store.value(name) {
+        Access::Value(name) => match store.value(name.get()) {
             None => Answer::Value(None),
             Some(text) => Answer::Value(Some(text.try_clone()?)),
         },
-        Access::Data(name) => Answer::Data(store.data(name)),
-        Access::Order(name, direction) => match store.order(name, *direction) {
+        Access::Data(name) => Answer::Data(store.data(name.get())),
+        Access::Order(name, direction) => match store.order(name.get(), *direction) {
             None => Answer::Order(None),
             Some(next) => Answer::Order(Some(next.try_clone()?)),
         },
-        Access::Query(name) => Answer::Query(store.query(name)?),
-        Access::Subtree(name) => Answer::Subtree(store.subtree(name)?),
+        Access::Query(name) => Answer::Query(SharedName::if_some(
+            name.allocator(),
+            store.query(name.get())?,
+        )?),
+        Access::Subtree(name) => Answer::Subtree(store.subtree(name.get())?),
         Access::Set(_, _) | Access::Kill(_) => Answer::Done,
         Access::Put(name, nodes) => {
-            if is_too_deep(name, nodes.as_slice()) {
+            if is_too_deep(name.get(), nodes.as_slice()) {
                 Answer::Limit
             } else {
                 Answer::Done

@@ -7,19 +7,30 @@ use mj_subs::Subs;
 use mj_text::{Limit, Text};
 use std::alloc::{AllocError, Global};
 use std::marker::Model;
+use std::sync::Arc;
 
-/// Lists of subscripts, each with a text: what stands at a name and below it, by the subscripts that follow the name's.
+/// Lists of subscripts, each with a text: what stands at a name and below it, by the subscripts that follow the name's. Every copy shares them.
 #[derive(Drop)]
 pub struct Nodes {
-    list: Vec<(Subs, Text)>,
+    alloc: Global,
+    kept: Kept,
+}
+
+#[derive(Drop)]
+enum Kept {
+    // No nodes.
+    Empty,
+    // Nodes, which every copy shares.
+    Shared(Arc<Vec<(Subs, Text)>>),
 }
 
 impl Model for Nodes {
     ghost use Rattle.mj_store.specs.Questions.{Subtree};
+    ghost use Rattle.mj_store.specs.Kept.{nodes_of};
 
     ghost Value = { Subtree };
 
-    ghost view = { λ n. n.list.items };
+    ghost view = { λ n. nodes_of n.kept };
 }
 
 impl Nodes {
@@ -28,7 +39,8 @@ impl Nodes {
         ensures { result ≡ [] }
     {
         Nodes {
-            list: Vec::new(alloc),
+            alloc,
+            kept: Kept::Empty,
         }
     }
 
@@ -36,14 +48,34 @@ impl Nodes {
     pub fn as_slice(&self) -> &[(Subs, Text)]
         ensures { result.now ≡ self.now }
     {
-        &self.list
+        match &self.kept {
+            Kept::Empty => &[],
+            Kept::Shared(list) => list.as_slice(),
+        }
     }
 
-    /// Puts one more at the end.
+    /// Puts one more at the end. Nodes that a copy shares are copied first.
     pub fn push(&mut self, subscripts: Subs, text: Text) -> Result<(), AllocError>
         ensures { self.new ≡ (if is_ok result then self.old ++ (subscripts, text) ∷ [] else self.old) }
     {
-        self.list.push((subscripts, text))?;
+        match &mut self.kept {
+            Kept::Empty => {}
+            Kept::Shared(shared) => {
+                if let Some(list) = Arc::get_mut(shared) {
+                    return put_behind(list, subscripts, text);
+                }
+            }
+        }
+        self.push_anew(subscripts, text)
+    }
+
+    // Puts one more behind a list of its own.
+    fn push_anew(&mut self, subscripts: Subs, text: Text) -> Result<(), AllocError>
+        ensures { self.new ≡ (if is_ok result then self.old ++ (subscripts, text) ∷ [] else self.old) }
+    {
+        let mut list = self.copied()?;
+        put_behind(&mut list, subscripts, text)?;
+        self.kept = Kept::Shared(Arc::new(self.alloc, list)?);
         Ok(())
     }
 
@@ -56,12 +88,27 @@ impl Nodes {
             .all(|node| is_node_within(node, limit))
     }
 
+    // The nodes, in memory of their own.
+    fn copied(&self) -> Result<Vec<(Subs, Text)>, AllocError>
+        ensures { IfOk result (λ list. list.items ≡ self.now) }
+    {
+        match &self.kept {
+            Kept::Empty => Ok(Vec::new(self.alloc)),
+            Kept::Shared(list) => copy_of(list),
+        }
+    }
+
     /// A copy.
     pub fn try_clone(&self) -> Result<Nodes, AllocError>
         ensures { IfOk result (λ nodes. nodes ≡ self.now) }
     {
+        let kept = match &self.kept {
+            Kept::Empty => Kept::Empty,
+            Kept::Shared(list) => Kept::Shared(list.clone()?),
+        };
         Ok(Nodes {
-            list: self.list.clone()?,
+            alloc: self.alloc,
+            kept,
         })
     }
 }
@@ -71,4 +118,19 @@ fn is_node_within(node: &(Subs, Text), limit: Limit) -> bool
     ensures { result ≡ is_node_within limit node.now }
 {
     node.0.are_within(limit) && node.1.is_within(limit)
+}
+
+// Puts a node behind others.
+fn put_behind(list: &mut Vec<(Subs, Text)>, subscripts: Subs, text: Text) -> Result<(), AllocError>
+    ensures { list.new.items ≡ (if is_ok result then list.old.items ++ (subscripts, text) ∷ [] else list.old.items) }
+{
+    list.push((subscripts, text))?;
+    Ok(())
+}
+
+// The nodes of a list, in memory of their own.
+fn copy_of(list: &Vec<(Subs, Text)>) -> Result<Vec<(Subs, Text)>, AllocError>
+    ensures { IfOk result (λ copy. copy.items ≡ list.now.items) }
+{
+    list.clone()
 }

@@ -15,7 +15,7 @@ pub fn is_same_answer(one: &Answer, other: &Answer) -> bool
         (Answer::Data(a), Answer::Data(b)) => a == b,
         (Answer::Order(a), Answer::Order(b)) => a == b,
         (Answer::Query(None), Answer::Query(None)) => true,
-        (Answer::Query(Some(a)), Answer::Query(Some(b))) => is_same_name(a, b),
+        (Answer::Query(Some(a)), Answer::Query(Some(b))) => is_same_name(a.get(), b.get()),
         (Answer::Subtree(a), Answer::Subtree(b)) => are_same_nodes(a.as_slice(), b.as_slice()),
         (Answer::Done, Answer::Done) | (Answer::Limit, Answer::Limit) => true,
         _ => false,

@@ -6,11 +6,13 @@
 #![tactic(auto)]
 
 mod name;
+mod shared;
 mod sub;
 mod subs;
 mod word;
 
 pub use name::Name;
+pub use shared::SharedName;
 pub use sub::Sub;
 pub use subs::{SUBSCRIPTS_LIMIT, Subs};
 pub use word::{WORD_LIMIT, is_word};

@@ -1,13 +1,14 @@
 // A name of a variable or of one of its nodes.
 
-ghost use Rattle.std.specs.Prelude.{◌≡◌, ◌↔◌, ◌&&◌, true, false, IsTrue, IfOk};
+ghost use Rattle.std.specs.Prelude.{◌≡◌, ◌↔◌, ◌&&◌, [], true, false, IsTrue, IfOk};
 ghost use Rattle.std.specs.Str.{bytes_eq};
 ghost use Rattle.mj_subs.specs.Name.{kinds_eq, is_above, overlaps, IsAbove, Overlaps};
 
 use crate::subs::Subs;
 use mj_text::Text;
-use std::alloc::AllocError;
+use std::alloc::{AllocError, Global};
 use std::cmp::Ordering;
+use std::default::MadeWith;
 use std::marker::Model;
 
 /// A name: global or local, a word, and a list of subscripts, which is empty where the variable itself is meant.
@@ -186,5 +187,17 @@ impl Ord for Name {
             .cmp(&self.global)
             .then(self.word.cmp_bytes(&other.word))
             .then(self.subscripts.cmp(&other.subscripts))
+    }
+}
+
+impl MadeWith<Global> for Name {
+    ghost is_made_with = { λ n. n ≡ record { global = true; word = []; subscripts = [] } };
+
+    fn made_with(alloc: Global) -> Name {
+        Name {
+            global: true,
+            word: Text::new(alloc),
+            subscripts: Subs::new(alloc),
+        }
     }
 }

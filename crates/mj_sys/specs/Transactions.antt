@@ -1,11 +1,14 @@
 -- The transactions that jobs have open, and what each kind of ask makes of one.
-use Rattle.std.specs.Prelude.{ℕ, zero, suc, Bool, true, false, List, [], map, slice_set, Option, Some, None, if◌then◌else◌}
+use Rattle.std.specs.Prelude.{ℕ, zero, suc, Bool, true, false, List, [], map, slice_set, Option, Some, None, option_map, if◌then◌else◌}
 use Rattle.std.specs.List.{slice_index_or}
 use Rattle.mj_subs.specs.Name.{Name}
 use Rattle.mj_store.specs.Questions.{Content}
 use Rattle.mj_store.specs.Runs.{answer_of}
 use Rattle.mj_store.specs.declared.access.Access.{Access}
 use Rattle.mj_store.specs.declared.access.Answer.{Answer}
+use Rattle.mj_ask.specs.Fits.{GivenUp, gives_up}
+use Rattle.mj_ask.specs.Fits as given
+use Rattle.mj_ask.specs.declared.ask.Ask.{Ask}
 use Rattle.mj_ask.specs.declared.ask.Kind.{Kind}
 use Rattle.mj_ask.specs.declared.ask.Kind.TheVariants as kinds
 use Rattle.mj_ask.specs.declared.ask.Reply.{Reply}
@@ -14,6 +17,7 @@ use Rattle.mj_locktab.specs.Locks.{Locks}
 use Rattle.mj_txlog.specs.Accesses.{Transaction, is_full, with_unlock, with_gained}
 use Rattle.mj_txlog.specs.Logged.{Logged}
 use Rattle.mj_txlog.specs.declared.entry.Unlock.{Unlock}
+use Rattle.mj_txlog.specs.declared.entry.Unlock.TheVariants as unlocks
 use Rattle.mj_sys.specs.declared.passed.PassedWord.{PassedWord}
 use Rattle.mj_txn.specs.Closing.{told_in, after_told, unlocked_by, rolled_back, Closed, committed}
 
@@ -74,6 +78,15 @@ with_access (Some t) globals a = Some (after_told t globals a)
 abbrev pub with_names : Option Transaction → List Name → Option Transaction
 with_names None names = None
 with_names (Some t) names = Some (with_gained t names)
+
+-- what is given up, as a transaction keeps it
+abbrev pub unlock_as : GivenUp → Unlock
+unlock_as (given.TheNames names) = unlocks.Names names
+unlock_as given.AllNames = unlocks.All
+
+-- what an ask gives up, if it is an unlock
+abbrev pub unlock_of : Ask → Option Unlock
+unlock_of a = option_map unlock_as (gives_up a)
 
 -- What an unlock is told: where a transaction is open it is one of its accesses, of which there may be no more than so many
 abbrev pub unlock_told : Option Transaction → Reply

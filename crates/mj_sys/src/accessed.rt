@@ -27,19 +27,21 @@ pub fn answer(globals: &mut Globals, access: &Access) -> Result<(Reply, Reply), 
 {
     match access {
         Access::Set(name, text) => {
+            let name = name.get();
             if name.is_global() {
                 globals.set(name, text)?;
             }
             Ok((Reply::Answer(Answer::Done), Reply::Answer(Answer::Done)))
         }
         Access::Kill(name) => {
+            let name = name.get();
             if name.is_global() {
                 globals.kill(name);
             }
             Ok((Reply::Answer(Answer::Done), Reply::Answer(Answer::Done)))
         }
         Access::Put(name, nodes) => {
-            if put(globals, name, nodes)? {
+            if put(globals, name.get(), nodes)? {
                 Ok((Reply::Answer(Answer::Done), Reply::Answer(Answer::Done)))
             } else {
                 Ok((Reply::Answer(Answer::Limit), Reply::Answer(Answer::Limit)))

@@ -269,7 +269,7 @@ impl<D: Device> Shared<D> {
                 self.close(job, name);
                 Ok(Answered::Told(Reply::Done, Reply::Done))
             }
-            SharedAsk::Start(start, timeout) => self.start(job, start, *timeout, late),
+            SharedAsk::Start(start, timeout) => self.start(job, start.get(), *timeout, late),
             SharedAsk::Halt(_) => {
                 self.roll_back(job);
                 self.halt(job);

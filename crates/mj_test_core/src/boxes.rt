@@ -1,13 +1,13 @@
 // Devices of the tests, which fail once and count their drops, in a pool.
 
-use mj_dev::{Counted, Fail, Pool};
+use mj_dev::{Counts, Fail, Pool, Watched};
 use mj_text::{Failure, Text};
 use std::alloc::{AllocError, Global};
 use std::sync::Arc;
 use std::sync::atomic::{AtomicU64, Ordering};
 
 /// The devices of the tests.
-pub type Counting = Counted<Fail>;
+pub type Counting = Watched<Fail, Counts>;
 
 /// The drops of the device `F`, of which there is one, and those of the two principal devices.
 #[derive(Drop)]
@@ -144,9 +144,9 @@ fn put(
     drops: &Arc<AtomicU64, Global>,
 ) -> Result<(), Failure> {
     let drops = Arc::try_clone(drops)?;
-    let device = Counted {
+    let device = Watched {
         device: Fail::new(alloc, at),
-        drops,
+        watch: Counts { drops },
     };
     match pool.add(name, device) {
         Ok(()) => Ok(()),

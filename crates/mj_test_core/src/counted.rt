@@ -3,7 +3,6 @@
 ghost use Rattle.std.specs.Prelude.{◌≡◌, ◌≤◌, length, true, IfOk};
 ghost use Rattle.mj_text.specs.declared.limit.Limit.TheVariants.{V2};
 ghost use Rattle.mj_dev.specs.Shelves.{principal, left_of};
-ghost use Rattle.mj_jobs.specs.Rows.{rows_limit};
 ghost use Rattle.mj_sys.specs.Opening.{opening_of, are_bare};
 ghost use Rattle.mj_sys.specs.Shared.{are_global};
 
@@ -180,8 +179,7 @@ fn run<D: Device, O: Opening>(
     requires long { image.bounds.limit ≡ V2 }
     requires opening { opening_of globals.content pool starts.items ≡ O.opening }
     requires global { are_global globals.content ≡ true }
-    requires some { 1 ≤ length starts.items }
-    requires few { length starts.items ≤ rows_limit }
+    requires one { length starts.items ≡ 1 }
     requires fits { length starts.items ≤ left_of principal pool }
     requires bare { are_bare starts.items ≡ true }
 {

@@ -3,7 +3,7 @@
 use mj_ask::{Ask, BoxedClash, Clash, Kept, Kind, Reply, SharedAsk};
 use mj_serial::{Block, serial_blocks};
 use mj_store::{Access, Answer};
-use mj_subs::{Name, Subs};
+use mj_subs::{Name, SharedName, Subs};
 use mj_sys::Event;
 use mj_text::{Failure, Text};
 use std::alloc::Global;
@@ -118,7 +118,7 @@ fn clash(alloc: Global) -> Result<BoxedClash, Failure> {
 }
 
 fn read(alloc: Global, history: &mut Vec<Event>, job: u32) -> Result<(), Failure> {
-    let name = name(alloc, "A")?;
+    let name = SharedName::new(alloc, name(alloc, "A")?)?;
     let ask = Ask::Shared(SharedAsk::Access(Access::Value(name)));
     add(history, job, ask, Reply::Answer(Answer::Value(None)))
 }
@@ -134,7 +134,7 @@ fn set(alloc: Global, history: &mut Vec<Event>, job: u32, word: &str) -> Result<
 }
 
 fn set_to_1(alloc: Global, word: &str) -> Result<Access, Failure> {
-    let name = name(alloc, word)?;
+    let name = SharedName::new(alloc, name(alloc, word)?)?;
     match Text::from(alloc, b"1") {
         Ok(text) => Ok(Access::Set(name, text)),
         Err(failure) => {

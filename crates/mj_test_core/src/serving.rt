@@ -13,7 +13,7 @@ use mj_dev::{Memory, Pool};
 use mj_globs::Globals;
 use mj_num::Num;
 use mj_store::{Access, Direction};
-use mj_subs::{Name, Sub, Subs};
+use mj_subs::{Name, SharedName, Sub, Subs};
 use mj_sys::{Claim, Opening, Served, System};
 use mj_text::{Failure, Text};
 use mj_trace::{Form, event_line};
@@ -359,7 +359,7 @@ fn ask_by(alloc: Global, words: &[&str]) -> Result<Option<Ask>, Failure> {
         [_, "set", name, text, ..] => Ok(Some(Ask::Shared(SharedAsk::Access(set_of(
             alloc, name, text,
         )?)))),
-        [_, what, name, ..] => access_of(what, name_of(alloc, name)?),
+        [_, what, name, ..] => access_of(what, shared_name(alloc, name)?),
         _ => Ok(None),
     }
 }
@@ -381,7 +381,7 @@ fn try_of(alloc: Global, name: &str, at_once: bool) -> Result<Option<Ask>, Failu
 }
 
 fn set_of(alloc: Global, name: &str, text: &str) -> Result<Access, Failure> {
-    let name = name_of(alloc, name)?;
+    let name = shared_name(alloc, name)?;
     match text_of(alloc, text) {
         Ok(text) => Ok(Access::Set(name, text)),
         Err(failure) => {
@@ -392,7 +392,7 @@ fn set_of(alloc: Global, name: &str, text: &str) -> Result<Access, Failure> {
 }
 
 // Another access.
-fn access_of(what: &str, name: Name) -> Result<Option<Ask>, Failure> {
+fn access_of(what: &str, name: SharedName) -> Result<Option<Ask>, Failure> {
     let access = match what {
         "value" => Access::Value(name),
         "data" => Access::Data(name),
@@ -404,6 +404,11 @@ fn access_of(what: &str, name: Name) -> Result<Option<Ask>, Failure> {
         }
     };
     Ok(Some(Ask::Shared(SharedAsk::Access(access))))
+}
+
+fn shared_name(alloc: Global, name: &str) -> Result<SharedName, Failure> {
+    let name = name_of(alloc, name)?;
+    Ok(SharedName::new(alloc, name)?)
 }
 
 // A global of one letter, with what stands in brackets as its subscript, if it has one.

@@ -5,7 +5,9 @@
 ghost use Rattle.std.specs.Prelude.{[], IfOk};
 ghost use Rattle.mj_dev.specs.Heard.{IsFresh};
 
-use mj_dev::{Code, Counted, Cursor, Device, Did, Fail, Input, Memory, Pool, Session, State};
+use mj_dev::{
+    Code, Counts, Cursor, Device, Did, Fail, Input, Memory, Pool, Session, State, Watched,
+};
 use mj_text::{Digits, TEXT_LIMIT, Text};
 use std::alloc::{AllocError, Global};
 use std::process::Abort;
@@ -29,24 +31,26 @@ fn boxes_are_dropped_once(rt: HostRuntime) -> Result<(), test::Fail> {
 fn counted_lines(
     alloc: Global,
     drops: &Arc<AtomicU64, Global>,
-) -> Result<Counted<Memory>, AllocError>
+) -> Result<Watched<Memory, Counts>, AllocError>
     ensures { IfOk result (λ c. IsFresh c.device.failures c.device.taken c.device.given) }
 {
     let drops = Arc::try_clone(drops)?;
     let device = Memory::new(alloc, b"hi\n".to_vec(alloc)?);
-    Ok(Counted { device, drops })
+    let watch = Counts { drops };
+    Ok(Watched { device, watch })
 }
 
 fn counted_fail(
     alloc: Global,
     at: u64,
     drops: &Arc<AtomicU64, Global>,
-) -> Result<Counted<Fail>, AllocError>
+) -> Result<Watched<Fail, Counts>, AllocError>
     ensures { IfOk result (λ c. IsFresh c.device.failures c.device.taken []) }
 {
     let drops = Arc::try_clone(drops)?;
     let device = Fail::new(alloc, at);
-    Ok(Counted { device, drops })
+    let watch = Counts { drops };
+    Ok(Watched { device, watch })
 }
 
 fn fill_and_talk<D: Device, R: Abort>(

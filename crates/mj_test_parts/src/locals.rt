@@ -6,7 +6,7 @@ ghost use Rattle.mj_store.specs.Runs.{name_of};
 
 use mj_locals::{Locals, perform};
 use mj_store::{Access, Direction, Nodes};
-use mj_subs::{Name, Sub, Subs};
+use mj_subs::{Name, SharedName, Sub, Subs};
 use mj_text::{Failure, Text};
 use std::alloc::Global;
 use std::test::Fail;
@@ -263,7 +263,7 @@ fn pass(alloc: Global, locals: &mut Locals, list: &[&str], first: u8) -> Result<
 }
 
 fn give(alloc: Global, locals: &mut Locals, word: &str, value: u8) -> Result<(), Failure> {
-    let name = name(alloc, word)?;
+    let name = SharedName::new(alloc, name(alloc, word)?)?;
     set(
         locals,
         Access::Set(name, Text::from_number(alloc, i64::from(value))),

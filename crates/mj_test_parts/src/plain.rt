@@ -6,7 +6,7 @@ ghost use Rattle.std.specs.Prelude.{◌<◌};
 use crate::chance::Chance;
 use mj_globs::Globals;
 use mj_store::{Access, Answer, Direction, Nodes, Store, ask, is_same_answer, perform};
-use mj_subs::{Name, Sub, Subs};
+use mj_subs::{Name, SharedName, Sub, Subs};
 use mj_text::{Failure, Text};
 use mj_txlog::{Entry, Skips, TxLog, Unlock, is_write};
 use mj_txn::{Outcome, commit};
@@ -262,7 +262,7 @@ fn give(alloc: Global, globals: &mut Globals, name: &Name, value: u64) -> Result
 }
 
 fn access(alloc: Global, chance: &mut Chance) -> Result<Access, Failure> {
-    let name = name(alloc, chance)?;
+    let name = SharedName::new(alloc, name(alloc, chance)?)?;
     Ok(match chance.below(11) {
         0 => Access::Value(name),
         1 => Access::Data(name),

@@ -2,7 +2,7 @@
 
 use mj_globs::Globals;
 use mj_store::{Access, Store};
-use mj_subs::{Name, Subs};
+use mj_subs::{Name, SharedName, Subs};
 use mj_text::{Failure, Text};
 use mj_txlog::{Skips, TxLog};
 use mj_txn::{Outcome, commit};
@@ -54,8 +54,9 @@ fn committed_on(
     between: Between,
 ) -> Result<(u32, bool), Failure> {
     set(alloc, globals, "A", "5")?;
+    let name = SharedName::new(alloc, named(alloc, "A")?)?;
     let mut skips = Skips::new(alloc);
-    let told = log.see(globals, &mut skips, Access::Value(named(alloc, "A")?));
+    let told = log.see(globals, &mut skips, Access::Value(name));
     drop(skips);
     drop(told?);
     change(alloc, globals, between)?;

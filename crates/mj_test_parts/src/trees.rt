@@ -3,8 +3,8 @@
 
 use crate::chance::Chance;
 use mj_globs::{Change, Globals};
-use mj_store::{Access, Answer, Direction, Flat, Nodes, Store, perform};
-use mj_subs::{Name, Sub, Subs};
+use mj_store::{Access, Answer, Direction, Flat, Nodes, Store, is_same_answer, perform};
+use mj_subs::{Name, SharedName, Sub, Subs};
 use mj_text::{Failure, Fault, Text};
 use std::alloc::Global;
 use std::test::Fail;
@@ -92,7 +92,7 @@ fn is_alike(
 
 fn is_answer(list: &mut Flat, access: &Access, answer: &Answer) -> Result<bool, Failure> {
     let plain = perform(list, access)?;
-    let alike = is_same(answer, &plain);
+    let alike = is_same_answer(answer, &plain);
     drop(plain);
     Ok(alike)
 }
@@ -160,9 +160,9 @@ fn one_node(alloc: Global, chosen: &mut Chosen, count: u64) -> Result<Nodes, Fai
 
 fn access(alloc: Global, chosen: &mut Chosen) -> Result<Access, Failure> {
     if chosen.of_rows && chosen.step % 256 < 24 {
-        return Ok(Access::Kill(in_the_middle(alloc, chosen.step)?));
+        return Ok(Access::Kill(SharedName::new(alloc, in_the_middle(alloc, chosen.step)?)?));
     }
-    let name = name(alloc, chosen)?;
+    let name = SharedName::new(alloc, name(alloc, chosen)?)?;
     Ok(match chosen.chance.below(14) {
         0 => Access::Kill(name),
         1 => Access::Put(name, nodes(alloc, chosen)?),
@@ -238,16 +238,4 @@ fn nodes(alloc: Global, chosen: &mut Chosen) -> Result<Nodes, Failure> {
 
 fn number(alloc: Global, chosen: &mut Chosen) -> Text {
     Text::from_number(alloc, chosen.chance.below(100) as i64)
-}
-
-fn is_same(a: &Answer, b: &Answer) -> bool {
-    match (a, b) {
-        (Answer::Value(a), Answer::Value(b)) => a == b,
-        (Answer::Data(a), Answer::Data(b)) => a == b,
-        (Answer::Order(a), Answer::Order(b)) => a == b,
-        (Answer::Query(a), Answer::Query(b)) => a == b,
-        (Answer::Subtree(a), Answer::Subtree(b)) => a.as_slice() == b.as_slice(),
-        (Answer::Done, Answer::Done) | (Answer::Limit, Answer::Limit) => true,
-        _ => false,
-    }
 }

@@ -1,57 +1,21 @@
-// Devices that hold at a write, and such as fail at each.
+// What holds at a write to a device, and devices that fail at each.
 
 use crate::gates::{Hold, Meeting};
-use mj_dev::{Device, Did, Input};
+use mj_dev::{Device, Did, Input, Watch};
 use mj_text::Text;
 use std::rt::Clock;
 
-/// A device that does as another does, but holds at a write.
+/// Holds a job at a write to its device.
 #[derive(Drop)]
-pub struct Holder<'a, D: Device, R: Clock> {
-    pub device: D,
+pub struct Holder<'a, R: Clock> {
     pub meeting: &'a Meeting<'a, R>,
-    /// the job that has it
+    /// the job that has the device
     pub job: u32,
 }
 
-impl<'a, D: Device, R: Clock> Device for Holder<'a, D, R> {
-    ghost failures = { λ h. D.failures h.device };
-
-    ghost taken = { λ h. D.taken h.device };
-
-    ghost given = { λ h. D.given h.device };
-
-    ghost inside = { λ h. D.inside h.device };
-
-    ghost IsTold = { λ h. D.IsTold h.device };
-
-    fn begin(&mut self) -> Did {
-        self.device.begin()
-    }
-
-    fn write(&mut self, bytes: &[u8]) -> Did {
+impl<'a, R: Clock> Watch for Holder<'a, R> {
+    fn writes(&self) {
         self.meeting.come(self.job, Hold::Write);
-        self.device.write(bytes)
-    }
-
-    fn read(&mut self) -> Input {
-        self.device.read()
-    }
-
-    fn end(&mut self) -> Did {
-        self.device.end()
-    }
-
-    fn failures(&self) -> u64 {
-        self.device.failures()
-    }
-
-    fn taken(&self) -> &[u8] {
-        self.device.taken()
-    }
-
-    fn given(&self) -> &[Text] {
-        self.device.given()
     }
 }
 

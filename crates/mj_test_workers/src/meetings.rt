@@ -11,7 +11,7 @@ ghost use Rattle.mj_sys.specs.Opening.{opening_of, are_bare};
 use crate::gates::{Hold, Meeting, Tries};
 use crate::holders::{Holder, Refuser};
 use mj_ask::{Ask, SharedAsk, Start};
-use mj_dev::{Device, Memory, Pool};
+use mj_dev::{Device, Memory, Pool, Watched};
 use mj_globs::Globals;
 use mj_load::Image;
 use mj_sys::{Opening, System};
@@ -141,19 +141,17 @@ fn pool<'a, D: Device, R: Clock>(
     meeting: &'a Meeting<'a, R>,
     one: D,
     two: D,
-) -> Result<Pool<Holder<'a, D, R>>, Failure>
+) -> Result<Pool<Watched<D, Holder<'a, R>>>, Failure>
     requires one { IsFresh (D.failures one) (D.taken one) (D.given one) }
     requires two { IsFresh (D.failures two) (D.taken two) (D.given two) }
 {
-    let first = Holder {
+    let first = Watched {
         device: one,
-        meeting,
-        job: 1,
+        watch: Holder { meeting, job: 1 },
     };
-    let second = Holder {
+    let second = Watched {
         device: two,
-        meeting,
-        job: 2,
+        watch: Holder { meeting, job: 2 },
     };
     filled(alloc, first, second)
 }

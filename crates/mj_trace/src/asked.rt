@@ -7,12 +7,12 @@ ghost use Rattle.mj_trace.specs.Reading.{close_in, shared_with, device_with, dev
 
 use crate::devices::timed_ask;
 use crate::found::{Found, find_text, read_count, read_number};
-use crate::members::{find_name, find_names, find_subtree, find_values};
+use crate::members::{find_names, find_shared_name, find_subtree, find_values};
 use crate::run::{Run, begins_with, skip, split};
-use mj_ask::{Ask, DeviceAsk, Entry, Kind, SharedAsk, Start};
+use mj_ask::{Ask, BoxedStart, DeviceAsk, Entry, Kind, SharedAsk, Start};
 use mj_num::Num;
 use mj_store::{Access, Direction};
-use mj_subs::Name;
+use mj_subs::SharedName;
 use mj_text::Fault;
 use std::alloc::{AllocError, Global};
 
@@ -199,7 +199,8 @@ fn find_start<'a>(alloc: Global, bytes: &'a [u8]) -> Result<Found<'a, SharedAsk>
         Ok(Some((values, more))) => {
             let (timeout, rest) = read_timeout(more);
             let start = Start::new(entry, values.into_list());
-            Ok(Some((SharedAsk::Start(start, timeout), rest)))
+            let boxed = BoxedStart::new(alloc, start)?;
+            Ok(Some((SharedAsk::Start(boxed, timeout), rest)))
         }
         Ok(None) => {
             drop(entry);
@@ -277,7 +278,7 @@ fn find_access<'a>(
 ) -> Result<Found<'a, SharedAsk>, AllocError>
     ensures { IfOk result (λ r. option_map (λ p. (p.0, p.1.now)) r ≡ access_in word.now bytes.now) }
 {
-    let Some((name, behind)) = find_name(alloc, bytes)? else {
+    let Some((name, behind)) = find_shared_name(alloc, bytes)? else {
         return Ok(None);
     };
     match find_access_with(alloc, word, name, behind)? {
@@ -290,7 +291,7 @@ fn find_access<'a>(
 fn find_access_with<'a>(
     alloc: Global,
     word: &[u8],
-    name: Name,
+    name: SharedName,
     rest: &'a [u8],
 ) -> Result<Found<'a, Access>, AllocError>
     ensures { IfOk result (λ r. option_map (λ p. (p.0, p.1.now)) r ≡ access_with word.now name rest.now) }

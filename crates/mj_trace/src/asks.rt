@@ -71,7 +71,7 @@ fn put_shared(alloc: Global, bytes: &mut Vec<u8>, ask: &SharedAsk) -> Result<(),
             bytes.extend_from_slice(b"close ")?;
             put_text(bytes, device)
         }
-        SharedAsk::Start(start, timeout) => put_start(alloc, bytes, start, *timeout),
+        SharedAsk::Start(start, timeout) => put_start(alloc, bytes, start.get(), *timeout),
         SharedAsk::Halt(fault) => {
             bytes.extend_from_slice(b"halt")?;
             put_fault(bytes, *fault)
@@ -104,23 +104,23 @@ fn put_access(bytes: &mut Vec<u8>, access: &Access) -> Result<(), AllocError>
     ensures fits { OnOk result (access_fits access.now ≡ true) }
 {
     match access {
-        Access::Value(name) => put_named(bytes, b"value ", name),
-        Access::Data(name) => put_named(bytes, b"data ", name),
+        Access::Value(name) => put_named(bytes, b"value ", name.get()),
+        Access::Data(name) => put_named(bytes, b"data ", name.get()),
         Access::Order(name, direction) => {
-            put_named(bytes, b"order ", name)?;
+            put_named(bytes, b"order ", name.get())?;
             bytes.push(b' ')?;
             put_direction(bytes, *direction)
         }
-        Access::Query(name) => put_named(bytes, b"query ", name),
-        Access::Subtree(name) => put_named(bytes, b"subtree ", name),
+        Access::Query(name) => put_named(bytes, b"query ", name.get()),
+        Access::Subtree(name) => put_named(bytes, b"subtree ", name.get()),
         Access::Set(name, text) => {
-            put_named(bytes, b"set ", name)?;
+            put_named(bytes, b"set ", name.get())?;
             bytes.push(b' ')?;
             put_text(bytes, text)
         }
-        Access::Kill(name) => put_named(bytes, b"kill ", name),
+        Access::Kill(name) => put_named(bytes, b"kill ", name.get()),
         Access::Put(name, nodes) => {
-            put_named(bytes, b"put ", name)?;
+            put_named(bytes, b"put ", name.get())?;
             bytes.push(b' ')?;
             put_subtree(bytes, nodes)
         }

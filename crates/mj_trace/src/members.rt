@@ -11,7 +11,7 @@ use crate::lists::{List, read_all, read_closed};
 use crate::run::{Run, begins_with, skip, split};
 use mj_ask::Names;
 use mj_store::Nodes;
-use mj_subs::{Name, SUBSCRIPTS_LIMIT, Sub, Subs, is_word};
+use mj_subs::{Name, SUBSCRIPTS_LIMIT, SharedName, Sub, Subs, is_word};
 use mj_text::Text;
 use std::alloc::{AllocError, Global};
 use std::marker::Model;
@@ -52,6 +52,19 @@ pub(crate) fn find_name<'a>(alloc: Global, bytes: &'a [u8]) -> Result<Found<'a, 
         find_name_of(alloc, true, skip(bytes))
     } else {
         find_name_of(alloc, false, bytes)
+    }
+}
+
+/// Finds the name at the front, for what shares it.
+pub(crate) fn find_shared_name<'a>(
+    alloc: Global,
+    bytes: &'a [u8],
+) -> Result<Found<'a, SharedName>, AllocError>
+    ensures { IfOk result (λ r. option_map (λ p. (p.0, p.1.now)) r ≡ name_in bytes.now) }
+{
+    match find_name(alloc, bytes)? {
+        Some((name, rest)) => Ok(Some((SharedName::new(alloc, name)?, rest))),
+        None => Ok(None),
     }
 }
 

@@ -51,7 +51,7 @@ fn put_answer(bytes: &mut Vec<u8>, answer: &Answer) -> Result<(), AllocError>
         Answer::Value(Some(text)) => put_text(bytes, text),
         Answer::Data(data) => put_count(bytes, u32::from(*data)),
         Answer::Order(Some(sub)) => put_subscript(bytes, sub),
-        Answer::Query(Some(name)) => put_name(bytes, name),
+        Answer::Query(Some(name)) => put_name(bytes, name.get()),
         Answer::Value(None) | Answer::Order(None) | Answer::Query(None) => {
             bytes.extend_from_slice(b"-")
         }
@@ -71,7 +71,7 @@ fn put_kept(bytes: &mut Vec<u8>, kept: &Kept) -> Result<(), AllocError>
         Kept::Nothing => bytes.extend_from_slice(b"-"),
         Kept::Text(text) => put_text(bytes, text),
         Kept::Number(number) => put_number(bytes, *number),
-        Kept::Name(name) => put_name(bytes, name),
+        Kept::Name(name) => put_name(bytes, name.get()),
         Kept::Subtree(nodes) => put_subtree(bytes, nodes),
     }
 }

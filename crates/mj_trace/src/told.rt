@@ -6,7 +6,7 @@ ghost use Rattle.mj_trace.specs.Reading.{is_absent, answer_in, number_kept, kept
 
 use crate::devices::{Given, given_by};
 use crate::found::{Found, find_subscript, find_text, read_code, read_count, read_number};
-use crate::members::{find_name, find_subtree};
+use crate::members::{find_shared_name, find_subtree};
 use crate::run::{Run, begins_with, skip, split};
 use mj_ask::{Ask, BoxedClash, Clash, Kept, Reply, SharedAsk};
 use mj_store::{Access, Answer};
@@ -123,7 +123,7 @@ fn find_answer(alloc: Global, access: &Access, bytes: &[u8]) -> Result<Option<An
             if is_absent(bytes) {
                 return Ok(Some(Answer::Query(None)));
             }
-            match find_name(alloc, bytes)? {
+            match find_shared_name(alloc, bytes)? {
                 Some((name, _)) => Ok(Some(Answer::Query(Some(name)))),
                 None => Ok(None),
             }
@@ -191,7 +191,7 @@ fn find_kept<'a>(alloc: Global, bytes: &'a [u8]) -> Result<Found<'a, Kept>, Allo
             None => Ok(None),
         }
     } else if begins_with(b'^', bytes) {
-        match find_name(alloc, bytes)? {
+        match find_shared_name(alloc, bytes)? {
             Some((name, rest)) => Ok(Some((Kept::Name(name), rest))),
             None => Ok(None),
         }

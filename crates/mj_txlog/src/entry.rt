@@ -39,7 +39,7 @@ pub fn is_refused(access: &Access) -> bool
     ensures { result ≡ is_refused access.now }
 {
     match access {
-        Access::Put(name, nodes) => is_too_deep(name, nodes.as_slice()),
+        Access::Put(name, nodes) => is_too_deep(name.get(), nodes.as_slice()),
         _ => false,
     }
 }

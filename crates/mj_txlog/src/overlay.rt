@@ -69,13 +69,13 @@ impl Overlay {
         ensures err { OnErr result (self.new ≡ self.old) }
     {
         match access {
-            Access::Set(name, text) => self.over.set(name, text),
+            Access::Set(name, text) => self.over.set(name.get(), text),
             Access::Kill(name) => {
-                self.gone.set(name, &Text::new(self.alloc))?;
-                self.over.kill(name);
+                self.gone.set(name.get(), &Text::new(self.alloc))?;
+                self.over.kill(name.get());
                 Ok(())
             }
-            Access::Put(name, nodes) => match self.over.put(name, nodes) {
+            Access::Put(name, nodes) => match self.over.put(name.get(), nodes) {
                 Ok(()) | Err(Failure::Fault(Fault::Limit)) => Ok(()),
                 Err(_) => Err(AllocError),
             },

@@ -4,11 +4,11 @@
 // `$ORDER`, and on the whole word for `$QUERY`.
 
 ghost use Rattle.std.specs.Prelude.{◌≡◌, ◌+◌, false, cond, IfOk};
-ghost use Rattle.mj_store.specs.Questions.{with_subscripts, value_at, data_at, order_at};
+ghost use Rattle.mj_store.specs.Questions.{with_subscripts, value_at, data_at, order_at, query_at};
 ghost use Rattle.mj_store.specs.Runs.{answer_of};
 ghost use Rattle.mj_txlog.specs.Accesses.{Accesses, is_write, seen, front_of};
 ghost use Rattle.mj_txlog.specs.Sight.{reach_of};
-ghost use Rattle.mj_txlog.specs.Laid.{IsLaid};
+ghost use Rattle.mj_txlog.specs.Laid.{IsLaid, went, data_either};
 ghost use Rattle.mj_txlog.specs.Skips.{AreSkips, KeepSkips};
 
 use crate::below::seen_below;
@@ -20,7 +20,7 @@ use crate::query::query;
 use crate::skips::Skips;
 use mj_globs::Texts;
 use mj_store::{Access, Answer, Direction, Store};
-use mj_subs::{Name, Sub};
+use mj_subs::{Name, SharedName, Sub};
 use mj_text::Text;
 use std::alloc::{AllocError, Global};
 
@@ -41,7 +41,7 @@ pub fn answer(
 {
     match read {
         Access::Value(name) => {
-            let text = own.text(globals, name)?;
+            let text = own.text(globals, name.get())?;
             Ok(Answer::Value(text))
         }
         _ => seen_answer(alloc, globals, own, skips, read),
@@ -89,20 +89,49 @@ fn answer_at(
         return look(globals, read);
     }
     match read {
-        Access::Data(name) if !own.is_any_gone(name) => Ok(Answer::Data(data_either(
-            own.over().data(name),
-            globals.data(name),
-        ))),
-        Access::Data(name) => Ok(Answer::Data(data(globals, own, skips, name)?)),
+        Access::Data(shared) => {
+            let name = shared.get();
+            Ok(Answer::Data(data_seen(globals, own, skips, name)?))
+        }
         Access::Order(name, way) => Ok(Answer::Order(order(
-            globals, own, skips, name, *way, reach,
+            globals,
+            own,
+            skips,
+            name.get(),
+            *way,
+            reach,
         )?)),
-        Access::Query(name) => match query(globals, own, skips, name)? {
-            Some(next) => Ok(Answer::Query(next)),
+        Access::Query(name) => match query(globals, own, skips, name.get())? {
+            Some(next) => Ok(Answer::Query(SharedName::if_some(globals.allocator(), next)?)),
             None => answer_among(globals, own, read, reach),
         },
         _ => answer_among(globals, own, read, reach),
     }
+}
+
+// What `$DATA` says of a name that didn't go, and none above it.
+fn data_seen(
+    globals: &Texts,
+    own: &Overlay,
+    skips: &mut Skips,
+    name: &Name,
+) -> Result<u8, AllocError>
+    requires stays { went own.now.gone name.now ≡ false }
+    requires skips { KeepSkips globals.now own.now skips.old }
+    ensures skips { KeepSkips globals.now own.now skips.new }
+    ensures data { IfOk result (λ d. (es : Accesses) → IsLaid own.now es → d ≡ data_at (seen globals.now es) name.now) }
+{
+    if own.is_any_gone(name) {
+        return data(globals, own, skips, name);
+    }
+    Ok(data_of_both(globals, own, name))
+}
+
+// What `$DATA` says of a name by what was given and by the globals.
+fn data_of_both(globals: &Texts, own: &Overlay, name: &Name) -> u8
+    ensures { result ≡ data_either (data_at own.now.over name.now) (data_at globals.now name.now) }
+{
+    data_either(own.over().data(name), globals.data(name))
 }
 
 // Whether a text stands at the name, and whether one stands below it.
@@ -174,16 +203,23 @@ fn look(globals: &Texts, read: &Access) -> Result<Answer, AllocError>
     ensures { IfOk result (λ a. a ≡ answer_of read.now globals.now) }
 {
     Ok(match read {
-        Access::Value(name) => Answer::Value(text_of(globals, name)?),
-        Access::Data(name) => Answer::Data(globals.data(name)),
-        Access::Order(name, direction) => match globals.order(name, *direction) {
+        Access::Value(name) => Answer::Value(text_of(globals, name.get())?),
+        Access::Data(name) => Answer::Data(globals.data(name.get())),
+        Access::Order(name, direction) => match globals.order(name.get(), *direction) {
             None => Answer::Order(None),
             Some(next) => Answer::Order(Some(next.try_clone()?)),
         },
-        Access::Query(name) => Answer::Query(globals.query(name)?),
-        Access::Subtree(name) => Answer::Subtree(globals.subtree(name)?),
+        Access::Query(name) => Answer::Query(next_name(globals, name.get())?),
+        Access::Subtree(name) => Answer::Subtree(globals.subtree(name.get())?),
         Access::Set(_, _) | Access::Kill(_) | Access::Put(_, _) => unreachable!(),
     })
+}
+
+// The next name with a text.
+fn next_name(globals: &Texts, name: &Name) -> Result<Option<SharedName>, AllocError>
+    ensures { IfOk result (λ next. next ≡ query_at globals.now name.now) }
+{
+    SharedName::if_some(globals.allocator(), globals.query(name)?)
 }
 
 // The name on which, and on what stands below which, a read depends.
@@ -191,8 +227,11 @@ fn reach_of(alloc: Global, read: &Access) -> Result<Name, AllocError>
     ensures { IfOk result (λ n. n ≡ reach_of read.now) }
 {
     match read {
-        Access::Order(name, _) => cut_to(alloc, name, front_of(name.subscripts().as_slice())),
-        Access::Query(name) => cut_to(alloc, name, &[]),
+        Access::Order(name, _) => {
+            let name = name.get();
+            cut_to(alloc, name, front_of(name.subscripts().as_slice()))
+        }
+        Access::Query(name) => cut_to(alloc, name.get(), &[]),
         _ => read.name().try_clone(),
     }
 }

@@ -38,13 +38,13 @@ fn change_of(alloc: Global, access: &Access) -> Result<Option<Change>, AllocErro
     ensures { IfOk result (λ c. c ≡ change_of access.now) }
 {
     Ok(match access {
-        Access::Set(name, text) => Some(Change::Set(name.try_clone()?, text.try_clone()?)),
-        Access::Kill(name) => Some(Change::Kill(name.try_clone()?)),
+        Access::Set(name, text) => Some(Change::Set(name.get().try_clone()?, text.try_clone()?)),
+        Access::Kill(name) => Some(Change::Kill(name.get().try_clone()?)),
         Access::Put(name, nodes) => {
             if is_refused(access) {
                 None
             } else {
-                Some(Change::Put(name.try_clone()?, nodes.try_clone()?))
+                Some(Change::Put(name.get().try_clone()?, nodes.try_clone()?))
             }
         }
         _ => None,

@@ -4,7 +4,7 @@ ghost use Rattle.std.specs.Prelude.{◌≡◌, ◌<◌, ◌∷◌, [], ℕ, List
 ghost use Rattle.std.specs.Io.KnownBytes.{Consumes, Keeps, IsAtEnd};
 ghost use Rattle.mj_typed.specs.Typed.{IsOfOneLine, IsReadUp, AreKept, ahead_of};
 
-use mj_dev::{Device, Did, Input};
+use mj_dev::{Device, Did, Input, take};
 use mj_files::Trouble;
 use mj_text::{TEXT_LIMIT, Text};
 use std::alloc::{AllocError, Global};
@@ -92,10 +92,7 @@ impl<I: Read + Drop> Device for Typed<I> {
         ensures given { self.new.given ≡ self.old.given }
         ensures ahead { self.new.ahead ≡ self.old.ahead }
     {
-        match self.taken.extend_from_slice(bytes) {
-            Ok(()) => Did::Done,
-            Err(_) => Did::Memory,
-        }
+        take(&mut self.taken, bytes)
     }
 
     fn read(&mut self) -> Input

@@ -19,7 +19,7 @@ use mj_machine::quiet::fail;
 use mj_machine::{Control, Machine, TurnOutcome, stack};
 use mj_pcode::Reference;
 use mj_store::{Access, Answer, Nodes};
-use mj_subs::Name;
+use mj_subs::{Name, SharedName};
 use mj_text::{Failure, Fault};
 use std::alloc::{AllocError, Global};
 
@@ -171,7 +171,10 @@ fn take_global(
     ensures err { OnErr result (Stays machine.old machine.new) }
 {
     match at_hand(machine, given) {
-        None => ask(alloc, Access::Subtree(name), machine),
+        None => {
+            let shared = SharedName::new(alloc, name)?;
+            ask(alloc, Access::Subtree(shared), machine)
+        }
         Some(reply) => {
             let nodes = nodes_of(alloc, reply)?;
             machine.replied += 1;
@@ -186,21 +189,10 @@ fn nodes_of(alloc: Global, reply: &Reply) -> Result<Result<Nodes, Fault>, AllocE
     ensures { IfOk result (λ r. r ≡ answers.nodes_read (answer_told reply.now)) }
 {
     match reply {
-        Reply::Answer(Answer::Subtree(nodes)) => Ok(Ok(copied(alloc, nodes)?)),
+        Reply::Answer(Answer::Subtree(nodes)) => Ok(Ok(nodes.try_clone()?)),
         Reply::Answer(Answer::Limit) => Ok(Err(Fault::Limit)),
         _ => Ok(Ok(Nodes::new(alloc))),
     }
-}
-
-// Copies nodes.
-fn copied(alloc: Global, nodes: &Nodes) -> Result<Nodes, AllocError>
-    ensures { IfOk result (λ n. n ≡ nodes.now) }
-{
-    let mut copy = Nodes::new(alloc);
-    for node in nodes.as_slice() {
-        copy.push(node.0.try_clone()?, node.1.try_clone()?)?;
-    }
-    Ok(copy)
 }
 
 /// Puts what is in hand to the variable whose subscripts lie on top.
@@ -280,8 +272,9 @@ fn put_global(
 {
     match at_hand(machine, given) {
         None => {
-            let nodes = copied(alloc, &machine.held)?;
-            ask(alloc, Access::Put(name, nodes), machine)
+            let shared = SharedName::new(alloc, name)?;
+            let nodes = machine.held.try_clone()?;
+            ask(alloc, Access::Put(shared, nodes), machine)
         }
         Some(reply) => {
             machine.replied += 1;

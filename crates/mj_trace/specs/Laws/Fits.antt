@@ -299,7 +299,7 @@ begin_fits rest word more =
 
 unlock_fits : (bs : List ℕ) → Finds shared_fits (unlock_in bs)
 unlock_fits bs =
-    passes_if (λ x. shared_fits x.0) (begins_with 42 bs) (Some (shared_asks.UnlockAll, skipped bs)) (option_map (λ p. (shared_asks.Unlock p.0, p.1)) (names_in bs)) refl
+    passes_if (λ x. shared_fits x.0) (begins_with 42 bs) _ (option_map (λ p. (shared_asks.Unlock p.0, p.1)) (names_in bs)) refl
     (passes_as (λ x. list_all name_fits x.0) (λ x. shared_fits x.0) (λ p. (shared_asks.Unlock p.0, p.1)) (names_in bs) (names_fit bs) (λ x k. k))
 
 try_fits : (bs : List ℕ) → Finds shared_fits (try_in bs)

@@ -4,7 +4,7 @@ use Rattle.mj_sys.specs.History.{state_of}
 use Rattle.mj_core.specs.Shown.{Shown}
 use Rattle.mj_explore.specs.declared.conditions.Verdict.{Verdict}
 use Rattle.mj_explore.specs.Marks.{is_over}
-use Rattle.mj_explore.specs.Scripts.{opening_in}
+use Rattle.mj_script.specs.Scripts.{opening_in}
 use Rattle.mj_explore.specs.Found.{EndsJudged, IsJudged}
 use Rattle.mj_explore.proofs.Making.{found_so, where_some}
 use Rattle.mj_explore.proofs.goals.untruth.Goals as goal

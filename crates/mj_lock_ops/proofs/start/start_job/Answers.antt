@@ -69,18 +69,18 @@ returns-clause-ok c =
     let values = spread shape (operands given_actuals (drop (wait_size w) st)) in
     let vs : c.in_ok-values.values.items ≡ values = c.in_ok-values.ensures ∙ ap (λ l. spread l c.topmost-operands.result.now) c.as_slice-2.ensures ∙ ap (spread shape) ops in
     let made : Entry → List (Option (List ℕ)) → Started = λ e xs. record { entry = e; values = xs } in
-    let start : c.new-start.result ≡ made entry values = c.new-start.ensures ∙ ap (λ e. made e c.in_ok-values.values.items) c.in_ok-try_clone.ensures ∙ ap (made entry) vs in
+    let start : c.in_ok-boxed.boxed ≡ made entry values = c.in_ok-boxed.ensures ∙ c.new-start.ensures ∙ ap (λ e. made e c.in_ok-values.values.items) c.in_ok-try_clone.ensures ∙ ap (made entry) vs in
     let none : old.level ≡ 0 = omega (arith, c.if-machine-gt0.false) in
     let taken : act + ab ≡ given_actuals + wait_size w = ap (λ k. k + ab) gc ∙ ap (λ k. given_actuals + k) ws in
     let rest : Next → ℕ → Timed = λ next k. next (context_of old) (c.args.pc + 1) (drop k st) in
     let after : Next → Option ℤ → Timed = λ next y. start_job entry values y (rest next (given_actuals + wait_size w)) in
     IfOk-weaker c.ask_in_time.result _ _
-    (λ step d all u. does_as (λ next. waits w st (after next)) (λ next. ask (asks.Shared (shared_asks.Start c.new-start.result z)) (λ r. served z r (rest next (act + ab)))) old
+    (λ step d all u. does_as (λ next. waits w st (after next)) (λ next. ask (asks.Shared (shared_asks.Start c.in_ok-boxed.boxed z)) (λ r. served z r (rest next (act + ab)))) old
     (replied c.args.given) step _
     (λ next n back replies.
     ap (λ q. q back (state_of old) replies) (waits_known w st (after next) n)
     ∙ given_is (timeout_in w st) (Ok z) (after next) n back (state_of old) replies t
     ∙ outside_it (ask (asks.Shared (shared_asks.Start (made entry values) z)) (λ r. served z r (rest next (given_actuals + wait_size w)))) n back (state_of old) replies none
     ∙ ap (λ x. ask (asks.Shared (shared_asks.Start x z)) (λ r. served z r (rest next (given_actuals + wait_size w))) n back (state_of old) replies) (sym start)
-    ∙ ap (λ k. ask (asks.Shared (shared_asks.Start c.new-start.result z)) (λ r. served z r (rest next k)) n back (state_of old) replies) (sym taken)) d)
+    ∙ ap (λ k. ask (asks.Shared (shared_asks.Start c.in_ok-boxed.boxed z)) (λ r. served z r (rest next k)) n back (state_of old) replies) (sym taken)) d)
     c.ask_in_time.ensures.ok

@@ -1,4 +1,4 @@
-use Rattle.mj_explore.specs.Scripts.{opening_in}
+use Rattle.mj_script.specs.Scripts.{opening_in}
 use Rattle.mj_search.proofs.searching.runs_over.Given as goal
 
 -- the opening is that of the script over these globals

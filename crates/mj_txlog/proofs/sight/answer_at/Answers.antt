@@ -1,14 +1,10 @@
-use Rattle.std.proofs.Common.{◌≡◌, ◌∙◌, false, sym, ap}
+use Rattle.std.proofs.Common.{◌≡◌, ◌∙◌, sym, ap}
 use Rattle.std.proofs.lemmas.Result.{IfOk-weaker}
 use Rattle.mj_store.specs.Runs.{answer_of}
-use Rattle.mj_store.specs.Questions.{Content, data_at}
-use Rattle.mj_store.specs.declared.access.Access.{Access}
-use Rattle.mj_store.specs.declared.access.Answer.TheVariants as answer
-use Rattle.mj_txlog.specs.Accesses.{seen}
 use Rattle.mj_txlog.specs.Sight.{reach_of}
-use Rattle.mj_txlog.specs.Laid.{went, data_either}
+use Rattle.mj_txlog.specs.Laid.{went}
 use Rattle.mj_txlog.proofs.Looks.{answer_below}
-use Rattle.mj_txlog.proofs.Laid.{went_alike, clear_alike, none_gone, data_laid}
+use Rattle.mj_txlog.proofs.Laid.{went_alike, clear_alike}
 use Rattle.mj_txlog.proofs.sight.answer_at.Goals as goal
 
 pub returns-then-branch-clause-answer : goal.returns-then-branch-clause-answer
@@ -25,14 +21,7 @@ returns-then-is_clear-clause-answer c = IfOk-weaker c.look-then-is_clear.result 
     h)
     c.look-then-is_clear.ensures
 
-pub returns-in-Data-clause-answer : goal.returns-in-Data-clause-answer
-returns-in-Data-clause-answer c es laid =
-    let same : c.args.reach.now ≡ c.in-Data.name = c.requires.reach ∙ ap reach_of c.in-Data.is in
-    let stays : went c.args.own.now.gone c.in-Data.name ≡ false = ap (went c.args.own.now.gone) (sym same) ∙ sym c.in_ok-went.ensures ∙ c.if-branch.false in
-    let none : data_at c.args.own.now.gone c.in-Data.name ≡ 0 = none_gone (data_at c.args.own.now.gone c.in-Data.name) (sym c.if-not-is_any_gone.ensures) in
-    let over = c.«data».ensures ∙ ap (λ (es : Content). data_at es c.in-Data.name) c.over-in-Data.ensures.which in
-    ap answer.Data
-    (c.data_either.ensures
-    ∙ (λ i. data_either (over i) (c.data-in-Data.ensures i))
-    ∙ data_laid c.args.own.now es c.in-Data.name laid c.args.globals.now stays none)
-    ∙ ap (λ (a : Access). answer_of a (seen c.args.globals.now es)) (sym c.in-Data.is)
+pub data_seen-requires-clause-stays : goal.data_seen-requires-clause-stays
+data_seen-requires-clause-stays c =
+    let same : c.args.reach.now ≡ c.in-Data.shared = c.requires.reach ∙ ap reach_of c.in-Data.is in
+    ap (went c.args.own.now.gone) (c.get-name.ensures ∙ sym same) ∙ sym c.in_ok-went.ensures ∙ c.if-branch.false

@@ -1,4 +1,5 @@
 use Rattle.std.proofs.Common.{[], sym, refl, None, subst}
+use Rattle.mj_subs.specs.Name.{Name}
 use Rattle.std.proofs.lemmas.Result.{IfOk-weaker}
 use Rattle.mj_store.specs.declared.access.Access.TheVariants.{Put}
 use Rattle.mj_semantics.specs.State.{hold}
@@ -17,7 +18,9 @@ returns-in_ok-nodes-in-None-clause-ok c =
     let rest : Next → Timed = without old c.args.pc c.args.count in
     IfOk-weaker c.ask.result _ _
     (λ step d. subst (λ nodes. Does (λ next. access (Put c.args.name nodes) (λ a. change (hold []) (rest next))) old (replied c.args.given) step c.ask.new.machine) c.in_ok-nodes-in-None.ensures
-    (d (replied c.args.given) c.in-None.ensures.none (λ next a. change (hold []) (rest next))))
+    (subst (λ (name : Name). Does (λ next. access (Put name c.in_ok-nodes-in-None.nodes) (λ a. change (hold []) (rest next))) old (replied c.args.given) step c.ask.new.machine)
+    c.in_ok-shared-in-None.ensures
+    (d (replied c.args.given) c.in-None.ensures.none (λ next a. change (hold []) (rest next)))))
     c.ask.ensures.ok
 
 pub returns-in-Some-clause-ok : goal.returns-in-Some-clause-ok

@@ -1,5 +1,5 @@
 use Rattle.std.proofs.Common.{◌≡◌, take}
-use Rattle.mj_explore.proofs.scripts.Script.starts.Given as goal
+use Rattle.mj_script.proofs.script.Script.starts.Given as goal
 
 -- those up to here
 abbrev pub invariant-starts : goal.invariant-starts

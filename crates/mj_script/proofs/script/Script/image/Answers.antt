@@ -1,8 +1,8 @@
 use Rattle.std.proofs.Common.{List, subst}
-use Rattle.mj_explore.specs.declared.scripts.Source.{Source}
-use Rattle.mj_explore.specs.Scripts.{IsUnread, sources_of}
-use Rattle.mj_explore.proofs.Loading.{for_memory}
-use Rattle.mj_explore.proofs.scripts.Script.image.Goals as goal
+use Rattle.mj_script.specs.declared.script.Source.{Source}
+use Rattle.mj_script.specs.Scripts.{IsUnread, sources_of}
+use Rattle.mj_script.proofs.Loading.{for_memory}
+use Rattle.mj_script.proofs.script.Script.image.Goals as goal
 
 pub unreachable-requires : goal.unreachable-requires
 unreachable-requires c =

@@ -1,7 +1,7 @@
 use Rattle.std.proofs.Common.{◌∙◌, lit<}
 use Rattle.std.proofs.lemmas.Fmt.{decimal_digit}
-use Rattle.mj_explore.proofs.Adding.{principals_on}
-use Rattle.mj_explore.proofs.scripts.add_principals.Goals as goal
+use Rattle.mj_script.proofs.Adding.{principals_on}
+use Rattle.mj_script.proofs.script.add_principals.Goals as goal
 
 pub principals-preserved : goal.principals-preserved
 principals-preserved c =

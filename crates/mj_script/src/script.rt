@@ -10,8 +10,8 @@ ghost use Rattle.mj_load.specs.Image.{Loaded, IsWithinLimits};
 ghost use Rattle.mj_core.specs.Shown.{begun};
 ghost use Rattle.mj_sys.specs.Opening.{are_bare};
 ghost use Rattle.mj_sys.specs.Shared.{are_global};
-ghost use Rattle.mj_explore.specs.Scripts.{CanBeLoaded, IsReadFrom, IsImageOf, IsSourceUnread, IsUnread, source_of, sources_of, supply_names};
-ghost use Rattle.mj_explore.specs.Scripts.{opening_in, pool_in};
+ghost use Rattle.mj_script.specs.Scripts.{CanBeLoaded, IsReadFrom, IsImageOf, IsSourceUnread, IsUnread, source_of, sources_of, supply_names};
+ghost use Rattle.mj_script.specs.Scripts.{opening_in, pool_in};
 
 use mj_ask::Start;
 use mj_ast::Routine;
@@ -74,7 +74,7 @@ impl Model for Script {
     ghost use Rattle.mj_dev.specs.Shelves.{principal};
     ghost use Rattle.mj_jobs.specs.Rows.{rows_limit};
     ghost use Rattle.mj_sys.specs.Opening.{are_bare};
-    ghost use Rattle.mj_explore.specs.Scripts.{Scripted, CanBeLoaded, sources_of, supply_names};
+    ghost use Rattle.mj_script.specs.Scripts.{Scripted, CanBeLoaded, sources_of, supply_names};
 
     ghost Value = { Scripted };
 

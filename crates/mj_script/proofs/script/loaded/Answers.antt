@@ -7,10 +7,10 @@ use Rattle.mj_ask.specs.declared.bounds.Bounds.{Bounds}
 use Rattle.mj_ast.specs.declared.routine.Routine.{Routine}
 use Rattle.mj_load.specs.Image.{IsWithinLimits, names_of, repeated}
 use Rattle.mj_rou.proofs.Routines.{ok_if}
-use Rattle.mj_explore.specs.declared.scripts.Source.{Source}
-use Rattle.mj_explore.specs.Scripts.{IsReadFrom, source_of, sources_of}
-use Rattle.mj_explore.proofs.Loading.{one_more, of_each, there, names_same, unread_at, unread_told, none_twice}
-use Rattle.mj_explore.proofs.scripts.loaded.Goals as goal
+use Rattle.mj_script.specs.declared.script.Source.{Source}
+use Rattle.mj_script.specs.Scripts.{IsReadFrom, source_of, sources_of}
+use Rattle.mj_script.proofs.Loading.{one_more, of_each, there, names_same, unread_at, unread_told, none_twice}
+use Rattle.mj_script.proofs.script.loaded.Goals as goal
 
 abbrev IsOf : Source → Routine → Type 0
 IsOf source routine = IsReadFrom (source_of source) routine

@@ -16,10 +16,10 @@ use Rattle.mj_jobs.specs.Rows.{rows_limit}
 use Rattle.mj_load.specs.Image.{Loaded, repeated}
 use Rattle.mj_sys.specs.Opening.{opening_of}
 use Rattle.mj_sys.specs.Shared.{Shared}
-use Rattle.mj_explore.specs.declared.scripts.Source.{Source}
-use Rattle.mj_explore.specs.declared.scripts.Supply.{Supply}
-use Rattle.mj_explore.specs.declared.scripts.Unread.{Unread}
-use Rattle.mj_explore.specs.declared.scripts.Unread.TheVariants as unread
+use Rattle.mj_script.specs.declared.script.Source.{Source}
+use Rattle.mj_script.specs.declared.script.Supply.{Supply}
+use Rattle.mj_script.specs.declared.script.Unread.{Unread}
+use Rattle.mj_script.specs.declared.script.Unread.TheVariants as unread
 
 -- the name and the bytes of each routine; where the first jobs start; and the name of each device beside the principal ones
 pub record Scripted : Type 0 where

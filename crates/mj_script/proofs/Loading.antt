@@ -7,9 +7,9 @@ use Rattle.std.proofs.lemmas.List.{take_more}
 use Rattle.mj_ast.specs.declared.routine.Routine.{Routine}
 use Rattle.mj_load.specs.Image.{names_of}
 use Rattle.mj_rou.specs.Laws.{IsReadOrRefused}
-use Rattle.mj_explore.specs.declared.scripts.Unread.{Unread}
-use Rattle.mj_explore.specs.declared.scripts.Unread.TheVariants as unread
-use Rattle.mj_explore.specs.Scripts.{IsReadFrom, CanBeLoaded, IsSourceUnread, IsUnread}
+use Rattle.mj_script.specs.declared.script.Unread.{Unread}
+use Rattle.mj_script.specs.declared.script.Unread.TheVariants as unread
+use Rattle.mj_script.specs.Scripts.{IsReadFrom, CanBeLoaded, IsSourceUnread, IsUnread}
 
 added : {A B : Type 0} (R : A → B → Type 0) (xs : List A) (ys : List B) (x : A) (y : B) → AllZip R xs ys → R x y → AllZip R (xs ++ x ∷ []) (ys ++ y ∷ [])
 added R [] [] x y h k = (k, tt)

@@ -3,10 +3,10 @@ use Rattle.std.proofs.lemmas.List.{at_drop_all}
 use Rattle.mj_dev.specs.Shelves.{Shelf, principal, left_of}
 use Rattle.mj_files.specs.Named.{with_principals, with_devices}
 use Rattle.mj_jobs.specs.Rows.{rows_limit}
-use Rattle.mj_explore.specs.declared.scripts.Supply.{Supply}
-use Rattle.mj_explore.specs.Scripts.{Scripted, supply_names}
-use Rattle.mj_explore.proofs.Principals.{enough}
-use Rattle.mj_explore.proofs.scripts.Script.pool.Goals as goal
+use Rattle.mj_script.specs.declared.script.Supply.{Supply}
+use Rattle.mj_script.specs.Scripts.{Scripted, supply_names}
+use Rattle.mj_script.proofs.Principals.{enough}
+use Rattle.mj_script.proofs.script.Script.pool.Goals as goal
 
 pub returns-clause-fits : goal.returns-clause-fits
 returns-clause-fits c =

@@ -1,0 +1,3 @@
+mod Adding
+mod Loading
+mod Principals
