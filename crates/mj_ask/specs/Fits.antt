@@ -1,4 +1,4 @@
--- The table of asks: which reply fits which ask, who serves it, and which locks it gives up.
+-- The table of asks: which reply fits which ask, who serves it, and which are unlocks, of which locks.
 use Rattle.std.specs.Prelude.{ℕ, ℤ, ◌==◌, List, Option, Some, None, Bool, true, false, not, ◌&&◌, ◌||◌}
 use Rattle.std.specs.Option.{is_some}
 use Rattle.mj_subs.specs.Name.{Name}

@@ -1,8 +1,11 @@
 // CLOSE.
 
 ghost use Rattle.std.specs.Prelude.{◌≡◌, ℕ, ◌+◌, ◌<◌, ◌≤◌, ◌^◌, IfOk, OnErr, length};
+ghost use Rattle.mj_ask.specs.declared.ask.Ask.TheVariants as asks;
+ghost use Rattle.mj_ask.specs.declared.ask.SharedAsk.TheVariants as shared_asks;
+ghost use Rattle.mj_pcode.specs.Machine.{top};
 ghost use Rattle.mj_pcode.specs.declared.instr.Instr.TheVariants as instrs;
-ghost use Rattle.mj_machine.specs.Kept.{Obeys, Stays, replied};
+ghost use Rattle.mj_machine.specs.Kept.{stack_of, IsWaiting, Obeys, Stays, replied};
 
 use mj_ask::{Ask, DeviceAsk, Reply, SharedAsk};
 use mj_machine::asking::{is_failed, wait};
@@ -62,10 +65,7 @@ pub fn give_up_failed(
         return Ok(fail(Fault::Steps, machine));
     }
     match given {
-        None => {
-            let name = stack::top(&machine.stack).try_clone()?;
-            wait(alloc, Ask::Shared(SharedAsk::Close(name)))
-        }
+        None => ask_to_give_up(alloc, machine),
         Some(_) => {
             machine.replied += 1;
             machine.control = Control::Faulted(Fault::Device);
@@ -91,10 +91,7 @@ pub fn give_up(
         return Ok(fail(Fault::Steps, machine));
     }
     match given {
-        None => {
-            let name = stack::top(&machine.stack).try_clone()?;
-            wait(alloc, Ask::Shared(SharedAsk::Close(name)))
-        }
+        None => ask_to_give_up(alloc, machine),
         Some(_) => {
             machine.replied += 1;
             stack::take_one(&mut machine.stack);
@@ -102,4 +99,13 @@ pub fn give_up(
             Ok(TurnOutcome::Took)
         }
     }
+}
+
+// Asks that the device that the topmost operand names be given up.
+fn ask_to_give_up(alloc: Global, machine: &Machine) -> Result<TurnOutcome, AllocError>
+    requires { 1 ≤ length machine.now.stack.items }
+    ensures { IfOk result (λ step. IsWaiting (asks.Shared (shared_asks.Close (top (stack_of machine.now)))) step) }
+{
+    let name = stack::top(&machine.stack).try_clone()?;
+    wait(alloc, Ask::Shared(SharedAsk::Close(name)))
 }

@@ -72,6 +72,11 @@ abbrev pub is_of_device : Verdict → Bool
 is_of_device (verdicts.Faults faults.Device) = true
 is_of_device _ = false
 
+-- Jobs that stand so show what the expression of their script comes to: a run came to its end, and this is what it comes to there. The device didn't fail.
+abbrev pub ShowsVerdict : Shared → Shown → Verdict → Type 0
+ShowsVerdict opening core verdict =
+    IsRun (program_of core.image) opening core.history × (is_over opening core.history ≡ true) × (verdict ≡ verdict_in core.history) × (is_of_device verdict ≡ false)
+
 -- An expression was judged over the globals with which this opening begins: a run of the script that writes 1 where it is true came to its end, and
 -- this is what it comes to there. The device didn't fail to which that is written: where it does, the run says nothing of the expression, which asks no device.
 abbrev pub IsJudged : Scripted → Shared → Verdict → Type 0

@@ -4,18 +4,22 @@ ghost use Rattle.std.specs.Prelude.{◌≡◌, ◌∷◌, [], true, false, codes
 ghost use Rattle.std.specs.Str.{bytes_eq};
 ghost use Rattle.mj_ast.specs.Trees.{routine_of, line_of as tree_of, step_of, command_of};
 ghost use Rattle.mj_sys.specs.Shared.{are_global};
+ghost use Rattle.mj_run.specs.Stepping.{AreSteps};
 ghost use Rattle.mj_script.specs.Scripts.{opening_in};
 ghost use Rattle.mj_explore.specs.Conditions.{IsConditionOf, IsExpression, IsReadSo, condition_line, front_line, ends_in_blank, has_caret, judge_start};
 ghost use Rattle.mj_explore.specs.Conditions.{is_plain, is_single_if, is_single_write, judges, line_judges, line_tests, step_tests, step_writes, tests};
-ghost use Rattle.mj_explore.specs.Found.{IsJudged, is_of_device, verdict_by};
+ghost use Rattle.mj_explore.specs.Found.{IsJudged, ShowsVerdict, by_memory, is_of_device, verdict_by};
 
 use crate::fates::is_for_memory;
 use crate::marks::{fault_in, is_over};
 use mj_ask::{Entry, Start};
 use mj_ast::{Command, Line, LineCommand, Routine};
+use mj_dev::Memory;
 use mj_globs::Globals;
 use mj_rou::LoadError;
+use mj_run::Jobs;
 use mj_script::{Script, Source, Unread, begin};
+use mj_sessions::Sessions;
 use mj_sys::Opening;
 use mj_text::{Failure, Fault, Text};
 use std::alloc::{AllocError, Global};
@@ -289,6 +293,17 @@ fn judged<O: Opening>(
     ensures { IfOk result (λ judged. IfSome judged (IsJudged condition.now O.opening)) }
 {
     let mut jobs = begin::<O>(alloc, condition, globals)?;
+    judged_by(alloc, &mut jobs)
+}
+
+// Has the job that judges run to its end, and tells what the expression comes to by what that leaves.
+fn judged_by<O: Opening>(
+    alloc: Global,
+    jobs: &mut Jobs<Memory, Sessions<Memory>, O>,
+) -> Result<Option<Verdict>, AllocError>
+    ensures steps { AreSteps by_memory O.opening jobs.old jobs.new }
+    ensures shown { IfOk result (λ judged. IfSome judged (ShowsVerdict O.opening jobs.new)) }
+{
     let ending = jobs.in_turn(STEPS);
     if is_for_memory(ending) {
         return Err(AllocError);

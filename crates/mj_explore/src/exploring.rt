@@ -1,10 +1,14 @@
 // Runs by chance.
 
-ghost use Rattle.std.specs.Prelude.{◌≡◌, ◌≤◌, ◌<◌, ◌+◌, ◌-◌, ◌^◌, cond, true, false, option_map, Some, IfOk, IfSome, IfNone, OnSome};
+ghost use Rattle.std.specs.Prelude.{◌≡◌, ◌≤◌, ◌<◌, ◌+◌, ◌-◌, ◌^◌, cond, nat_lt, true, false, option_map, Some, IfOk, IfSome, IfNone, OnSome};
+ghost use Rattle.std.specs.List.{count_by};
 ghost use Rattle.mj_load.specs.Image.{program_of};
 ghost use Rattle.mj_sys.specs.Shared.{are_global};
 ghost use Rattle.mj_explore.specs.declared.exploring.Found.{Found as FoundOf};
+ghost use Rattle.mj_explore.specs.declared.marks.Mark.TheVariants as marks;
 ghost use Rattle.mj_script.specs.Scripts.{opening_in};
+ghost use Rattle.mj_explore.specs.Ends.{IsNoted, end_text};
+ghost use Rattle.mj_explore.specs.Marks.{bears};
 ghost use Rattle.mj_explore.specs.Found.{IsShownFor, IsFoundFor, IsFateOf, WereMade, IsCome, is_fate_stopped, is_fate_stuck, is_for_memory};
 
 use crate::ends::{End, end_text, note};
@@ -178,16 +182,37 @@ fn run_once<O: Opening>(
     let mut jobs = begin::<O>(alloc, script, globals)?;
     let mut chance = Chance::new(seed, run);
     let made = step_by_choice(alloc, &mut jobs, &mut chance, RUN_LIMIT)?;
-    note(ends, end_text(alloc, &jobs.core)?)?;
-    let has_faulted = has(&jobs.core, Mark::Fault);
-    let came = judged(alloc, &mut jobs, made.ending, goal)?;
+    let came = told(alloc, &mut jobs, made.ending, goal, ends)?;
     let Made { steps, .. } = made;
     Ok(Came {
         steps,
         shown: came.0,
-        has_faulted,
-        fate: came.1,
+        has_faulted: came.1,
+        fate: came.2,
     })
+}
+
+// Notes the end of a run whose steps ended so, and tells in which way it shows what is looked for, if it does, whether a job ended by a fault, and what became
+// of its jobs.
+fn told<O: Opening>(
+    alloc: Global,
+    jobs: &mut Jobs<Memory, Sessions<Memory>, O>,
+    ending: Ending,
+    goal: Option<&Goal>,
+    ends: &mut Vec<End>,
+) -> Result<(Option<Finding>, bool, Fate), AllocError>
+    ensures shown { IfOk result (λ came. IfSome came.0
+        (λ finding. IsShownFor (option_map (λ g. g.now) goal.entry) finding (program_of jobs.old.image) O.opening jobs.old.history)) }
+    ensures over { IfOk result (λ came. OnSome came.0 (ending ≡ Ending.Over)) }
+    ensures granted { IfOk result (λ came. is_for_memory ending ≡ false) }
+    ensures faulted { IfOk result (λ came. came.1 ≡ nat_lt 0 (count_by (bears marks.Fault) jobs.old.history)) }
+    ensures fate { IfOk result (λ came. IsFateOf came.2 (program_of jobs.old.image) O.opening jobs.old.history) }
+    ensures noted { IfOk result (λ came. IsNoted (end_text O.opening jobs.old.history) ends.old.items ends.new.items) }
+{
+    note(ends, end_text(alloc, &jobs.core)?)?;
+    let has_faulted = has(&jobs.core, Mark::Fault);
+    let came = judged(alloc, jobs, ending, goal)?;
+    Ok((came.0, has_faulted, came.1))
 }
 
 // In which way a run whose steps ended so shows what is looked for, if it does, and what became of its jobs. Where memory was refused to the run there is

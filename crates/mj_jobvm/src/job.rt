@@ -192,9 +192,7 @@ impl Job {
         ensures spent { self.new.run.spent ≡ 0 }
     {
         if let Some(ask) = self.pending.take() {
-            if let Err(_) = self.log.push((ask, reply)) {
-                unreachable!();
-            }
+            self.log.push_reserved((ask, reply));
             self.places.keep();
             self.given = true;
             self.spent = 0;

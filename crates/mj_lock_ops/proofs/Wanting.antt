@@ -1,5 +1,5 @@
 -- What a turn of LOCK or JOB does, by what its operands ask for.
-use Rattle.std.proofs.Common.{◌≡◌, ℕ, zero, ◌<◌, ◌≤◌, suc, ◌+◌, List, [], ◌∷◌, ◌++◌, length, drop, append_assoc, Option, Some, None, Bool, true, false, Result, Ok, Err, refl, sym, ap, ◌∙◌, arith}
+use Rattle.std.proofs.Common.{◌≡◌, ℕ, zero, ◌<◌, ◌≤◌, suc, ◌+◌, List, [], ◌∷◌, ◌++◌, length, drop, append_assoc, Option, Some, None, Bool, true, false, Result, Ok, Err, refl, ap, ◌∙◌, arith}
 use Rattle.std.specs.Prelude.{ℤ, not, nat_lt, if◌then◌else◌}
 use Rattle.std.proofs.lemmas.Bool.{lt-ltb}
 use Rattle.mj_text.specs.declared.fault.Fault.{Fault}
@@ -7,19 +7,21 @@ use Rattle.mj_text.specs.declared.fault.Fault.TheVariants.{InTransaction}
 use Rattle.mj_text.specs.Failing.{then_value}
 use Rattle.mj_num.specs.Number.{reading}
 use Rattle.mj_subs.specs.Name.{Name}
-use Rattle.mj_ask.specs.declared.ask.Ask.TheVariants as asks
-use Rattle.mj_ask.specs.declared.ask.SharedAsk.TheVariants as shared_asks
 use Rattle.mj_ask.specs.declared.ask.Reply.{Reply}
 use Rattle.mj_semantics.specs.State.{State, counted}
 use Rattle.mj_semantics.specs.Outcome.{Handler, Timed, ask, given, fault}
-use Rattle.mj_semantics.specs.Sharing.{served, in_time, out_of_transaction, take_names, give_names}
+use Rattle.mj_semantics.specs.Sharing.{served, in_time, out_of_transaction}
 use Rattle.mj_pcode.specs.declared.instr.Reference.{Reference}
 use Rattle.mj_pcode.specs.declared.instr.Wait.{Wait}
 use Rattle.mj_pcode.specs.declared.instr.Wait.TheVariants.{Ever, Timed as Limited}
 use Rattle.mj_semantics.specs.Evaluation.{name_of}
 use Rattle.mj_pcode.specs.Machine.{Stack, top, wait_size, waits, counts, names_on, operands}
 use Rattle.mj_machine.proofs.Asks.{one_more}
-use Rattle.mj_lock_ops.specs.Wanted.{timeout_in, test_after, listed, refused, wanted_in}
+use Rattle.mj_pcode.specs.declared.instr.Unit.{Unit}
+use Rattle.mj_machine.specs.declared.machine.Machine.{Machine}
+use Rattle.mj_machine.specs.declared.machine.TurnOutcome.{TurnOutcome}
+use Rattle.mj_machine.specs.Kept.{context_of, stack_of, Does, Obeys}
+use Rattle.mj_lock_ops.specs.Wanted.{timeout_in, test_after, refused, wanted_in, takes_or_gives, ask_of, lock_of}
 
 -- how long an ask may wait is known before the rest
 pub waits_known : (w : Wait) (stack : Stack) (f : Option ℤ → Timed) (n : ℕ) → waits w stack f n ≡ given (timeout_in w stack) f n
@@ -64,14 +66,26 @@ pub test_is : (timeout : Option ℤ) (late : Bool) (s : State) → record s { te
 test_is None late s = refl
 test_is (Some n) late s = refl
 
--- names of which there is one at least
-pub some_taken : (xs : List Name) (timeout : Option ℤ) (rest : Timed) → 0 < length xs → take_names xs timeout rest ≡ ask (asks.Shared (shared_asks.Try xs timeout)) (λ r. served timeout r rest)
-some_taken [] timeout rest lt = absurd (omega (arith, lt))
-some_taken (x ∷ xs) timeout rest lt = refl
+-- names of which there is one at least are asked for
+pub some_asked : (takes : Bool) (xs : List Name) (timeout : Option ℤ) (rest : Timed) → 0 < length xs
+    → takes_or_gives takes xs timeout rest ≡ ask (ask_of takes xs timeout) (λ r. served timeout r rest)
+some_asked true [] timeout rest lt = absurd (omega (arith, lt))
+some_asked true (x ∷ xs) timeout rest lt = refl
+some_asked false [] timeout rest lt = absurd (omega (arith, lt))
+some_asked false (x ∷ xs) timeout rest lt = refl
 
-pub some_given : (xs : List Name) (timeout : Option ℤ) (rest : Timed) → 0 < length xs → give_names xs timeout rest ≡ ask (asks.Shared (shared_asks.Unlock xs)) (λ r. served timeout r rest)
-some_given [] timeout rest lt = absurd (omega (arith, lt))
-some_given (x ∷ xs) timeout rest lt = refl
+-- where there is none, nothing is done
+pub none_asked : (takes : Bool) (timeout : Option ℤ) (rest : Timed) → takes_or_gives takes [] timeout rest ≡ rest
+none_asked true timeout rest = refl
+none_asked false timeout rest = refl
+
+-- what LOCK does with names that are taken, or given up, is what its instruction does
+pub obeys_lock : (takes : Bool) (rs : List Reference) (w : Wait) (pc : ℕ) (old : Machine) (told : Option Reply) (step : TurnOutcome) (new : Machine)
+    → ((all : List Unit) (u : Unit) → Does (λ next. waits w (stack_of old) (λ timeout. given (names_on rs (drop (wait_size w) (stack_of old)))
+    (λ xs. takes_or_gives takes xs timeout (next (context_of old) (pc + 1) (drop (counts rs + wait_size w) (stack_of old)))))) old told step new)
+    → Obeys (lock_of takes rs w) pc old told step new
+obeys_lock true rs w pc old told step new h = h
+obeys_lock false rs w pc old told step new h = h
 
 -- the names of what is left of some variables have no more subscripts
 pub counts_left : (rs : List Reference) (i : ℕ) → counts (drop i rs) ≤ counts rs
@@ -147,12 +161,7 @@ wanted_late rs w stack f t =
     ap (λ q. then_value q named) t
 
 -- one at least is taken, or given up, by the reply
-pub taken_told : (xs : List Name) (y : Option ℤ) (rest : Timed) (n : ℕ) (back : Handler) (s : State) (r : Reply) (replies : List Reply) → 0 < length xs
-    → s.replied < s.bounds.events → take_names xs y rest n back s (r ∷ replies) ≡ served y r rest n back (counted s) replies
-taken_told xs y rest n back s r replies some few =
-    ap (λ q. q n back s (r ∷ replies)) (some_taken xs y rest some) ∙ one_more (asks.Shared (shared_asks.Try xs y)) (λ p. served y p rest) n back s (r ∷ replies) few
-
-pub given_told : (xs : List Name) (y : Option ℤ) (rest : Timed) (n : ℕ) (back : Handler) (s : State) (r : Reply) (replies : List Reply) → 0 < length xs
-    → s.replied < s.bounds.events → give_names xs y rest n back s (r ∷ replies) ≡ served y r rest n back (counted s) replies
-given_told xs y rest n back s r replies some few =
-    ap (λ q. q n back s (r ∷ replies)) (some_given xs y rest some) ∙ one_more (asks.Shared (shared_asks.Unlock xs)) (λ p. served y p rest) n back s (r ∷ replies) few
+pub asked_told : (takes : Bool) (xs : List Name) (y : Option ℤ) (rest : Timed) (n : ℕ) (back : Handler) (s : State) (r : Reply) (replies : List Reply) → 0 < length xs
+    → s.replied < s.bounds.events → takes_or_gives takes xs y rest n back s (r ∷ replies) ≡ served y r rest n back (counted s) replies
+asked_told takes xs y rest n back s r replies some few =
+    ap (λ q. q n back s (r ∷ replies)) (some_asked takes xs y rest some) ∙ one_more (ask_of takes xs y) (λ p. served y p rest) n back s (r ∷ replies) few

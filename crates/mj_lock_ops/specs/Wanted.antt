@@ -1,9 +1,16 @@
 -- What is asked for by operands: how long that may take, and names.
-use Rattle.std.specs.Prelude.{ℤ, List, [], drop, Option, Some, None, Bool, not, Result, Ok, Err}
+use Rattle.std.specs.Prelude.{ℤ, List, [], drop, Option, Some, None, Bool, true, false, not, Result, Ok, Err}
 use Rattle.mj_text.specs.declared.fault.Fault.{Fault}
 use Rattle.mj_text.specs.Failing.{then_value}
 use Rattle.mj_num.specs.Number.{reading}
 use Rattle.mj_subs.specs.Name.{Name}
+use Rattle.mj_ask.specs.declared.ask.Ask.{Ask}
+use Rattle.mj_ask.specs.declared.ask.Ask.TheVariants as asks
+use Rattle.mj_ask.specs.declared.ask.SharedAsk.TheVariants as shared_asks
+use Rattle.mj_semantics.specs.Outcome.{Timed as Timely}
+use Rattle.mj_semantics.specs.Sharing.{take_names, give_names}
+use Rattle.mj_pcode.specs.declared.instr.Instr.{Instr}
+use Rattle.mj_pcode.specs.declared.instr.Instr.TheVariants.{Lock, Unlock}
 use Rattle.mj_pcode.specs.declared.instr.Wait.{Wait}
 use Rattle.mj_pcode.specs.declared.instr.Wait.TheVariants.{Ever, Timed}
 use Rattle.mj_pcode.specs.declared.instr.Reference.{Reference}
@@ -28,6 +35,21 @@ listed (Some xs) = xs
 abbrev pub wanted_in : List Reference → Wait → Stack → Result (Option ℤ × List Name) Fault
 wanted_in references w stack =
     then_value (timeout_in w stack) (λ timeout. then_value (names_on references (drop (wait_size w) stack)) (λ xs. Ok (timeout, xs)))
+
+-- what LOCK does with names: it takes them, or gives them up
+abbrev pub takes_or_gives : Bool → List Name → Option ℤ → Timely → Timely
+takes_or_gives true xs timeout rest = take_names xs timeout rest
+takes_or_gives false xs timeout rest = give_names xs timeout rest
+
+-- what it asks for that
+abbrev pub ask_of : Bool → List Name → Option ℤ → Ask
+ask_of true xs timeout = asks.Shared (shared_asks.Try xs timeout)
+ask_of false xs timeout = asks.Shared (shared_asks.Unlock xs)
+
+-- the instruction that does it
+abbrev pub lock_of : Bool → List Reference → Wait → Instr
+lock_of true references w = Lock references w
+lock_of false references w = Unlock references w
 
 -- why variables have no names, if one of them has none
 abbrev pub refused : Result (List Name) Fault → Option Fault

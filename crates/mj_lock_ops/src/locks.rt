@@ -1,11 +1,11 @@
 // LOCK.
 
-ghost use Rattle.std.specs.Prelude.{◌≡◌, ◌+◌, ◌<◌, ◌≤◌, ◌^◌, ◌∷◌, [], ◌++◌, Some, Ok, IfOk, IfSome, OnErr, length, drop};
+ghost use Rattle.std.specs.Prelude.{◌≡◌, ◌+◌, ◌<◌, ◌≤◌, ◌^◌, ◌∷◌, [], ◌++◌, Bool, Some, Ok, IfOk, IfSome, OnErr, length, drop};
 ghost use Rattle.mj_text.specs.Failing.{then_value};
 ghost use Rattle.mj_pcode.specs.Machine as machines;
 ghost use Rattle.mj_pcode.specs.declared.instr.Instr.TheVariants as instrs;
 ghost use Rattle.mj_machine.specs.Kept.{stack_of, Obeys, Stays, replied};
-ghost use Rattle.mj_lock_ops.specs.Wanted.{listed, refused, wanted_in};
+ghost use Rattle.mj_lock_ops.specs.Wanted.{ask_of, listed, lock_of, refused, wanted_in};
 
 use crate::timed::{ask_in_time, take, timeout_of, wait_size};
 use mj_ask::{Ask, Names, Reply, SharedAsk};
@@ -59,26 +59,7 @@ pub fn lock(
     ensures ok { IfOk result (λ step. Obeys (instrs.Lock references.now wait) pc machine.old (replied given.entry) step machine.new) }
     ensures err { OnErr result (Stays machine.old machine.new) }
 {
-    if let Some(reply) = given {
-        if machine.replied < machine.bounds.events as u64 {
-            return Ok(take_wanted(pc, references, wait, reply, machine));
-        }
-    }
-    let wanted = match read_wanted(alloc, references, wait, machine)? {
-        Ok(wanted) => wanted,
-        Err(fault) => return Ok(fail(fault, machine)),
-    };
-    let timeout = wanted.timeout;
-    let count = wanted.count;
-    let names = wanted.names;
-    match names {
-        None => Ok(discard(pc, count, machine)),
-        Some(names) => {
-            let ask = Ask::Shared(SharedAsk::Try(names, timeout));
-            let limit = ask.timeout();
-            ask_in_time(alloc, pc, count, ask, limit, machine, given)
-        }
-    }
+    take_or_give(alloc, pc, true, references, wait, machine, given)
 }
 
 /// Gives up the names of variables.
@@ -96,6 +77,24 @@ pub fn unlock(
     ensures ok { IfOk result (λ step. Obeys (instrs.Unlock references.now wait) pc machine.old (replied given.entry) step machine.new) }
     ensures err { OnErr result (Stays machine.old machine.new) }
 {
+    take_or_give(alloc, pc, false, references, wait, machine, given)
+}
+
+// Takes the names of variables, or gives them up.
+fn take_or_give(
+    alloc: Global,
+    pc: usize,
+    takes: bool,
+    references: &References,
+    wait: Wait,
+    machine: &mut Machine,
+    given: Option<&Reply>,
+) -> Result<TurnOutcome, AllocError>
+    requires next { pc + 1 < 2 ^ 64 }
+    requires enough { machines.counts references.now + machines.wait_size wait ≤ length machine.old.stack.items }
+    ensures ok { IfOk result (λ step. Obeys (lock_of takes references.now wait) pc machine.old (replied given.entry) step machine.new) }
+    ensures err { OnErr result (Stays machine.old machine.new) }
+{
     if let Some(reply) = given {
         if machine.replied < machine.bounds.events as u64 {
             return Ok(take_wanted(pc, references, wait, reply, machine));
@@ -111,13 +110,25 @@ pub fn unlock(
     match names {
         None => Ok(discard(pc, count, machine)),
         Some(names) => {
-            let ask = Ask::Shared(SharedAsk::Unlock(names));
+            let ask = ask_of(takes, names, &timeout);
             ask_in_time(alloc, pc, count, ask, timeout, machine, given)
         }
     }
 }
 
-// Takes the reply to what LOCK asked, which the operands say. Makes no name of it, but faults where one can't be made.
+// What is asked where names are to be taken, or given up.
+fn ask_of(takes: bool, names: Names, timeout: &Option<Num>) -> Ask
+    ensures { result ≡ ask_of takes names timeout.now }
+{
+    if takes {
+        Ask::Shared(SharedAsk::Try(names, *timeout))
+    } else {
+        Ask::Shared(SharedAsk::Unlock(names))
+    }
+}
+
+// Takes the reply to what LOCK asked, which the operands say, be it that names are taken or that they are given up. Makes no name of it, but faults where one
+// can't be made.
 fn take_wanted(
     pc: usize,
     references: &References,
@@ -128,8 +139,7 @@ fn take_wanted(
     requires next { pc + 1 < 2 ^ 64 }
     requires enough { machines.counts references.now + machines.wait_size wait ≤ length machine.old.stack.items }
     requires more { machine.old.replied < machine.old.bounds.events }
-    ensures lock { Obeys (instrs.Lock references.now wait) pc machine.old (Some reply.now) result machine.new }
-    ensures unlock { Obeys (instrs.Unlock references.now wait) pc machine.old (Some reply.now) result machine.new }
+    ensures { (takes : Bool) → Obeys (lock_of takes references.now wait) pc machine.old (Some reply.now) result machine.new }
 {
     let timeout = match timeout_of(wait, &machine.stack) {
         Ok(timeout) => timeout,

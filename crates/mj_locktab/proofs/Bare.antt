@@ -60,11 +60,6 @@ none_told c e bare = cc
 pub none_in_none : (R : List ℕ → List ℕ → Ordering) (ks : Kids) → ks ≡ [] → NoneBare R ks
 none_in_none R ks empty = subst (NoneBare R) (sym empty) (λ q child found bare. none_told child found bare)
 
-pub counted_none : (ts : Tallies) → ts ≡ [] → AreCounted ts
-counted_none ts empty = subst AreCounted (sym empty) (λ job found. never found) where
-  never : ◌≡◌ {A = Option ℕ} None (Some 0) → ⊥
-  never found = cc
-
 -- a tree is put, or nothing is where no memory is left
 pub none_bare_put : {A E Y : Type 0} (r : Result A E) (R : List ℕ → List ℕ → Ordering) (seen : Y → Kids) (ks : Kids) (mid new : Y) (s : List ℕ) (x : Stands) → seen mid ≡ ks
     → OnOk r (IsWritten R (seen mid) (seen new) s (Some x)) → OnErr r (new ≡ mid) → (IsBare x → ⊥) → NoneBare R ks → NoneBare R (seen new)

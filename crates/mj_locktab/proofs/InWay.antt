@@ -16,7 +16,7 @@ use Rattle.mj_locktab.specs.Trees.{Tallies, Stand, Stands, stand_at, tally, is_j
 use Rattle.mj_locktab.proofs.Entries.{or_left, or_right, nor, one_or_other}
 use Rattle.mj_locktab.proofs.Limits.{lt_true, from_lt_true, from_lt_false}
 
-equal_job : (j k : ℕ) → (j == k) ≡ true → j ≡ k
+pub equal_job : (j k : ℕ) → (j == k) ≡ true → j ≡ k
 equal_job j k e = eqb→eq j k (subst T (sym e) tt)
 
 unlike : (j k : ℕ) → (j ≡ k → ⊥) → (j == k) ≡ false
@@ -38,7 +38,7 @@ pub record IsLeft (all left : Tallies) (job : ℕ) : Type 0 where
 pub all_left : (all : Tallies) (job : ℕ) → IsStrictlySortedBy nat_cmp (keys_of all) → IsLeft all all job
 all_left all job rises = record { rises = rises; same = λ j other. refl }
 
-tally-cons : (e : ℕ × ℕ) (es : Tallies) (j : ℕ) → tally (e ∷ es) j ≡ cond (j == e.0) e.1 (tally es j)
+pub tally-cons : (e : ℕ × ℕ) (es : Tallies) (j : ℕ) → tally (e ∷ es) j ≡ cond (j == e.0) e.1 (tally es j)
 tally-cons e es j = ap (λ b. unwrap_or (cond b (Some e.1) (lookup (is_at (nat_cmp j)) es)) 0) (unsigned_tied j e.0) ∙ at (j == e.0) where
   at : (b : Bool) → unwrap_or (cond b (Some e.1) (lookup (is_at (nat_cmp j)) es)) 0 ≡ cond b e.1 (tally es j)
   at true = refl

@@ -11,6 +11,7 @@ pub mod Copies
 pub mod Nodes
 pub mod Bare
 pub mod InWay
+pub mod Tallies
 pub mod Spelled
 pub mod Follows
 pub mod Followed

@@ -31,17 +31,17 @@ impl Model for Node {
     ghost use Rattle.std.specs.Prelude.{◌∷◌, []};
     ghost use Rattle.std.specs.BTreeMap.{IsOrdered};
     ghost use Rattle.mj_subs.specs.Collation.{subscript_cmp};
-    ghost use Rattle.mj_locktab.specs.Trees.{below, weight, AreCounted, NoneBare};
+    ghost use Rattle.mj_locktab.specs.Trees.{below, weight, tallies_of, AreCounted, NoneBare};
 
-    ghost view = { λ a. ([], (a.holder, a.tallies.entries)) ∷ below a.children.entries };
+    ghost view = { λ a. ([], (a.holder, tallies_of a.tallies)) ∷ below a.children.entries };
 
-    ghost invariant = { λ a. IsOrdered subscript_cmp a.children × AreCounted a.tallies.entries × NoneBare subscript_cmp a.children.entries };
+    ghost invariant = { λ a. IsOrdered subscript_cmp a.children × AreCounted (tallies_of a.tallies) × NoneBare subscript_cmp a.children.entries };
 
     ghost size = { weight };
 
     ghost use Rattle.mj_locktab.specs.Falls.{child_le-weight};
 
-    ghost size_decreases = { λ a h. child_le-weight (a.holder, a.tallies.entries) a.children.entries };
+    ghost size_decreases = { λ a h. child_le-weight (a.holder, tallies_of a.tallies) a.children.entries };
 }
 
 impl Node {
@@ -51,7 +51,7 @@ impl Node {
         ensures ok { OnOk result (HasOneMore (stand_at self.old) (stand_at self.new) (λ p. paths_eq p path.now) (λ p. is_front p path.now) job) }
         ensures err { OnErr result (AreAlike (stand_at self.old) (stand_at self.new)) }
     {
-        tally::raise(&mut self.tallies, job)?;
+        tally::raise(&mut self.tallies, self.alloc, job)?;
         let [sub, rest @ ..] = path else {
             self.holder = Some(job);
             return Ok(());
@@ -92,7 +92,7 @@ impl Node {
     pub fn is_bare(&self) -> bool
         ensures { IsTrue result ↔ IsBare self.now }
     {
-        self.holder.is_none() && self.tallies.is_empty() && self.children.is_empty()
+        self.holder.is_none() && tally::is_empty(&self.tallies) && self.children.is_empty()
     }
 
     /// The lowest other job that has a name in the way of a list of subscripts. It looks at no more nodes below than there are subscripts.
@@ -142,8 +142,7 @@ impl Node {
 pub fn chain(alloc: Global, job: u32, path: &[Sub]) -> Result<Node, AllocError>
     ensures { IfOk result (λ n. HasOneMore (λ p. None) (stand_at n) (λ p. paths_eq p path.now) (λ p. is_front p path.now) job) }
 {
-    let mut tallies = BTreeMap::new(alloc);
-    tally::raise(&mut tallies, job)?;
+    let tallies = Tallies::One(job, 1);
     let mut children = BTreeMap::new(alloc);
     match path {
         [] => Ok(Node {

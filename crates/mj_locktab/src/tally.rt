@@ -1,28 +1,83 @@
 // How many names each job has at a node of a tree or below it.
 
-ghost use Rattle.std.specs.Prelude.{◌≡◌, ℕ, ◌+◌, ◌-◌, ◌^◌, ◌<◌, ◌==◌, ◌&&◌, not, nat_lt, IfOk, OnOk, OnErr, MatchOption, if◌then◌else◌};
-ghost use Rattle.mj_locktab.specs.Trees.{tally, AreCounted, NoOther, IsLeastOther};
+ghost use Rattle.std.specs.Prelude.{◌≡◌, ◌↔◌, ℕ, ◌+◌, ◌-◌, ◌^◌, ◌<◌, ◌==◌, ◌&&◌, not, nat_lt};
+ghost use Rattle.std.specs.Prelude.{[], ◌∷◌, length, IsTrue, IfOk, OnOk, OnErr, MatchOption, if◌then◌else◌};
+ghost use Rattle.mj_locktab.specs.Trees.{tally, tallies_of, AreCounted, NoOther, IsLeastOther};
 
-use std::alloc::AllocError;
+use std::alloc::{AllocError, Global};
 use std::collections::BTreeMap;
 
-/// Jobs, each with how many names it has. One that isn't told has none.
-pub type Tallies = BTreeMap<u32, u32>;
+/// Jobs, each with how many names it has. One that isn't told has none. Most names are of one job, which is kept without memory of its own.
+#[derive(Drop)]
+pub enum Tallies {
+    /// No job.
+    Empty,
+    /// One job, and how many names it has.
+    One(u32, u32),
+    /// Several jobs, or those that are left of several.
+    More(BTreeMap<u32, u32>),
+}
+
+/// Whether no job is told.
+pub fn is_empty(tallies: &Tallies) -> bool
+    ensures { IsTrue result ↔ (length (tallies_of tallies.now) ≡ 0) }
+{
+    match tallies {
+        Tallies::Empty => true,
+        Tallies::One(_, _) => false,
+        Tallies::More(map) => map.is_empty(),
+    }
+}
 
 /// One name more of the job.
-pub fn raise(tallies: &mut Tallies, job: u32) -> Result<(), AllocError>
-    requires { tally tallies.old.entries job < 2 ^ 32 - 1 }
-    ensures ok { OnOk result ((j : ℕ) → tally tallies.new.entries j ≡ tally tallies.old.entries j + (if j == job then 1 else 0)) }
-    ensures err { OnErr result (tallies.new.entries ≡ tallies.old.entries) }
-    ensures counted { AreCounted tallies.old.entries → AreCounted tallies.new.entries }
+pub fn raise(tallies: &mut Tallies, alloc: Global, job: u32) -> Result<(), AllocError>
+    requires { tally (tallies_of tallies.old) job < 2 ^ 32 - 1 }
+    ensures ok { OnOk result ((j : ℕ) → tally (tallies_of tallies.new) j ≡ tally (tallies_of tallies.old) j + (if j == job then 1 else 0)) }
+    ensures err { OnErr result (tallies_of tallies.new ≡ tallies_of tallies.old) }
+    ensures counted { AreCounted (tallies_of tallies.old) → AreCounted (tallies_of tallies.new) }
 {
-    match tallies.get_mut(&job) {
+    match tallies {
+        Tallies::Empty => {
+            *tallies = Tallies::One(job, 1);
+            Ok(())
+        }
+        Tallies::One(own, count) => {
+            if *own == job {
+                *count += 1;
+                return Ok(());
+            }
+            let mut map = only(alloc, *own, *count)?;
+            raise_in(&mut map, job)?;
+            *tallies = Tallies::More(map);
+            Ok(())
+        }
+        Tallies::More(map) => raise_in(map, job),
+    }
+}
+
+// A map of one job.
+fn only(alloc: Global, job: u32, count: u32) -> Result<BTreeMap<u32, u32>, AllocError>
+    ensures { IfOk result (λ map. map.entries ≡ (job, count) ∷ []) }
+{
+    let mut map = BTreeMap::new(alloc);
+    map.insert(job, count)?;
+    Ok(map)
+}
+
+// One name more of the job, in a map.
+fn raise_in(map: &mut BTreeMap<u32, u32>, job: u32) -> Result<(), AllocError>
+    requires { tally map.old.entries job < 2 ^ 32 - 1 }
+    ensures ok { OnOk result ((j : ℕ) → tally map.new.entries j ≡ tally map.old.entries j + (if j == job then 1 else 0)) }
+    ensures err { OnErr result (map.new.entries ≡ map.old.entries) }
+    ensures counted { AreCounted map.old.entries → AreCounted map.new.entries }
+{
+    match map.get_mut(&job) {
         Some(count) => {
             *count += 1;
             Ok(())
         }
         None => {
-            tallies.insert(job, 1)?;
+            map.insert(job, 1)?;
             Ok(())
         }
     }
@@ -30,24 +85,62 @@ pub fn raise(tallies: &mut Tallies, job: u32) -> Result<(), AllocError>
 
 /// One name less of the job, where it has one.
 pub fn lower(tallies: &mut Tallies, job: u32)
-    ensures less { (j : ℕ) → tally tallies.new.entries j ≡ tally tallies.old.entries j - (if j == job then 1 else 0) }
-    ensures counted { AreCounted tallies.old.entries → AreCounted tallies.new.entries }
+    ensures less { (j : ℕ) → tally (tallies_of tallies.new) j ≡ tally (tallies_of tallies.old) j - (if j == job then 1 else 0) }
+    ensures counted { AreCounted (tallies_of tallies.old) → AreCounted (tallies_of tallies.new) }
 {
-    let Some(count) = tallies.get_mut(&job) else {
+    match tallies {
+        Tallies::Empty => {}
+        Tallies::One(own, count) => {
+            if *own != job {
+                return;
+            }
+            if *count > 1 {
+                *count -= 1;
+            } else {
+                *tallies = Tallies::Empty;
+            }
+        }
+        Tallies::More(map) => lower_in(map, job),
+    }
+}
+
+// One name less of the job, in a map.
+fn lower_in(map: &mut BTreeMap<u32, u32>, job: u32)
+    ensures less { (j : ℕ) → tally map.new.entries j ≡ tally map.old.entries j - (if j == job then 1 else 0) }
+    ensures counted { AreCounted map.old.entries → AreCounted map.new.entries }
+{
+    let Some(count) = map.get_mut(&job) else {
         return;
     };
     if *count > 1 {
         *count -= 1;
     } else {
-        let _gone = tallies.remove(&job);
+        let _gone = map.remove(&job);
     }
 }
 
 /// The lowest other job that has a name. As a job without one is rarely told, it looks at two of them.
 pub fn first_other(tallies: &Tallies, job: u32) -> Option<u32>
-    ensures { MatchOption result (NoOther (λ j. nat_lt 0 (tally tallies.now.entries j)) job) (IsLeastOther (λ j. nat_lt 0 (tally tallies.now.entries j)) job) }
+    ensures { MatchOption result (NoOther (λ j. nat_lt 0 (tally (tallies_of tallies.now) j)) job)
+        (IsLeastOther (λ j. nat_lt 0 (tally (tallies_of tallies.now) j)) job) }
 {
-    for (other, count) in tallies {
+    match tallies {
+        Tallies::Empty => None,
+        Tallies::One(other, count) => {
+            if has_one(*other, *count, job) {
+                return Some(*other);
+            }
+            None
+        }
+        Tallies::More(map) => first_other_in(map, job),
+    }
+}
+
+// The lowest other job that has a name, in a map.
+fn first_other_in(map: &BTreeMap<u32, u32>, job: u32) -> Option<u32>
+    ensures { MatchOption result (NoOther (λ j. nat_lt 0 (tally map.now.entries j)) job) (IsLeastOther (λ j. nat_lt 0 (tally map.now.entries j)) job) }
+{
+    for (other, count) in map {
         if has_one(*other, *count, job) {
             return Some(*other);
         }
@@ -64,8 +157,11 @@ fn has_one(other: u32, count: u32, job: u32) -> bool
 
 /// A copy.
 pub fn copy(tallies: &Tallies) -> Result<Tallies, AllocError>
-    ensures { IfOk result (λ copy. copy.entries ≡ tallies.now.entries) }
+    ensures { IfOk result (λ copy. tallies_of copy ≡ tallies_of tallies.now) }
 {
-    let copy = tallies.clone()?;
-    Ok(copy)
+    match tallies {
+        Tallies::Empty => Ok(Tallies::Empty),
+        Tallies::One(job, count) => Ok(Tallies::One(*job, *count)),
+        Tallies::More(map) => Ok(Tallies::More(map.clone()?)),
+    }
 }

@@ -41,3 +41,14 @@ pub fn put_count(alloc: Global, text: &mut Vec<u8>, count: u64) -> Result<(), Al
     drop(digits);
     put
 }
+
+/// The text, where the rest of it was put to its end.
+pub fn if_put(text: Vec<u8>, put: Result<(), AllocError>) -> Result<Vec<u8>, AllocError> {
+    match put {
+        Ok(()) => Ok(text),
+        Err(refused) => {
+            drop(text);
+            Err(refused)
+        }
+    }
+}

@@ -6,7 +6,7 @@ ghost use Rattle.mj_jobs.specs.Rows.{rows_limit};
 ghost use Rattle.mj_sys.specs.Opening.{opening_of, are_bare};
 ghost use Rattle.mj_sys.specs.Shared.{are_global};
 
-use crate::histories::{put_count, put_history};
+use crate::histories::{if_put, put_count, put_history};
 use crate::listening::{may_not_refuse, may_refuse};
 use crate::script::{is_event, noted_line, script};
 use crate::told::Told;
@@ -34,7 +34,7 @@ const FIRST: &str = "1 value ^A(1) \"1\"
 1 kill ^A(1) done
 1 try ^L,^M(1) got
 2 try ^L(1) :0 late
-2 try ^N got
+2 try ^N,^M(2) got
 1 open \"F\" got
 2 open \"F\" :0 late
 ";
@@ -332,13 +332,7 @@ fn standing<D: Device, O: Opening>(
 ) -> Result<Vec<u8>, AllocError> {
     let mut text = shared(alloc, system.globals(), system.locks())?;
     let put = put_rest(alloc, &mut text, system, claim, ask);
-    match put {
-        Ok(()) => Ok(text),
-        Err(refused) => {
-            drop(text);
-            Err(refused)
-        }
-    }
+    if_put(text, put)
 }
 
 fn put_rest<D: Device, O: Opening>(

@@ -6,7 +6,7 @@ ghost use Rattle.mj_dev.specs.Shelves.{principal, left_of};
 ghost use Rattle.mj_sys.specs.Opening.{opening_of, are_bare};
 ghost use Rattle.mj_sys.specs.Shared.{are_global};
 
-use crate::histories::put_count;
+use crate::histories::{if_put, put_count};
 use crate::listening::{may_not_refuse, may_refuse};
 use crate::told::Told;
 use mj_ask::Start;
@@ -275,13 +275,7 @@ fn standing<D: Device, O: Opening>(
 ) -> Result<Vec<u8>, AllocError> {
     let mut text = shared(alloc, core.globals(), core.locks())?;
     let put = put_rest(alloc, &mut text, core, drops);
-    match put {
-        Ok(()) => Ok(text),
-        Err(refused) => {
-            drop(text);
-            Err(refused)
-        }
-    }
+    if_put(text, put)
 }
 
 fn put_rest<D: Device, O: Opening>(

@@ -2,8 +2,7 @@
 
 ghost use Rattle.std.specs.Prelude.{◌≡◌, ◌≢◌, ◌≤◌, [], true, length, All, IfOk, IfErr, OnOk};
 ghost use Rattle.mj_text.specs.declared.limit.Limit.TheVariants.{V2};
-ghost use Rattle.mj_dev.specs.Heard.{IsFresh};
-ghost use Rattle.mj_dev.specs.Shelves.{principal, added, left_of};
+ghost use Rattle.mj_dev.specs.Shelves.{principal, left_of};
 ghost use Rattle.mj_files.specs.Named.{with_principals};
 ghost use Rattle.mj_jobs.specs.Rows.{rows_limit};
 ghost use Rattle.mj_load.specs.Image.{Loaded, IsWithinLimits};
@@ -16,6 +15,7 @@ ghost use Rattle.mj_script.specs.Scripts.{opening_in, pool_in};
 use mj_ask::Start;
 use mj_ast::Routine;
 use mj_dev::{Memory, Pool};
+use mj_files::put;
 use mj_globs::Globals;
 use mj_jobs::ROWS_LIMIT;
 use mj_load::{Image, load};
@@ -51,12 +51,6 @@ pub enum Unread {
     Twice { name: Text },
     /// an allocation was refused
     Memory,
-}
-
-impl From<AllocError> for Unread {
-    fn from(_error: AllocError) -> Unread {
-        Unread::Memory
-    }
 }
 
 /// What each run begins with, beside the globals: routines that can be loaded, where the first jobs start, the bytes whose lines the first job reads, and the
@@ -243,18 +237,4 @@ fn add_principals(
         put(pool, &name, Memory::new(alloc, bytes))?;
     }
     Ok(())
-}
-
-// Adds a device of this name.
-fn put(pool: &mut Pool<Memory>, name: &Text, device: Memory) -> Result<(), AllocError>
-    requires { IsFresh device.failures device.taken device.given }
-    ensures { OnOk result (pool.new ≡ added name.now pool.old) }
-{
-    match pool.add(name, device) {
-        Ok(()) => Ok(()),
-        Err(device) => {
-            drop(device); // for the proof
-            Err(AllocError)
-        }
-    }
 }

@@ -16,7 +16,7 @@ use mj_locktab::{LockTable, Taken};
 use mj_store::{Access, Answer};
 use mj_subs::Name;
 use mj_text::Digits;
-use mj_txlog::{TxLog, Unlock};
+use mj_txlog::{Skips, TxLog, Unlock};
 use mj_txn as txn;
 use std::alloc::{AllocError, Global};
 use std::collections::BTreeMap;
@@ -97,8 +97,48 @@ impl Ongoing {
         self.log.unlock(Unlock::All)
     }
 
-    // Makes an access in the transaction: what it is told, twice.
+    // Makes an access in the transaction: what it is told, twice. A write, and a read of one text, passes over nothing.
     pub fn access(
+        &mut self,
+        globals: &Globals,
+        access: &Access,
+    ) -> Result<(Answer, Answer), AllocError>
+        requires { IsOpenOn globals.now self.old }
+        ensures answer { IfOk result (λ told. told.0 ≡ told_in self.old.log.transaction globals.now.content access.now) }
+        ensures again { IfOk result (λ told. told.1 ≡ told_in self.old.log.transaction globals.now.content access.now) }
+        ensures log { OnOk result (self.new.log.transaction ≡ after_told self.old.log.transaction globals.now.content access.now) }
+        ensures unchanged { OnErr result (self.new.log.transaction ≡ self.old.log.transaction) }
+        ensures open { IsOpenOn globals.now self.new }
+    {
+        match access {
+            Access::Value(_) | Access::Set(_, _) | Access::Kill(_) | Access::Put(_, _) => {
+                self.straight(globals, access)
+            }
+            _ => self.passing(globals, access),
+        }
+    }
+
+    // Makes one that passes over nothing. Where it does after all, what it passed over isn't kept.
+    fn straight(
+        &mut self,
+        globals: &Globals,
+        access: &Access,
+    ) -> Result<(Answer, Answer), AllocError>
+        requires { IsOpenOn globals.now self.old }
+        ensures answer { IfOk result (λ told. told.0 ≡ told_in self.old.log.transaction globals.now.content access.now) }
+        ensures again { IfOk result (λ told. told.1 ≡ told_in self.old.log.transaction globals.now.content access.now) }
+        ensures log { OnOk result (self.new.log.transaction ≡ after_told self.old.log.transaction globals.now.content access.now) }
+        ensures unchanged { OnErr result (self.new.log.transaction ≡ self.old.log.transaction) }
+        ensures open { IsOpenOn globals.now self.new }
+    {
+        let mut skips = Skips::new(self.alloc);
+        let told = txn::access(&mut self.log, globals, &mut skips, access);
+        drop(skips); // for the proof
+        told
+    }
+
+    // Makes one that may pass over something.
+    fn passing(
         &mut self,
         globals: &Globals,
         access: &Access,

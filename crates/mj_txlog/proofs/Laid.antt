@@ -65,7 +65,7 @@ second_false false b e = e
 pub went_less : (gone : Content) (m n : Name) → went (after_set gone m []) n ≡ false → went gone n ≡ false
 went_less gone m n h = second_false (hits m n (suc (length n.subscripts))) (went gone n) (sym (set_went gone m n (suc (length n.subscripts))) ∙ h)
 
-none_went : (n : Name) (k : ℕ) → went_before [] n k ≡ false
+pub none_went : (n : Name) (k : ℕ) → went_before [] n k ≡ false
 none_went n zero = refl
 none_went n (suc k) = ap (λ b. b || false) (none_went n k)
 

@@ -26,15 +26,20 @@ use std::marker::Model;
 pub struct Overlay {
     alloc: Global,
     over: Texts,
+    // whether a name may have gone
+    kills: bool,
     gone: Texts,
 }
 
 impl Model for Overlay {
+    ghost use Rattle.std.specs.Prelude.{◌≡◌, [], false};
     ghost use Rattle.mj_txlog.specs.Laid.{Laid};
 
     ghost Value = { Laid };
 
     ghost view = { λ o. record { over = o.over; gone = o.gone } };
+
+    ghost invariant = { λ o. o.kills ≡ false → o.gone ≡ [] };
 }
 
 impl Overlay {
@@ -47,6 +52,7 @@ impl Overlay {
         Overlay {
             alloc,
             over: Texts::new(alloc),
+            kills: false,
             gone: Texts::new(alloc),
         }
     }
@@ -71,6 +77,7 @@ impl Overlay {
         match access {
             Access::Set(name, text) => self.over.set(name.get(), text),
             Access::Kill(name) => {
+                self.kills = true;
                 self.gone.set(name.get(), &Text::new(self.alloc))?;
                 self.over.kill(name.get());
                 Ok(())
@@ -100,6 +107,10 @@ impl Overlay {
     pub(crate) fn went(&self, name: &Name) -> Result<bool, AllocError>
         ensures { IfOk result (λ b. b ≡ went self.now.gone name.now) }
     {
+        // most transactions kill nothing
+        if !self.kills {
+            return Ok(false);
+        }
         let list = name.subscripts().as_slice();
         for count in 0..list.len() + 1 {
             let front = cut_to(self.alloc, name, &list[..count])?;

@@ -1,22 +1,23 @@
 -- One access more, and the changes that accesses make.
-use Rattle.std.proofs.Common.{◌≡◌, ◌↔◌, ℕ, zero, suc, ◌+◌, ◌<◌, true, false, cond, ◌||◌, List, [], ◌∷◌, ◌++◌, length, get_or, take, drop, Option, Some, None, refl, sym, ap, ◌∙◌, subst, append_assoc, arith}
+use Rattle.std.proofs.Common.{◌≡◌, ◌↔◌, ℕ, zero, suc, ◌+◌, ◌<◌, Bool, true, false, cond, ◌||◌, List, [], ◌∷◌, ◌++◌, length, get_or, take, drop, Option, Some, None, refl, sym, ap, ◌∙◌, subst, append_assoc, arith}
 use Rattle.std.proofs.lemmas.List.{take_more, take-append-drop, drop_more}
 use Rattle.std.proofs.lemmas.Option.{slice_get-get_or, slice_get_within}
 use Rattle.std.specs.Prelude.{slice_get}
 use Rattle.std.specs.Option.{MatchOption}
 use Rattle.std.specs.List.{list_any, cons_option}
-use Rattle.mj_store.specs.Questions.{Content}
-use Rattle.mj_store.specs.Changes.{is_too_deep, after_put}
+use Rattle.mj_subs.specs.Name.{Name}
+use Rattle.mj_store.specs.Questions.{Content, same_word}
+use Rattle.mj_store.specs.Changes.{is_too_deep, after_set, after_put}
 use Rattle.mj_store.specs.Runs.{after_access}
 use Rattle.mj_store.specs.declared.access.Access.{Access}
 use Rattle.mj_store.specs.declared.access.Access.TheVariants as access
 use Rattle.mj_store.specs.declared.access.Answer.{Answer}
 use Rattle.mj_globs.specs.declared.change.Change.{Change}
 use Rattle.mj_globs.specs.declared.change.Change.TheVariants as change
-use Rattle.mj_globs.specs.Changes.{after_changes, goes_too_deep}
+use Rattle.mj_globs.specs.Changes.{after_changes, goes_too_deep, are_to}
 use Rattle.mj_txlog.specs.declared.entry.Entry.{Entry}
 use Rattle.mj_txlog.specs.declared.entry.Entry.TheVariants as entry
-use Rattle.mj_globs.specs.Stamps.{Stamped}
+use Rattle.mj_globs.specs.Stamps.{Stamps, Stamped, KeepsStamps}
 use Rattle.mj_txlog.specs.Accesses.{Accesses, is_write, Transaction, seen}
 use Rattle.mj_txlog.specs.Follows.{FollowsAt, AreFollowing, is_stale, stale_among}
 use Rattle.mj_txlog.proofs.Following.{fresh_answer, none_stale}
@@ -120,6 +121,10 @@ pub changes_next : (es : Accesses) (i : ℕ) (e : Entry) → i < length es → e
 changes_next es i e lt here =
     ap changes_of (take_more es i e lt ∙ ap (λ (y : Entry). take i es ++ y ∷ []) (sym here)) ∙ changes_more (take i es) e
 
+-- those of the last one, where no other makes a change
+pub changes_last : (es xs : Accesses) (e : Entry) → es ≡ xs ++ e ∷ [] → changes_of xs ≡ [] → changes_of es ≡ changes_of (e ∷ [])
+changes_last es xs e is none = ap changes_of is ∙ changes_more xs e ∙ ap (λ (cs : List Change). cs ++ changes_of (e ∷ [])) none
+
 -- the changes leave what is seen
 pub changes_seen : (es : Accesses) (g : Content) → after_changes g (changes_of es) ≡ seen g es
 changes_seen [] g = refl
@@ -153,3 +158,14 @@ none_deep (entry.Access (access.Put n nodes) r ∷ es) =
       | true ↦ λ q. none_deep es
       | false ↦ λ q. ap (λ b. b || list_any goes_too_deep (changes_of es)) q ∙ none_deep es
     ] refl
+
+-- one SET is the only change
+pub set_seen : (es : Accesses) (g : Content) (n : Name) (v : List ℕ) → changes_of es ≡ change.Set n v ∷ [] → after_set g n v ≡ seen g es
+set_seen es g n v is = sym (ap (after_changes g) is) ∙ changes_seen es g
+
+pub set_others : (es : Accesses) (n : Name) (v : List ℕ) (old new : Stamps) → changes_of es ≡ change.Set n v ∷ [] → KeepsStamps (same_word n) old new
+    → KeepsStamps (are_to (changes_of es)) old new
+set_others es n v old new is kept m e = kept m (either_false (same_word n m) (sym (ap (λ (cs : List Change). are_to cs m) is) ∙ e)) where
+  either_false : (b : Bool) → (b || false) ≡ false → b ≡ false
+  either_false true h = h
+  either_false false h = refl

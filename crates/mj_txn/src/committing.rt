@@ -3,14 +3,16 @@
 ghost use Rattle.std.specs.Prelude.{◌≡◌, ◌↔◌, IfOk, OnOk, OnErr};
 ghost use Rattle.mj_globs.specs.Changes.{are_to};
 ghost use Rattle.mj_globs.specs.Stamps.{Rises, KeepsStamps};
+ghost use Rattle.mj_txlog.specs.Accesses.{seen};
 ghost use Rattle.mj_txlog.specs.Follows.{Follows, stale_of};
 ghost use Rattle.mj_txn.specs.Commits.{MayCommit, CommitsAs, after_commit, changes_of};
 ghost use Rattle.mj_txn.specs.Testing.{outcome_of};
 ghost use Rattle.mj_txn.specs.declared.committing.Outcome.TheVariants as outcome;
 
 use crate::changed::{Changed, first_changed};
-use crate::writes::changes_of;
+use crate::writes::{changes_of, only_set};
 use mj_globs::Globals;
+use mj_store::Store;
 use mj_text::Failure;
 use mj_txlog::TxLog;
 use std::alloc::AllocError;
@@ -59,9 +61,35 @@ fn made(log: &TxLog, globals: &mut Globals) -> Result<Outcome, AllocError>
             return Ok(Outcome::Clash(changed));
         }
     }
+    make_changes(log, globals)?;
+    Ok(Outcome::Done)
+}
+
+// Makes all changes, or none. One alone is made without a copy.
+#[tactic(auto, using(crate::proofs::Replies::set_seen, crate::proofs::Replies::set_others))]
+fn make_changes(log: &TxLog, globals: &mut Globals) -> Result<(), AllocError>
+    ensures globals { OnOk result (globals.new.content ≡ seen globals.old.content log.now.transaction.accesses) }
+    ensures unchanged { OnErr result (globals.new.content ≡ globals.old.content) }
+    ensures stamps { Rises globals.old globals.new }
+    ensures others { OnOk result (KeepsStamps (are_to (changes_of log.now.transaction.accesses)) globals.old.stamps globals.new.stamps) }
+{
+    if let Some((name, text)) = only_set(log.entries()) {
+        globals.set(name, text)?;
+        return Ok(());
+    }
+    make_all(log, globals)
+}
+
+// Makes all changes, or none.
+fn make_all(log: &TxLog, globals: &mut Globals) -> Result<(), AllocError>
+    ensures globals { OnOk result (globals.new.content ≡ seen globals.old.content log.now.transaction.accesses) }
+    ensures unchanged { OnErr result (globals.new.content ≡ globals.old.content) }
+    ensures stamps { Rises globals.old globals.new }
+    ensures others { OnOk result (KeepsStamps (are_to (changes_of log.now.transaction.accesses)) globals.old.stamps globals.new.stamps) }
+{
     let changes = changes_of(log.allocator(), log.entries())?;
     match globals.apply(&changes) {
-        Ok(()) => Ok(Outcome::Done),
+        Ok(()) => Ok(()),
         Err(Failure::Memory) => Err(AllocError),
         Err(Failure::Fault(_)) => unreachable!(),
     }

@@ -1,11 +1,14 @@
 // The writes of a transaction, as a list of changes.
 
-ghost use Rattle.std.specs.Prelude.{◌≡◌, ◌++◌, ◌∷◌, [], IfOk, OnOk};
+ghost use Rattle.std.specs.Prelude.{◌≡◌, ◌++◌, ◌∷◌, [], true, false, IfOk, OnOk, IfSome};
+ghost use Rattle.mj_globs.specs.declared.change.Change.TheVariants as change;
 ghost use Rattle.mj_txn.specs.Commits.{change_of, changes_of};
 
 use mj_globs::Change;
 use mj_store::Access;
-use mj_txlog::{Entry, is_refused};
+use mj_subs::Name;
+use mj_text::Text;
+use mj_txlog::{Entry, is_refused, is_write};
 use std::alloc::{AllocError, Global};
 
 /// The changes that the accesses make, in order.
@@ -17,6 +20,45 @@ pub fn changes_of(alloc: Global, entries: &[Entry]) -> Result<Vec<Change>, Alloc
         add_change(alloc, &mut changes, entry)?;
     }
     Ok(changes)
+}
+
+/// The name and the text of a `SET`, where it is the last of the accesses and no other one makes a change.
+#[tactic(auto, using(crate::proofs::Replies::changes_last))]
+pub fn only_set(entries: &[Entry]) -> Option<(&Name, &Text)>
+    ensures { IfSome result (λ set. changes_of entries.now ≡ change.Set set.0.now set.1.now ∷ []) }
+{
+    let [earlier @ .., last] = entries else {
+        return None;
+    };
+    if !change_nothing(earlier) {
+        return None;
+    }
+    match last {
+        Entry::Access(Access::Set(name, text), _) => Some((name.get(), text)),
+        _ => None,
+    }
+}
+
+// Whether none of the accesses is a write.
+fn change_nothing(entries: &[Entry]) -> bool
+    ensures { result ≡ true → changes_of entries.now ≡ [] }
+{
+    for entry in entries {
+        if may_change(entry) {
+            return false;
+        }
+    }
+    true
+}
+
+// Whether an access is a write.
+fn may_change(entry: &Entry) -> bool
+    ensures { result ≡ false → changes_of (entry.now ∷ []) ≡ [] }
+{
+    match entry {
+        Entry::Access(access, _) => is_write(access),
+        Entry::Unlock(_) => false,
+    }
 }
 
 // Adds the change that an access makes, if it makes one.

@@ -5,30 +5,30 @@ use Rattle.std.specs.Map.{keys_of}
 use Rattle.std.specs.BTreeMap.{BTreeMap}
 use Rattle.mj_subs.specs.Collation.{subscript_cmp}
 use Rattle.mj_locktab.specs.declared.held.TheConstants.{HOLDS_LIMIT}
-use Rattle.mj_locktab.specs.Trees.{Stand, Stands, Kids, below, stand_at, stand_in, tally, tally_of, paths_eq, is_front, AreAlike, IsWritten}
+use Rattle.mj_locktab.specs.Trees.{Stand, tallies_of, Stands, Kids, below, stand_at, stand_in, tally, tally_of, paths_eq, is_front, AreAlike, IsWritten}
 use Rattle.mj_locktab.proofs.Nodes.{stand-below, more_here, more_below, alike_below, more_seen, first_and_rest, no_elements}
 use Rattle.mj_locktab.proofs.Bare.{more_told, alike_bare, none_bare_written, one_told}
 use Rattle.mj_locktab.proofs.node.Node.+mark.Goals as goal
 
 pub raise-requires : goal.raise-requires
 raise-requires t c =
-    let few : tally_of (stand_at (([], (c.self.inside.holder, c.self.inside.tallies.entries)) ∷ below c.self.inside.children.entries) []) c.args.job < HOLDS_LIMIT =
+    let few : tally_of (stand_at (([], (c.self.inside.holder, tallies_of c.self.inside.tallies)) ∷ below c.self.inside.children.entries) []) c.args.job < HOLDS_LIMIT =
     subst (λ (v : Stands). tally_of (stand_at v []) c.args.job < HOLDS_LIMIT) (sym c.self.view_is) (c.requires []) in
-    let low : tally c.self.inside.tallies.entries c.args.job < 1024 = few in
+    let low : tally (tallies_of c.self.inside.tallies) c.args.job < 1024 = few in
     omega (arith, low)
 
 pub returns-in_default-clause-ok : goal.returns-in_default-clause-ok
 returns-in_default-clause-ok t c =
-    let own : Stand = (c.self.inside.holder, c.self.inside.tallies.entries) in
-    let next : Stand = (Some c.args.job, c.raise.new.tallies.entries) in
+    let own : Stand = (c.self.inside.holder, tallies_of c.self.inside.tallies) in
+    let next : Stand = (Some c.args.job, tallies_of c.raise.new.tallies) in
     let ks = c.self.inside.children.entries in
     more_seen (([], own) ∷ below ks) c.args.self.now (([], next) ∷ below ks) [] c.args.path.now c.args.job c.self.view_is (no_elements c.args.path.now c.in_default.len_below)
     (more_here own next ks c.args.job refl c.in_ok-raise.ensures.ok)
 
 pub returns-in_default-get_mut-clause-ok : goal.returns-in_default-get_mut-clause-ok
 returns-in_default-get_mut-clause-ok t c =
-    let own : Stand = (c.self.inside.holder, c.self.inside.tallies.entries) in
-    let next : Stand = (c.self.inside.holder, c.raise.new.tallies.entries) in
+    let own : Stand = (c.self.inside.holder, tallies_of c.self.inside.tallies) in
+    let next : Stand = (c.self.inside.holder, tallies_of c.raise.new.tallies) in
     let ks = c.self.inside.children.entries in
     let new = c.grow.new.children.entries in
     let s = c.sub-item.result in
@@ -54,8 +54,8 @@ mark-requires t c =
 
 pub returns-in-Err-mark-clause-err : goal.returns-in-Err-mark-clause-err
 returns-in-Err-mark-clause-err t c =
-    let own : Stand = (c.self.inside.holder, c.self.inside.tallies.entries) in
-    let next : Stand = (c.self.inside.holder, c.lower-in-Err-mark.new.tallies.entries) in
+    let own : Stand = (c.self.inside.holder, tallies_of c.self.inside.tallies) in
+    let next : Stand = (c.self.inside.holder, tallies_of c.lower-in-Err-mark.new.tallies) in
     let ks = c.self.inside.children.entries in
     let es = (c.get_mut.follows.lender c.mark.new.self).entries in
     let s = c.sub-item.result in
@@ -63,15 +63,15 @@ returns-in-Err-mark-clause-err t c =
     let there = sym c.in-Some.ensures.value in
     let holds = c.get_mut.follows.holds c.mark.new.self in
     let written = (holds.3 (ap (λ (o : Option Stands). is_some o) there)).0 in
-    let told : (j : ℕ) → tally c.lower-in-Err-mark.new.tallies.entries j ≡ tally c.self.inside.tallies.entries j =
+    let told : (j : ℕ) → tally (tallies_of c.lower-in-Err-mark.new.tallies) j ≡ tally (tallies_of c.self.inside.tallies) j =
     λ j. omega (arith, c.lower-in-Err-mark.ensures.less j, c.in_ok-raise.ensures.ok j) in
     subst (λ (v : Stands). AreAlike (stand_at v) (stand_at (([], next) ∷ below es))) c.self.view_is
     (alike_below own next ks es s rest (Some c.in-Some.child.now) (Some c.mark.new.self) c.self.invariant.0 holds.4 there written refl told c.in-Err-mark.ensures.err)
 
 pub returns-clause-ok : goal.returns-clause-ok
 returns-clause-ok t c =
-    let own : Stand = (c.self.inside.holder, c.self.inside.tallies.entries) in
-    let next : Stand = (c.self.inside.holder, c.raise.new.tallies.entries) in
+    let own : Stand = (c.self.inside.holder, tallies_of c.self.inside.tallies) in
+    let next : Stand = (c.self.inside.holder, tallies_of c.raise.new.tallies) in
     let ks = c.self.inside.children.entries in
     let es = (c.get_mut.follows.lender c.mark.new.self).entries in
     let s = c.sub-item.result in

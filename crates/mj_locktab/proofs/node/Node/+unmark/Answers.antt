@@ -4,23 +4,23 @@ use Rattle.std.specs.BTreeMap.{BTreeMap}
 use Rattle.mj_subs.specs.Collation.{subscript_cmp}
 use Rattle.mj_subs.specs.Laws.Total.{subscript_cmp_total}
 use Rattle.mj_subs.specs.Laws.Ties.{bytes_eq-subscript_cmp}
-use Rattle.mj_locktab.specs.Trees.{Stand, Stands, Kids, below, paths_eq, is_front, stand_at, HasOneLess}
+use Rattle.mj_locktab.specs.Trees.{Stand, tallies_of, Stands, Kids, below, paths_eq, is_front, stand_at, HasOneLess}
 use Rattle.mj_locktab.proofs.Kids.{written_twice, written_none, less_bare, less_none}
 use Rattle.mj_locktab.proofs.Nodes.{less_below, less_here, less_seen, first_and_rest, no_elements}
 use Rattle.mj_locktab.proofs.node.Node.+unmark.Goals as goal
 
 pub returns-in_default : goal.returns-in_default
 returns-in_default t c =
-    let own : Stand = (c.self.inside.holder, c.self.inside.tallies.entries) in
+    let own : Stand = (c.self.inside.holder, tallies_of c.self.inside.tallies) in
     let ks = c.self.inside.children.entries in
-    less_seen (([], own) ∷ below ks) c.args.self.now (([], (None, c.lower.new.tallies.entries)) ∷ below ks) [] c.args.path.now c.args.job c.self.view_is
+    less_seen (([], own) ∷ below ks) c.args.self.now (([], (None, tallies_of c.lower.new.tallies)) ∷ below ks) [] c.args.path.now c.args.job c.self.view_is
     (no_elements c.args.path.now c.in_default.len_below)
-    (less_here own (None, c.lower.new.tallies.entries) ks c.args.job refl c.lower.ensures.less)
+    (less_here own (None, tallies_of c.lower.new.tallies) ks c.args.job refl c.lower.ensures.less)
 
 pub returns-in_default-get_mut : goal.returns-in_default-get_mut
 returns-in_default-get_mut t c =
-    let own : Stand = (c.self.inside.holder, c.self.inside.tallies.entries) in
-    let next : Stand = (c.self.inside.holder, c.lower.new.tallies.entries) in
+    let own : Stand = (c.self.inside.holder, tallies_of c.self.inside.tallies) in
+    let next : Stand = (c.self.inside.holder, tallies_of c.lower.new.tallies) in
     let ks = c.self.inside.children.entries in
     let s = c.sub-item.result in
     let rest = take (length c.args.path.now - 1) (drop 1 c.args.path.now) in
@@ -34,8 +34,8 @@ returns-in_default-get_mut t c =
 
 pub returns-then-is_bare : goal.returns-then-is_bare
 returns-then-is_bare t c =
-    let own : Stand = (c.self.inside.holder, c.self.inside.tallies.entries) in
-    let next : Stand = (c.self.inside.holder, c.lower.new.tallies.entries) in
+    let own : Stand = (c.self.inside.holder, tallies_of c.self.inside.tallies) in
+    let next : Stand = (c.self.inside.holder, tallies_of c.lower.new.tallies) in
     let ks = c.self.inside.children.entries in
     let es = (c.get_mut.follows.lender c.unmark.new.self).entries in
     let s = c.sub-item.result in
@@ -51,8 +51,8 @@ returns-then-is_bare t c =
 
 pub returns-else-is_bare : goal.returns-else-is_bare
 returns-else-is_bare t c =
-    let own : Stand = (c.self.inside.holder, c.self.inside.tallies.entries) in
-    let next : Stand = (c.self.inside.holder, c.lower.new.tallies.entries) in
+    let own : Stand = (c.self.inside.holder, tallies_of c.self.inside.tallies) in
+    let next : Stand = (c.self.inside.holder, tallies_of c.lower.new.tallies) in
     let ks = c.self.inside.children.entries in
     let es = (c.get_mut.follows.lender c.unmark.new.self).entries in
     let s = c.sub-item.result in

@@ -1,12 +1,12 @@
 use Rattle.std.proofs.Common.{true, false, sym, ◌∙◌}
-use Rattle.mj_locktab.specs.Trees.{Stand}
+use Rattle.mj_locktab.specs.Trees.{Stand, tallies_of}
 use Rattle.mj_locktab.proofs.Bare.{told_false, none_there, one_there, is_bare_if, bare_holder, bare_tallies, bare_kids}
 use Rattle.mj_locktab.proofs.node.Node.is_bare.Goals as goal
 use Rattle.mj_locktab.proofs.node.Node.is_bare.Goals.{then-is_none, else-is_none}
 
 pub returns-then-is_empty : goal.returns-then-is_empty
 returns-then-is_empty c =
-    let own : Stand = (c.self.inside.holder, c.self.inside.tallies.entries) in
+    let own : Stand = (c.self.inside.holder, tallies_of c.self.inside.tallies) in
     let ks = c.self.inside.children.entries in
     elim c.if-is_none.branch [
       | then-is_none w ↦ (
@@ -19,7 +19,7 @@ returns-then-is_empty c =
 
 pub returns-else-is_empty : goal.returns-else-is_empty
 returns-else-is_empty c =
-    let own : Stand = (c.self.inside.holder, c.self.inside.tallies.entries) in
+    let own : Stand = (c.self.inside.holder, tallies_of c.self.inside.tallies) in
     let ks = c.self.inside.children.entries in (
       λ yes. absurd (told_false c.if-is_none.value c.if-is_empty.false yes),
       λ bare. elim c.if-is_none.branch [

@@ -5,7 +5,7 @@ use Rattle.mj_txlog.specs.Skips.{gone_by}
 use Rattle.mj_sys.specs.Passed.{IsPassed, ArePassed}
 use Rattle.mj_sys.specs.declared.passed.PassedWord.{PassedWord}
 use Rattle.mj_sys.proofs.Passing.{word_passed, open_told, set_passed, passed_none}
-use Rattle.mj_sys.proofs.ongoing.Ongoing.access.Goals as goal
+use Rattle.mj_sys.proofs.ongoing.Ongoing.passing.Goals as goal
 
 pub access-requires : goal.access-requires
 access-requires c =
