@@ -44,6 +44,7 @@ use Rattle.mj_sys.specs.contracts.passed.PassedWord as PassedWord
 use Rattle.mj_sys.specs.contracts.ongoing.Ongoing as Ongoing
 use Rattle.mj_sys.specs.contracts.transacted.Transacted as Transacted
 use Rattle.mj_locktab.proofs.node.Node.TheLaws.TheKnot as lock_knot
+use Rattle.mj_locktab.proofs.tally.Tallies.TheSendSync as tallies
 use Rattle.mj_locktab.specs.contracts.node.Node as LockNode
 use Rattle.mj_locktab.specs.contracts.index.Index as LockIndex
 use Rattle.mj_locktab.proofs.hold.Hold.TheSendSync as hold
@@ -93,7 +94,7 @@ pub transacted_send : IsSend Transacted.the_row
 transacted_send = search (globals_send, ongoing_send, parts) depth 40
 
 pub lock_node_send : IsSend LockNode.the_row
-lock_node_send = as_row_send LockNode.the_field (search (lock_knot.send-Node, sub.the_send, parts) depth 40)
+lock_node_send = as_row_send LockNode.the_field (search (lock_knot.send-Node, tallies.the_send, sub.the_send, parts) depth 40)
 
 pub lock_index_send : IsSend LockIndex.the_row
 lock_index_send = search (lock_node_send, parts) depth 40
