@@ -1,6 +1,6 @@
 // CLOSE.
 
-ghost use Rattle.std.specs.Prelude.{◌≡◌, ℕ, ◌+◌, ◌<◌, ◌≤◌, ◌^◌, IfOk, OnErr, length};
+ghost use Rattle.std.specs.Prelude.{ℕ, ◌+◌, ◌<◌, ◌≤◌, ◌^◌, IfOk, OnErr, length};
 ghost use Rattle.mj_ask.specs.declared.ask.Ask.TheVariants as asks;
 ghost use Rattle.mj_ask.specs.declared.ask.SharedAsk.TheVariants as shared_asks;
 ghost use Rattle.mj_pcode.specs.Machine.{top};

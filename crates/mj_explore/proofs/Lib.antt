@@ -1,6 +1,4 @@
-mod Counting
-mod Faulting
-mod Holding
 mod Ending
+mod Holding
 mod Making
 mod Noting

@@ -1,14 +1,11 @@
 -- Runs, one after the other.
-use Rattle.std.specs.Prelude.{All, IfOk, IfSome, OnSome, Result, nat_lt, min, cond, if◌then◌else◌}
+use Rattle.std.specs.Prelude.{All, IfSome, OnSome, nat_lt, min, cond, if◌then◌else◌}
 use Rattle.std.specs.List.{count_by}
 use Rattle.std.specs.Str.{bytes_eq}
-use Rattle.std.proofs.Common.{◌≡◌, ℕ, ◌+◌, ◌-◌, ◌^◌, ◌≤◌, List, [], ◌∷◌, ◌++◌, Option, Some, None, Bool, true, false, codes, length, refl, sym, ap, ◌∙◌, subst, arith}
+use Rattle.std.proofs.Common.{◌≡◌, ℕ, ◌+◌, ◌-◌, ◌^◌, ◌≤◌, List, [], ◌∷◌, ◌++◌, Option, Some, None, Bool, true, false, length, refl, sym, ap, ◌∙◌, subst, arith}
 use Rattle.std.proofs.lemmas.List.{length-append, map-append}
 use Rattle.std.proofs.lemmas.List.Sums.{count_by-le-length, sum_by_push}
 use Rattle.std.proofs.lemmas.List.Elements.{All-push}
-use Rattle.std.specs.declared.alloc.AllocError.{AllocError}
-use Rattle.std.proofs.lemmas.Option.{IfSome_then}
-use Rattle.std.proofs.lemmas.Result.{IfOk-weaker}
 use Rattle.mj_sys.specs.Shared.{Shared}
 use Rattle.mj_script.specs.Scripts.{Scripted}
 use Rattle.mj_explore.specs.Ends.{IsNoted, end_text, noted, different, often, once_more, texts_of}
@@ -17,23 +14,21 @@ use Rattle.mj_steps.specs.declared.step.Step.{Step}
 use Rattle.mj_steps.specs.declared.drive.Ending.{Ending}
 use Rattle.mj_steps.specs.declared.drive.Ending.TheVariants as endings
 use Rattle.mj_steps.specs.Driven.{ByList}
-use Rattle.mj_dev.specs.Shelves.{principal}
-use Rattle.mj_core.specs.Runs.{IsRun, out_of}
 use Rattle.mj_core.specs.Shown.{Shown, begun}
-use Rattle.mj_run.specs.Stepping.{StepsAs, AreSteps}
-use Rattle.mj_run.proofs.Stepping.{steps_image}
+use Rattle.mj_run.specs.Stepping.{StepsAs}
 use Rattle.mj_explore.specs.declared.goals.Goal.{Goal}
 use Rattle.mj_script.specs.Scripts.{IsImageOf}
-use Rattle.mj_explore.specs.declared.marks.Mark.TheVariants as marks
+use Rattle.mj_judge.specs.declared.marks.Mark.TheVariants as marks
 use Rattle.mj_explore.specs.declared.fates.Fate.{Fate}
 use Rattle.mj_explore.specs.declared.goals.Finding.{Finding}
-use Rattle.mj_explore.specs.declared.conditions.Verdict.{Verdict}
+use Rattle.mj_judge.specs.declared.conditions.Verdict.{Verdict}
 use Rattle.mj_text.specs.declared.fault.Fault.{Fault}
 use Rattle.mj_explore.specs.declared.ends.End.{End}
 use Rattle.mj_explore.specs.declared.exploring.Tally.{Tally}
-use Rattle.mj_explore.specs.Marks.{bears, fault_in, is_over}
+use Rattle.mj_judge.specs.Marks.{bears}
 use Rattle.mj_explore.specs.Found.{Ran, IsRan, IsCome, IsFateOf, AreTallied, ends_in, has_faulted, is_fate_stuck, is_fate_stopped, WereMade, AreMade}
-use Rattle.mj_explore.specs.Found.{IsShownFor, IsFoundFor, IsJudged, ShowsVerdict, by_memory, found_verdict, is_for_memory, is_of_device, verdict_by}
+use Rattle.mj_judge.specs.Judged.{by_memory, is_for_memory}
+use Rattle.mj_explore.specs.Found.{IsShownFor, IsFoundFor, found_verdict}
 use Rattle.mj_explore.proofs.Ending.{one_more}
 
 -- so many runs were made, these are their different ends, each with how many had it, and so many came to what
@@ -169,14 +164,6 @@ is_come script opening goal steps ending core shown faulted fate old new made gr
   noted = noted_so;
 }
 
--- the routines stay those of the script
-pub still_of : (script : Scripted) (opening : Shared) (old core : Shown) (image : Loaded) → IsImageOf script.sources image → old ≡ begun image
-    → AreSteps by_memory opening old core → IsImageOf script.sources core.image
-still_of script opening old core image is begins run =
-    let same : core.image ≡ image = steps_image by_memory opening old core run ∙ ap (λ (s : Shown). s.image) begins in
-    let P : Loaded → Type 0 = λ i. IsImageOf script.sources i in
-    subst P (sym same) is
-
 -- a run that shows what is looked for is found by its steps
 pub found_for : (script : Scripted) (opening : Shared) (goal : Option Goal) (finding : Finding) (steps : List Step) (core : Shown)
     → AreMade script opening steps endings.Over core → IsShownFor goal finding (program_of core.image) opening core.history
@@ -206,25 +193,3 @@ pub found_so : (P : Verdict → Type 0) (verdict : Verdict) (o : Option Finding)
     → IfSome o (λ finding. P (found_verdict finding))
 found_so P verdict None holds is = tt
 found_so P verdict (Some finding) holds is = subst P is holds
-
--- jobs that stand so show it, by the fault by which the first ended, if there is one, and by what it wrote
-pub shows_verdict : (opening : Shared) (core : Shown) (verdict : Verdict) (fault : Option Fault) (is_one : Bool) (out : List ℕ)
-    → IsRun (program_of core.image) opening core.history
-    → is_over opening core.history ≡ true → out ≡ out_of core.history 1 principal 1 → is_one ≡ bytes_eq out (codes "1") → fault ≡ fault_in core.history
-    → verdict ≡ verdict_by fault is_one → is_of_device verdict ≡ false → ShowsVerdict opening core verdict
-shows_verdict opening core verdict fault is_one out run over wrote one ended comes apart =
-    let one_wrote : is_one ≡ bytes_eq (out_of core.history 1 principal 1) (codes "1") = one ∙ ap (λ o. bytes_eq o (codes "1")) wrote in (
-      run,
-      over,
-      comes ∙ ap (λ (f : Option Fault). verdict_by f is_one) ended ∙ ap (verdict_by (fault_in core.history)) one_wrote,
-      apart,
-    )
-
--- jobs of an expression's script that were stepped from their beginning, and show it so, judge it
-pub judged_so : (script : Scripted) (opening : Shared) (old core : Shown) (image : Loaded) (judged : Result (Option Verdict) AllocError)
-    → IsImageOf script.sources image → old ≡ begun image → AreSteps by_memory opening old core
-    → IfOk judged (λ j. IfSome j (ShowsVerdict opening core)) → IfOk judged (λ j. IfSome j (IsJudged script opening))
-judged_so script opening old core image judged is begins steps shown =
-    IfOk-weaker judged _ _
-    (λ j h. IfSome_then j h (λ verdict shows. (core.image, core.history, still_of script opening old core image is begins steps, shows.0, shows.1, shows.2, shows.3)))
-    shown

@@ -8,7 +8,7 @@ use Rattle.mj_gfile.specs.Spelling.{listing_of}
 use Rattle.mj_sys.specs.Shared.{Shared}
 use Rattle.mj_sys.specs.History.{History, state_of}
 use Rattle.mj_core.specs.Runs.{out_of}
-use Rattle.mj_explore.specs.Marks.{is_over}
+use Rattle.mj_judge.specs.Marks.{is_over}
 use Rattle.mj_explore.specs.declared.ends.End.{End}
 
 -- there are bytes, and they don't end a line

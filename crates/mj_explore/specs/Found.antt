@@ -1,18 +1,14 @@
 -- What runs by chance come to. A run by chance may be any list of steps.
-use Rattle.std.specs.Prelude.{◌≡◌, ◌<◌, ℕ, ◌-◌, ◌^◌, min, nat_lt, List, [], ◌∷◌, ◌++◌, length, map, Bool, true, false, Option, Some, None, All, ◌⊎◌, codes, IfSome}
+use Rattle.std.specs.Prelude.{◌≡◌, ◌<◌, ℕ, ◌-◌, ◌^◌, min, nat_lt, List, [], ◌∷◌, ◌++◌, length, map, Bool, true, false, Option, Some, None, All, ◌⊎◌, IfSome}
 use Rattle.std.specs.List.{count_by}
 use Rattle.std.specs.Str.{bytes_eq}
 use Rattle.mj_text.specs.declared.fault.Fault.{Fault}
 use Rattle.mj_text.specs.declared.fault.Fault.TheVariants as faults
 use Rattle.mj_ask.specs.Fits.{is_shared, timeout_of}
 use Rattle.mj_semantics.specs.Program.{Program}
-use Rattle.mj_dev.specs.Shelves.{principal}
-use Rattle.mj_dev.specs.Supply.{Supply}
-use Rattle.mj_dev.specs.Told.{IsToldBy}
 use Rattle.mj_jobs.specs.Rows.{Row, row_at, IsLive}
 use Rattle.mj_load.specs.Image.{Loaded, program_of}
 use Rattle.mj_sessions.specs.Answers.{IsReading}
-use Rattle.mj_sessions.specs.Asked.{Answering}
 use Rattle.mj_sys.specs.Shared.{Shared, served}
 use Rattle.mj_sys.specs.History.{History, state_of, log_of}
 use Rattle.mj_steps.specs.declared.step.Step.{Step}
@@ -22,27 +18,24 @@ use Rattle.mj_steps.specs.declared.drive.Ending.TheVariants as endings
 use Rattle.mj_steps.specs.Driven.{ByList}
 use Rattle.mj_core.specs.Gives.{Waits}
 use Rattle.mj_core.specs.Having.{IsQuiet}
-use Rattle.mj_core.specs.Runs.{IsRun, start_in, out_of}
+use Rattle.mj_core.specs.Runs.{start_in}
 use Rattle.mj_core.specs.Shown.{AtAsk, Shown, begun}
 use Rattle.mj_run.specs.Stepping.{StepsAs}
 use Rattle.mj_explore.specs.declared.goals.Goal.{Goal}
 use Rattle.mj_explore.specs.declared.goals.Goal.TheVariants as goals
 use Rattle.mj_explore.specs.declared.goals.Finding.{Finding}
 use Rattle.mj_explore.specs.declared.goals.Finding.TheVariants as findings
-use Rattle.mj_explore.specs.declared.conditions.Verdict.{Verdict}
-use Rattle.mj_explore.specs.declared.conditions.Verdict.TheVariants as verdicts
-use Rattle.mj_explore.specs.declared.marks.Mark.TheVariants as marks
+use Rattle.mj_judge.specs.declared.conditions.Verdict.{Verdict}
+use Rattle.mj_judge.specs.declared.conditions.Verdict.TheVariants as verdicts
+use Rattle.mj_judge.specs.declared.marks.Mark.TheVariants as marks
 use Rattle.mj_explore.specs.declared.fates.Fate.{Fate}
 use Rattle.mj_explore.specs.declared.fates.Fate.TheVariants as fates
 use Rattle.mj_explore.specs.declared.ends.End.{End}
 use Rattle.mj_explore.specs.declared.exploring.Tally.{Tally}
-use Rattle.mj_explore.specs.Marks.{bears, fault_in, is_over}
+use Rattle.mj_judge.specs.Judged.{by_memory, IsJudged, is_for_memory}
+use Rattle.mj_judge.specs.Marks.{bears, is_over}
 use Rattle.mj_explore.specs.Ends.{IsNoted, end_text, different, often, texts_of}
 use Rattle.mj_script.specs.Scripts.{Scripted, IsImageOf, opening_in}
-
--- devices in memory, of whose calls the replies come
-abbrev pub by_memory : Answering
-by_memory = IsToldBy (λ (m : Supply). 0) (λ m. m.failures) (λ m. m.taken) (λ m. m.given) (λ m inside call. Unit {0})
 
 -- A job waits for ever, as long as no other goes on: it waits with what it asks, which has no timeout. That is served by what all jobs share, which gives
 -- nothing for it now; or it reads from a device, whose session is open and has no rest of a line left. What the device would give then stands in no history.
@@ -56,33 +49,6 @@ IsHeld program opening history job =
 abbrev pub IsStuck : Program → Shared → History → Type 0
 IsStuck program opening history =
     (is_over opening history ≡ false) × ((job : ℕ) → IsLive (state_of opening history).rows job → IsHeld program opening history job)
-
--- what an expression comes to, by the fault by which its run ended, if there is one, and by whether that run wrote 1
-abbrev pub verdict_by : Option Fault → Bool → Verdict
-verdict_by (Some fault) is = verdicts.Faults fault
-verdict_by None true = verdicts.Holds
-verdict_by None false = verdicts.Untrue
-
--- what it comes to in a history of its script
-abbrev pub verdict_in : History → Verdict
-verdict_in history = verdict_by (fault_in history) (bytes_eq (out_of history 1 principal 1) (codes "1"))
-
--- that is the fault of a job whose device failed
-abbrev pub is_of_device : Verdict → Bool
-is_of_device (verdicts.Faults faults.Device) = true
-is_of_device _ = false
-
--- Jobs that stand so show what the expression of their script comes to: a run came to its end, and this is what it comes to there. The device didn't fail.
-abbrev pub ShowsVerdict : Shared → Shown → Verdict → Type 0
-ShowsVerdict opening core verdict =
-    IsRun (program_of core.image) opening core.history × (is_over opening core.history ≡ true) × (verdict ≡ verdict_in core.history) × (is_of_device verdict ≡ false)
-
--- An expression was judged over the globals with which this opening begins: a run of the script that writes 1 where it is true came to its end, and
--- this is what it comes to there. The device didn't fail to which that is written: where it does, the run says nothing of the expression, which asks no device.
-abbrev pub IsJudged : Scripted → Shared → Verdict → Type 0
-IsJudged script opening verdict =
-    (image : Loaded) × (history : History) × IsImageOf script.sources image × IsRun (program_of image) opening history × (is_over opening history ≡ true)
-    × (verdict ≡ verdict_in history) × (is_of_device verdict ≡ false)
 
 -- all jobs have ended, and over the globals that they left an expression comes to this
 abbrev pub EndsJudged : Scripted → Verdict → Shared → History → Type 0
@@ -131,11 +97,6 @@ abbrev pub IsFateOf : Fate → Program → Shared → History → Type 0
 IsFateOf fates.Over program opening history = is_over opening history ≡ true
 IsFateOf fates.Stuck program opening history = IsStuck program opening history
 IsFateOf fates.Stopped program opening history = is_over opening history ≡ false
-
--- stepping ended since memory was refused
-abbrev pub is_for_memory : Ending → Bool
-is_for_memory (endings.Refused refusals.Memory step) = true
-is_for_memory _ = false
 
 -- a run that was made: what was asked and told, and what became of its jobs
 pub record Ran : Type 0 where

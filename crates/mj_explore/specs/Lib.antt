@@ -1,4 +1,2 @@
-pub mod Conditions
-pub mod Marks
 pub mod Ends
 pub mod Found

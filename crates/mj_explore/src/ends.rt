@@ -8,9 +8,9 @@ ghost use Rattle.mj_dev.specs.Shelves.{principal};
 ghost use Rattle.mj_explore.specs.declared.ends.End.{End as EndOf};
 ghost use Rattle.mj_explore.specs.Ends.{IsNoted, end_text, lacks_end, output_head, output_text, outputs_of};
 
-use crate::marks::is_over;
 use mj_core::Core;
 use mj_dev::Memory;
+use mj_judge::is_over;
 use mj_sessions::Sessions;
 use mj_sys::Opening;
 use mj_text::Text;

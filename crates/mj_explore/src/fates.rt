@@ -2,14 +2,13 @@
 
 ghost use Rattle.std.specs.Prelude.{◌≡◌, IfOk};
 ghost use Rattle.mj_load.specs.Image.{program_of};
-ghost use Rattle.mj_explore.specs.Found.{IsFateOf, is_fate_stopped, is_fate_stuck, is_for_memory};
+ghost use Rattle.mj_explore.specs.Found.{IsFateOf, is_fate_stopped, is_fate_stuck};
 
-use crate::marks::is_over;
 use crate::waiting::all_wait;
 use mj_dev::Memory;
+use mj_judge::is_over;
 use mj_run::Jobs;
 use mj_sessions::Sessions;
-use mj_steps::{Ending, Refusal};
 use mj_sys::Opening;
 use std::alloc::AllocError;
 
@@ -53,17 +52,4 @@ pub fn fate_of<O: Opening>(jobs: &mut Jobs<Memory, Sessions<Memory>, O>) -> Resu
     } else {
         Ok(Fate::Stopped)
     }
-}
-
-/// Whether stepping ended since memory was refused.
-pub fn is_for_memory(ending: Ending) -> bool
-    ensures { result ≡ is_for_memory ending }
-{
-    matches!(
-        ending,
-        Ending::Refused {
-            why: Refusal::Memory,
-            ..
-        }
-    )
 }

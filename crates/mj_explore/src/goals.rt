@@ -4,10 +4,9 @@ ghost use Rattle.std.specs.Prelude.{◌≡◌, true, Some, IfOk, IfSome, IfNone}
 ghost use Rattle.mj_load.specs.Image.{program_of};
 ghost use Rattle.mj_explore.specs.Found.{EndsJudged, IsStuck, Shows, found_verdict};
 
-use crate::conditions::{Verdict, verdict_over};
 use crate::fates::{Fate, fate_of};
-use crate::marks::{Mark, count, is_over};
 use mj_dev::Memory;
+use mj_judge::{Mark, Verdict, count, is_over, verdict_over};
 use mj_run::Jobs;
 use mj_script::Script;
 use mj_sessions::Sessions;

@@ -2,23 +2,19 @@
 //
 // A script (`mj_script`) is what each run begins with, beside the globals: routines, starts and devices. `explore` makes runs from there, each by steps that
 // chance chooses (`mj_chance`), counts them, their different ends and what became of them, and stops at the first that shows what is looked for, a `Goal`. Its
-// steps are made shorter by tries. The list that comes of it was made on a core of its own, from the beginning, and shows it there (`specs/Found.antt`).
-// `condition` makes a goal of an expression: a script too, which writes 1 where it is true over the globals that a run left. Where it faults, that is told as
-// what was found.
+// steps are made shorter by tries. The list that comes of it was made on a core of its own, from the beginning, and shows it there (`specs/Found.antt`). An
+// expression that is to be true over the globals that a run left is a goal too (`mj_judge`). Where it faults, that is told as what was found.
 //
 // No file is touched: devices are in memory, and take whatever is written to them.
 #![tactic(auto)]
 
-mod conditions;
 mod ends;
 mod exploring;
 mod fates;
 mod goals;
-mod marks;
 mod probes;
 mod waiting;
 
-pub use conditions::condition;
 pub use ends::End;
 pub use exploring::{Explored, Found, RUN_LIMIT, Search, Tally, explore};
 pub use goals::{Finding, Goal};

@@ -1,7 +1,6 @@
 // Steps that are tried, as a list is made shorter.
 
-ghost use Rattle.std.specs.Prelude.{◌≡◌, true, IfOk, IfSome};
-ghost use Rattle.mj_dev.specs.Told.{IsToldBy};
+ghost use Rattle.std.specs.Prelude.{◌≡◌, true, IfOk};
 ghost use Rattle.mj_sys.specs.Shared.{are_global};
 ghost use Rattle.mj_script.specs.Scripts.{opening_in};
 ghost use Rattle.mj_explore.specs.Found.{IsFound};

@@ -10,7 +10,7 @@ use Rattle.mj_subs.specs.Name.{Name}
 use Rattle.mj_ask.specs.declared.ask.Reply.{Reply}
 use Rattle.mj_semantics.specs.State.{State, counted}
 use Rattle.mj_semantics.specs.Outcome.{Handler, Timed, ask, given, fault}
-use Rattle.mj_semantics.specs.Sharing.{served, in_time, out_of_transaction}
+use Rattle.mj_semantics.specs.Sharing.{served, in_time, out_of_transaction, take_names, give_names}
 use Rattle.mj_pcode.specs.declared.instr.Reference.{Reference}
 use Rattle.mj_pcode.specs.declared.instr.Wait.{Wait}
 use Rattle.mj_pcode.specs.declared.instr.Wait.TheVariants.{Ever, Timed as Limited}
@@ -21,7 +21,7 @@ use Rattle.mj_pcode.specs.declared.instr.Unit.{Unit}
 use Rattle.mj_machine.specs.declared.machine.Machine.{Machine}
 use Rattle.mj_machine.specs.declared.machine.TurnOutcome.{TurnOutcome}
 use Rattle.mj_machine.specs.Kept.{context_of, stack_of, Does, Obeys}
-use Rattle.mj_lock_ops.specs.Wanted.{timeout_in, test_after, refused, wanted_in, takes_or_gives, ask_of, lock_of}
+use Rattle.mj_lock_ops.specs.Wanted.{timeout_in, test_after, refused, wanted_in, ask_of, lock_of}
 
 -- how long an ask may wait is known before the rest
 pub waits_known : (w : Wait) (stack : Stack) (f : Option ℤ → Timed) (n : ℕ) → waits w stack f n ≡ given (timeout_in w stack) f n
@@ -65,6 +65,11 @@ wanted_is rs w stack f found n back s replies e =
 pub test_is : (timeout : Option ℤ) (late : Bool) (s : State) → record s { test = test_after timeout late s.test } ≡ in_time timeout (not late) s
 test_is None late s = refl
 test_is (Some n) late s = refl
+
+-- what LOCK does with names: it takes them, or gives them up
+abbrev pub takes_or_gives : Bool → List Name → Option ℤ → Timed → Timed
+takes_or_gives true xs timeout rest = take_names xs timeout rest
+takes_or_gives false xs timeout rest = give_names xs timeout rest
 
 -- names of which there is one at least are asked for
 pub some_asked : (takes : Bool) (xs : List Name) (timeout : Option ℤ) (rest : Timed) → 0 < length xs

@@ -7,8 +7,6 @@ use Rattle.mj_subs.specs.Name.{Name}
 use Rattle.mj_ask.specs.declared.ask.Ask.{Ask}
 use Rattle.mj_ask.specs.declared.ask.Ask.TheVariants as asks
 use Rattle.mj_ask.specs.declared.ask.SharedAsk.TheVariants as shared_asks
-use Rattle.mj_semantics.specs.Outcome.{Timed as Timely}
-use Rattle.mj_semantics.specs.Sharing.{take_names, give_names}
 use Rattle.mj_pcode.specs.declared.instr.Instr.{Instr}
 use Rattle.mj_pcode.specs.declared.instr.Instr.TheVariants.{Lock, Unlock}
 use Rattle.mj_pcode.specs.declared.instr.Wait.{Wait}
@@ -36,17 +34,12 @@ abbrev pub wanted_in : List Reference → Wait → Stack → Result (Option ℤ 
 wanted_in references w stack =
     then_value (timeout_in w stack) (λ timeout. then_value (names_on references (drop (wait_size w) stack)) (λ xs. Ok (timeout, xs)))
 
--- what LOCK does with names: it takes them, or gives them up
-abbrev pub takes_or_gives : Bool → List Name → Option ℤ → Timely → Timely
-takes_or_gives true xs timeout rest = take_names xs timeout rest
-takes_or_gives false xs timeout rest = give_names xs timeout rest
-
--- what it asks for that
+-- what LOCK asks, to take names or to give them up
 abbrev pub ask_of : Bool → List Name → Option ℤ → Ask
 ask_of true xs timeout = asks.Shared (shared_asks.Try xs timeout)
 ask_of false xs timeout = asks.Shared (shared_asks.Unlock xs)
 
--- the instruction that does it
+-- the instruction that does so
 abbrev pub lock_of : Bool → List Reference → Wait → Instr
 lock_of true references w = Lock references w
 lock_of false references w = Unlock references w

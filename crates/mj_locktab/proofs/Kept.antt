@@ -1,16 +1,14 @@
 -- Every change keeps what a table keeps, and what a try says of it.
-use Rattle.std.proofs.Common.{◌≡◌, ℕ, zero, suc, ◌+◌, ◌-◌, ◌<◌, ◌≤◌, true, false, not, List, [], ◌∷◌, ◌++◌, length, get_or, take, drop, set, Option, Some, None, refl, sym, ap, ◌∙◌, arith}
-use Rattle.std.specs.Prelude.{◌==◌, unwrap_or}
-use Rattle.std.specs.List.{insert, remove}
-use Rattle.std.specs.FinMap.{find, put}
-use Rattle.std.proofs.lemmas.List.{at_drop_more, take_more, take-append-drop, set-get_or}
+use Rattle.std.proofs.Common.{◌≡◌, ℕ, ◌+◌, ◌<◌, ◌≤◌, true, false, not, List, [], ◌∷◌, ◌++◌, length, get_or, take, drop, Option, Some, None, refl, sym, ap, ◌∙◌, arith}
+use Rattle.std.specs.Prelude.{◌==◌}
+use Rattle.std.specs.FinMap.{find}
+use Rattle.std.proofs.lemmas.List.{at_drop_more, take_more, take-append-drop}
 use Rattle.mj_subs.specs.Name.{Name}
 use Rattle.mj_locktab.specs.declared.hold.Hold.{Hold}
 use Rattle.mj_locktab.specs.declared.taken.Taken.TheVariants as takes
 use Rattle.mj_locktab.specs.Locks.{Locks, hold_of, job_of, hold_cmp, count_of, names_of, is_past_limit, IsInOrder, IsLockTable}
 use Rattle.mj_locktab.specs.declared.held.TheConstants.{HOLDS_LIMIT, COUNT_LIMIT}
-use Rattle.mj_locktab.specs.Changes.{with_count, one_more, one_less, after_take, after_give, after_give_all}
-use Rattle.mj_locktab.proofs.Slots.{HoldStandsAt, IsGapFor}
+use Rattle.mj_locktab.specs.Changes.{one_more, one_less, after_take, after_give, after_give_all}
 use Rattle.mj_locktab.specs.Tries.{conflict_of, try_answer, left, outcome_of, after_try, AreFree, TryGives}
 use Rattle.mj_locktab.proofs.Entries.{any-filter}
 use Rattle.mj_locktab.proofs.Counts.{order-after_take, order-after_give, order-after_give_all, order-one_less, counted-after_take, counted-after_give, rises, given_back}
@@ -59,60 +57,18 @@ after_take-append locks job (n ∷ names) more = after_take-append (one_more loc
 
 module _ (locks : Locks) (job : ℕ) (n : Name) (order : IsInOrder locks) (within : is_past_limit locks job ≡ false) where
   -- of a name that is held, the count tells whether a limit is passed
-  pub held_over : (at : ℕ) (e : Hold × ℕ) → HoldStandsAt locks (hold_of job n) at → e ≡ get_or locks at e → e.1 ≡ COUNT_LIMIT
-      → (set locks at e ≡ locks) × (is_past_limit (one_more locks job n) job ≡ true)
-  held_over at e is here full = (
-    ap (λ (x : Hold × ℕ). set locks at x) here ∙ set-get_or locks at e,
-    over-held locks job e.1 n order within (is.found e ∙ ap (λ (x : Hold × ℕ). Some x.1) (sym here)) ∙ lt_true COUNT_LIMIT (e.1 + 1) (omega (arith, full)),
-  )
+  pub count_over : (c : ℕ) → find hold_cmp (hold_of job n) locks ≡ Some c → c ≡ COUNT_LIMIT → is_past_limit (one_more locks job n) job ≡ true
+  count_over c found full = over-held locks job c n order within found ∙ lt_true COUNT_LIMIT (c + 1) (omega (arith, full))
 
-  pub held_more : (at : ℕ) (e : Hold × ℕ) → HoldStandsAt locks (hold_of job n) at → e ≡ get_or locks at e → e.1 + 1 ≤ COUNT_LIMIT
-      → (set locks at (e.0, e.1 + 1) ≡ one_more locks job n) × (is_past_limit (one_more locks job n) job ≡ false)
-  held_more at e is here room =
-      let found : find hold_cmp (hold_of job n) locks ≡ Some e.1 = is.found e ∙ ap (λ (x : Hold × ℕ). Some x.1) (sym here) in
-      let same : e.0 ≡ hold_of job n = ap (λ (x : Hold × ℕ). x.0) (here ∙ is.here e) in
-      let value : count_of locks job n ≡ e.1 = ap (λ (o : Option ℕ). unwrap_or o 0) found in (
-        (λ i. set locks at (same i, e.1 + 1)) ∙ ap (λ (c : ℕ). set locks at (hold_of job n, c + 1)) (sym value) ∙ sym (is.written (count_of locks job n + 1)),
-        over-held locks job e.1 n order within found ∙ lt_false COUNT_LIMIT (e.1 + 1) room,
-      )
+  pub count_more : (c : ℕ) → find hold_cmp (hold_of job n) locks ≡ Some c → c + 1 ≤ COUNT_LIMIT → is_past_limit (one_more locks job n) job ≡ false
+  count_more c found room = over-held locks job c n order within found ∙ lt_false COUNT_LIMIT (c + 1) room
 
-  pub new_over : (at : ℕ) → IsGapFor locks (hold_of job n) at → HOLDS_LIMIT ≤ names_of locks job → is_past_limit (one_more locks job n) job ≡ true
-  new_over at gap full = over-new locks job n within gap.absent ∙ lt_true HOLDS_LIMIT (names_of locks job + 1) (omega (arith, full))
+  -- and of one that isn't, how many are
+  pub new_over : find hold_cmp (hold_of job n) locks ≡ None → HOLDS_LIMIT ≤ names_of locks job → is_past_limit (one_more locks job n) job ≡ true
+  new_over absent full = over-new locks job n within absent ∙ lt_true HOLDS_LIMIT (names_of locks job + 1) (omega (arith, full))
 
-  pub new_more : (at : ℕ) → IsGapFor locks (hold_of job n) at → names_of locks job < HOLDS_LIMIT → is_past_limit (one_more locks job n) job ≡ false
-  new_more at gap room = over-new locks job n within gap.absent ∙ lt_false HOLDS_LIMIT (names_of locks job + 1) (omega (arith, room))
-
-module _ (locks : Locks) (job : ℕ) (n : Name) where
-  -- a hold that is new is put at its place
-  pub new_put : (at : ℕ) → IsGapFor locks (hold_of job n) at → insert locks at (hold_of job n, 1) ≡ one_more locks job n
-  new_put at gap =
-      let value : count_of locks job n ≡ 0 = ap (λ (o : Option ℕ). unwrap_or o 0) gap.absent in
-      sym (gap.written 1) ∙ ap (λ (c : ℕ). put hold_cmp (hold_of job n) c locks) {x = 1} {y = count_of locks job n + 1} (omega (arith, value))
-
-  pub less_there : (at : ℕ) (e : Hold × ℕ) → HoldStandsAt locks (hold_of job n) at → e ≡ get_or locks at e → 1 < e.1 → set locks at (e.0, e.1 - 1) ≡ one_less locks job n
-  less_there at e is here more = by (e.1 - 1) refl (omega (arith, more)) where
-    value : count_of locks job n ≡ e.1
-    value = ap (λ (o : Option ℕ). unwrap_or o 0) (is.found e ∙ ap (λ (x : Hold × ℕ). Some x.1) (sym here))
-
-    same : e.0 ≡ hold_of job n
-    same = ap (λ (x : Hold × ℕ). x.0) (here ∙ is.here e)
-
-    written : (c : ℕ) → 0 < c → set locks at (hold_of job n, c) ≡ with_count locks job n c
-    written zero up = absurd (omega (arith, up))
-    written (suc c) up = sym (is.written (suc c))
-
-    by : (c : ℕ) → e.1 - 1 ≡ c → 0 < c → set locks at (e.0, e.1 - 1) ≡ one_less locks job n
-    by c is' up = (λ i. set locks at (same i, is' i)) ∙ written c up ∙ ap (λ (x : ℕ). with_count locks job n x) (sym is' ∙ ap (λ (x : ℕ). x - 1) (sym value))
-
-  pub gone_there : (at : ℕ) (e : Hold × ℕ) → HoldStandsAt locks (hold_of job n) at → e ≡ get_or locks at e → e.1 ≤ 1 → remove locks at ≡ one_less locks job n
-  gone_there at e is here few =
-      let value : count_of locks job n ≡ e.1 = ap (λ (o : Option ℕ). unwrap_or o 0) (is.found e ∙ ap (λ (x : Hold × ℕ). Some x.1) (sym here)) in
-      sym is.gone ∙ ap (λ (x : ℕ). with_count locks job n x) {x = 0} {y = count_of locks job n - 1} (omega (arith, value, few))
-
-  pub absent_there : (at : ℕ) → IsGapFor locks (hold_of job n) at → locks ≡ one_less locks job n
-  absent_there at gap =
-      let value : count_of locks job n ≡ 0 = ap (λ (o : Option ℕ). unwrap_or o 0) gap.absent in
-      sym gap.same ∙ ap (λ (x : ℕ). with_count locks job n x) {x = 0} {y = count_of locks job n - 1} (omega (arith, value))
+  pub new_more : find hold_cmp (hold_of job n) locks ≡ None → names_of locks job < HOLDS_LIMIT → is_past_limit (one_more locks job n) job ≡ false
+  new_more absent room = over-new locks job n within absent ∙ lt_false HOLDS_LIMIT (names_of locks job + 1) (omega (arith, room))
 
 -- ---- a list of names
 

@@ -1,13 +1,12 @@
 -- The first conflict of all is that of the least job that is in the way, among its own holds.
 use Rattle.std.proofs.Common.{◌≡◌, ℕ, zero, suc, ◌<◌, ◌≤◌, Bool, true, false, [], ◌∷◌, Option, Some, None, ◌⊎◌, inl, inr, refl, sym, ap, ◌∙◌, subst, arith, eq-eqb}
-use Rattle.std.specs.Prelude.{◌==◌, unwrap_or, Vec}
-use Rattle.std.specs.Global.{Global}
+use Rattle.std.specs.Prelude.{◌==◌, unwrap_or}
 use Rattle.std.specs.Option.{option_or}
 use Rattle.std.specs.List.{find}
 use Rattle.std.specs.declared.cmp.Ordering.TheVariants.{Less}
 use Rattle.std.specs.Ordering.{nat_cmp}
 use Rattle.std.specs.Cmp.{nat_cmp_is}
-use Rattle.std.specs.BTreeMap.{is_at}
+use Rattle.std.specs.BTreeMap.{BTreeMap, is_at}
 use Rattle.std.proofs.lemmas.Cmp.{nat_cmp_total}
 use Rattle.std.proofs.lemmas.Map.{lookup-none}
 use Rattle.std.proofs.lemmas.Map.Entries.{none_below_head}
@@ -18,7 +17,7 @@ use Rattle.mj_locktab.specs.Locks.{Locks, count_of}
 use Rattle.mj_locktab.specs.Tries.{is_conflict, conflict_with}
 use Rattle.mj_locktab.specs.Trees.{Stand, along, is_in_way, IsLeastOther}
 use Rattle.mj_locktab.specs.Told.{Tell}
-use Rattle.mj_locktab.specs.Parts.{Parts, holds_of, part_in, part_at, AreParts}
+use Rattle.mj_locktab.specs.Parts.{Parts, held_by, holds_of, part_in, part_at, AreParts}
 use Rattle.mj_locktab.proofs.Apart.{Conflicts, conflicts, free}
 use Rattle.mj_locktab.proofs.Conflicts.{conflict_in_way, in_way_conflict}
 use Rattle.mj_locktab.proofs.Parts.{equal_job, apart, past_first, part_first, part_later, later_parts, find_other, count_parts, counted_parts}
@@ -27,7 +26,7 @@ use Rattle.mj_locktab.proofs.Parts.{equal_job, apart, past_first, part_first, pa
 first_found : (p : Hold × ℕ → Bool) (parts : Parts) (least : ℕ) (e : Hold × ℕ) → AreParts parts → ((j : ℕ) → j < least → find p (part_at parts j) ≡ None) → find p (part_at parts least) ≡ Some e
     → find p (holds_of parts) ≡ Some e
 first_found p [] least e are early found = absurd (let never : ⊥ = cc in never)
-first_found p (k ∷ ks) least e are early found = find-append p k.1.items (holds_of ks) ∙ at (first_found p ks least e (later_parts k ks are)) (least == k.0) refl (order k.0 least) where
+first_found p (k ∷ ks) least e are early found = find-append p (held_by k.0 k.1.entries) (holds_of ks) ∙ at (first_found p ks least e (later_parts k ks are)) (least == k.0) refl (order k.0 least) where
   order : (a b : ℕ) → (a < b) ⊎ (b ≤ a)
   order a zero = inr (omega arith)
   order zero (suc b) = inl (omega arith)
@@ -37,20 +36,20 @@ first_found p (k ∷ ks) least e are early found = find-append p k.1.items (hold
     by (inr h) = inr (omega arith)
 
   at : (((j : ℕ) → j < least → find p (part_at ks j) ≡ None) → find p (part_at ks least) ≡ Some e → find p (holds_of ks) ≡ Some e) → (b : Bool) → (least == k.0) ≡ b
-      → (k.0 < least) ⊎ (least ≤ k.0) → option_or (find p k.1.items) (find p (holds_of ks)) ≡ Some e
+      → (k.0 < least) ⊎ (least ≤ k.0) → option_or (find p (held_by k.0 k.1.entries)) (find p (holds_of ks)) ≡ Some e
   at further true same h = ap (λ (o : Option (Hold × ℕ)). option_or o (find p (holds_of ks))) (ap (λ (l : Locks). find p l) (sym (part_first k ks least same)) ∙ found)
   at further false other (inl before) =
       ap (λ (o : Option (Hold × ℕ)). option_or o (find p (holds_of ks))) (ap (λ (l : Locks). find p l) (sym (part_first k ks k.0 (eq-eqb k.0 k.0 refl))) ∙ early k.0 before)
       ∙ further (λ j low. still j low (j == k.0) refl) (ap (λ (l : Locks). find p l) (sym (part_later k ks least other)) ∙ found)
     where
       still : (j : ℕ) → j < least → (b : Bool) → (j == k.0) ≡ b → find p (part_at ks j) ≡ None
-      still j low true f = ap (λ (o : Option (Vec (Hold × ℕ) Global)). find p (part_in o)) (past_first k ks are.rises j f)
+      still j low true f = ap (λ (o : Option (BTreeMap Name ℕ)). find p (part_in j o)) (past_first k ks are.rises j f)
       still j low false f = ap (λ (l : Locks). find p l) (sym (part_later k ks j f)) ∙ early j low
   at further false other (inr past) =
       let below : least < k.0 = strict past in
       let less : nat_cmp least k.0 ≡ Less = sym (nat_cmp_is least k.0 Less below) in
       let none = lookup-none (is_at (nat_cmp least)) (k ∷ ks) (none_below_head nat_cmp_total least k ks are.rises less) in
-      let empty : find p (part_at (k ∷ ks) least) ≡ None = ap (λ (o : Option (Vec (Hold × ℕ) Global)). find p (part_in o)) none in
+      let empty : find p (part_at (k ∷ ks) least) ≡ None = ap (λ (o : Option (BTreeMap Name ℕ)). find p (part_in least o)) none in
       absurd (let never : ⊥ = cc in never)
     where
       strict : least ≤ k.0 → least < k.0

@@ -2,8 +2,6 @@ pub mod Entries
 pub mod Order
 pub mod Counts
 pub mod Limits
-pub mod Slots
-pub mod Places
 pub mod Apart
 pub mod Kept
 pub mod Kids
@@ -17,6 +15,7 @@ pub mod Follows
 pub mod Followed
 pub mod Conflicts
 pub mod Parts
+pub mod Named
 pub mod Least
 pub mod Left
 pub mod Listed

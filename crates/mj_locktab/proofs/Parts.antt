@@ -1,5 +1,5 @@
 -- What holds of the holds of each job holds of all, and a change of one job's is a change of all.
-use Rattle.std.proofs.Common.{◌≡◌, ℕ, ◌+◌, Bool, true, false, cond, ◌&&◌, [], ◌∷◌, ◌++◌, length, Option, Some, None, Vec, Global, refl, sym, ap, ◌∙◌, subst, arith, eq-eqb, eqb→eq}
+use Rattle.std.proofs.Common.{◌≡◌, ℕ, ◌+◌, Bool, true, false, cond, ◌&&◌, [], ◌∷◌, ◌++◌, length, Option, Some, None, refl, sym, ap, ◌∙◌, subst, arith, eq-eqb, eqb→eq}
 use Rattle.std.specs.Prelude.{T, ◌==◌, nat_lt, unwrap_or}
 use Rattle.std.specs.Option.{option_or}
 use Rattle.std.specs.List.{list_any, list_all, AllByRecursion}
@@ -10,7 +10,7 @@ use Rattle.std.specs.Cmp.{unsigned_tied}
 use Rattle.std.specs.FinMap.{find, is_sorted}
 use Rattle.std.specs.FinMap.Entries.{below_all}
 use Rattle.std.specs.Map.{keys_of, lookup}
-use Rattle.std.specs.BTreeMap.{is_at}
+use Rattle.std.specs.BTreeMap.{BTreeMap, is_at}
 use Rattle.std.proofs.lemmas.Cmp.{nat_cmp_total, eq_by_cmp_equiv}
 use Rattle.std.proofs.lemmas.Map.{lookup-none}
 use Rattle.std.proofs.lemmas.Map.Keys.{sorted_head, sorted_tail, IsDistinct-from_sorted}
@@ -23,7 +23,7 @@ use Rattle.mj_locktab.specs.declared.hold.Hold.{Hold}
 use Rattle.mj_locktab.specs.declared.held.TheConstants.{HOLDS_LIMIT, COUNT_LIMIT}
 use Rattle.mj_locktab.specs.Locks.{Locks, hold_of, job_of, hold_cmp, count_of, names_of, is_past_limit, IsInOrder}
 use Rattle.mj_locktab.specs.Changes.{one_more}
-use Rattle.mj_locktab.specs.Parts.{Parts, holds_of, part_in, part_at, IsPart, AreParts}
+use Rattle.mj_locktab.specs.Parts.{Parts, held_by, holds_of, part_in, part_at, IsPart, AreParts}
 use Rattle.mj_locktab.proofs.Order.{tied-hold_of}
 use Rattle.mj_locktab.proofs.Entries.{first, second, both, nor, neither}
 use Rattle.mj_locktab.proofs.Counts.{IsCounted, same_locks}
@@ -60,24 +60,25 @@ or_none (Some x) = refl
 pub no_part : (job : ℕ) → IsPart job []
 no_part job = record { in_order = tt; counted = refl; own = refl }
 
-pub past_first : (k : ℕ × Vec (Hold × ℕ) Global) (ks : Parts) → IsStrictlySortedBy nat_cmp (keys_of (k ∷ ks)) → (j : ℕ) → (j == k.0) ≡ true → lookup (is_at (nat_cmp j)) ks ≡ None
+pub past_first : (k : ℕ × BTreeMap Name ℕ) (ks : Parts) → IsStrictlySortedBy nat_cmp (keys_of (k ∷ ks)) → (j : ℕ) → (j == k.0) ≡ true → lookup (is_at (nat_cmp j)) ks ≡ None
 past_first k ks rises j same =
     lookup-none (is_at (nat_cmp j)) ks
     (none_past_head (eq_by_cmp_equiv nat_cmp_total) j k ks (IsDistinct-from_sorted nat_cmp (keys_of (k ∷ ks)) rises) (unsigned_tied j k.0 ∙ same))
 
-pub part_first : (k : ℕ × Vec (Hold × ℕ) Global) (ks : Parts) (j : ℕ) → (j == k.0) ≡ true → part_at (k ∷ ks) j ≡ k.1.items
-part_first k ks j same = ap (λ b. part_in (cond b (Some k.1) (lookup (is_at (nat_cmp j)) ks))) (unsigned_tied j k.0 ∙ same)
+pub part_first : (k : ℕ × BTreeMap Name ℕ) (ks : Parts) (j : ℕ) → (j == k.0) ≡ true → part_at (k ∷ ks) j ≡ held_by k.0 k.1.entries
+part_first k ks j same =
+    ap (λ b. part_in j (cond b (Some k.1) (lookup (is_at (nat_cmp j)) ks))) (unsigned_tied j k.0 ∙ same) ∙ ap (λ (x : ℕ). held_by x k.1.entries) (equal_job j k.0 same)
 
-pub part_later : (k : ℕ × Vec (Hold × ℕ) Global) (ks : Parts) (j : ℕ) → (j == k.0) ≡ false → part_at (k ∷ ks) j ≡ part_at ks j
-part_later k ks j other = ap (λ b. part_in (cond b (Some k.1) (lookup (is_at (nat_cmp j)) ks))) (unsigned_tied j k.0 ∙ other)
+pub part_later : (k : ℕ × BTreeMap Name ℕ) (ks : Parts) (j : ℕ) → (j == k.0) ≡ false → part_at (k ∷ ks) j ≡ part_at ks j
+part_later k ks j other = ap (λ b. part_in j (cond b (Some k.1) (lookup (is_at (nat_cmp j)) ks))) (unsigned_tied j k.0 ∙ other)
 
-pub first_part : (k : ℕ × Vec (Hold × ℕ) Global) (ks : Parts) → AreParts (k ∷ ks) → IsPart k.0 k.1.items
+pub first_part : (k : ℕ × BTreeMap Name ℕ) (ks : Parts) → AreParts (k ∷ ks) → IsPart k.0 (held_by k.0 k.1.entries)
 first_part k ks parts = subst (IsPart k.0) (part_first k ks k.0 (eq-eqb k.0 k.0 refl)) (parts.each k.0)
 
-pub later_parts : (k : ℕ × Vec (Hold × ℕ) Global) (ks : Parts) → AreParts (k ∷ ks) → AreParts ks
+pub later_parts : (k : ℕ × BTreeMap Name ℕ) (ks : Parts) → AreParts (k ∷ ks) → AreParts ks
 later_parts k ks parts = record { rises = sorted_tail nat_cmp k.0 (keys_of ks) parts.rises; each = λ j. at j (j == k.0) refl } where
   at : (j : ℕ) (b : Bool) → (j == k.0) ≡ b → IsPart j (part_at ks j)
-  at j true e = subst (IsPart j) (sym (ap part_in (past_first k ks parts.rises j e))) (no_part j)
+  at j true e = subst (IsPart j) (sym (ap (part_in j) (past_first k ks parts.rises j e))) (no_part j)
   at j false e = subst (IsPart j) (part_later k ks j e) (parts.each j)
 
 -- ---- what is found among all is found among the job's own
@@ -101,16 +102,16 @@ find_other k j m (x ∷ xs) own other =
 
 pub find_parts : (parts : Parts) → AreParts parts → (j : ℕ) (m : Name) → find hold_cmp (hold_of j m) (holds_of parts) ≡ find hold_cmp (hold_of j m) (part_at parts j)
 find_parts [] are j m = refl
-find_parts (k ∷ ks) are j m = find_append (hold_of j m) k.1.items (holds_of ks) ∙ at (find_parts ks (later_parts k ks are) j m) (j == k.0) refl where
+find_parts (k ∷ ks) are j m = find_append (hold_of j m) (held_by k.0 k.1.entries) (holds_of ks) ∙ at (find_parts ks (later_parts k ks are) j m) (j == k.0) refl where
   at : find hold_cmp (hold_of j m) (holds_of ks) ≡ find hold_cmp (hold_of j m) (part_at ks j) → (b : Bool) → (j == k.0) ≡ b
-      → option_or (find hold_cmp (hold_of j m) k.1.items) (find hold_cmp (hold_of j m) (holds_of ks)) ≡ find hold_cmp (hold_of j m) (part_at (k ∷ ks) j)
+      → option_or (find hold_cmp (hold_of j m) (held_by k.0 k.1.entries)) (find hold_cmp (hold_of j m) (holds_of ks)) ≡ find hold_cmp (hold_of j m) (part_at (k ∷ ks) j)
   at rest true e =
-      ap (λ (o : Option ℕ). option_or (find hold_cmp (hold_of j m) k.1.items) o)
-      (rest ∙ ap (λ (o : Option (Vec (Hold × ℕ) Global)). find hold_cmp (hold_of j m) (part_in o)) (past_first k ks are.rises j e))
-      ∙ or_none (find hold_cmp (hold_of j m) k.1.items)
+      ap (λ (o : Option ℕ). option_or (find hold_cmp (hold_of j m) (held_by k.0 k.1.entries)) o)
+      (rest ∙ ap (λ (o : Option (BTreeMap Name ℕ)). find hold_cmp (hold_of j m) (part_in j o)) (past_first k ks are.rises j e))
+      ∙ or_none (find hold_cmp (hold_of j m) (held_by k.0 k.1.entries))
       ∙ ap (λ (l : Locks). find hold_cmp (hold_of j m) l) (sym (part_first k ks j e))
   at rest false e =
-      ap (λ (o : Option ℕ). option_or o (find hold_cmp (hold_of j m) (holds_of ks))) (find_other k.0 j m k.1.items (first_part k ks are).own (apart j k.0 e))
+      ap (λ (o : Option ℕ). option_or o (find hold_cmp (hold_of j m) (holds_of ks))) (find_other k.0 j m (held_by k.0 k.1.entries) (first_part k ks are).own (apart j k.0 e))
       ∙ rest
       ∙ ap (λ (l : Locks). find hold_cmp (hold_of j m) l) (sym (part_later k ks j e))
 
@@ -132,7 +133,7 @@ below_own h k (x ∷ xs) low own =
 
 below_parts : (h : Hold) (ks : Parts) → AreParts ks → AllByRecursion (λ y. nat_cmp h.job y ≡ Less) (keys_of ks) → T (below_all hold_cmp h (holds_of ks))
 below_parts h [] are low = tt
-below_parts h (k ∷ ks) are low = below_append h k.1.items (holds_of ks) (below_own h k.0 k.1.items low.0 (first_part k ks are).own) (below_parts h ks (later_parts k ks are) low.1)
+below_parts h (k ∷ ks) are low = below_append h (held_by k.0 k.1.entries) (holds_of ks) (below_own h k.0 (held_by k.0 k.1.entries) low.0 (first_part k ks are).own) (below_parts h ks (later_parts k ks are) low.1)
 
 sorted_join : (k : ℕ) (xs ys : Locks) → T (is_sorted hold_cmp xs) → list_all (λ e. job_of e.0 == k) xs ≡ true → ((h : Hold) → h.job ≡ k → T (below_all hold_cmp h ys)) → T (is_sorted hold_cmp ys)
     → T (is_sorted hold_cmp (xs ++ ys))
@@ -145,7 +146,7 @@ pub order_parts : (parts : Parts) → AreParts parts → IsInOrder (holds_of par
 order_parts [] are = tt
 order_parts (k ∷ ks) are =
     let later = later_parts k ks are in
-    sorted_join k.0 k.1.items (holds_of ks) (first_part k ks are).in_order (first_part k ks are).own
+    sorted_join k.0 (held_by k.0 k.1.entries) (holds_of ks) (first_part k ks are).in_order (first_part k ks are).own
     (λ h same. below_parts h ks later (subst (λ (x : ℕ). AllByRecursion (λ y. nat_cmp x y ≡ Less) (keys_of ks)) (sym same) (sorted_head nat_cmp k.0 (keys_of ks) are.rises)))
     (order_parts ks later)
 
@@ -154,11 +155,11 @@ order_parts (k ∷ ks) are =
 pub none_parts : (p : Hold × ℕ → Bool) (parts : Parts) → AreParts parts → ((j : ℕ) → list_any p (part_at parts j) ≡ false) → list_any p (holds_of parts) ≡ false
 none_parts p [] are none = refl
 none_parts p (k ∷ ks) are none =
-    list_any-append p k.1.items (holds_of ks)
+    list_any-append p (held_by k.0 k.1.entries) (holds_of ks)
     ∙ nor _ _ (ap (λ (l : Locks). list_any p l) (sym (part_first k ks k.0 (eq-eqb k.0 k.0 refl))) ∙ none k.0) (none_parts p ks (later_parts k ks are) (λ j. at j (j == k.0) refl))
   where
     at : (j : ℕ) (b : Bool) → (j == k.0) ≡ b → list_any p (part_at ks j) ≡ false
-    at j true e = ap (λ (o : Option (Vec (Hold × ℕ) Global)). list_any p (part_in o)) (past_first k ks are.rises j e)
+    at j true e = ap (λ (o : Option (BTreeMap Name ℕ)). list_any p (part_in j o)) (past_first k ks are.rises j e)
     at j false e = ap (λ (l : Locks). list_any p l) (sym (part_later k ks j e)) ∙ none j
 
 pub counted_parts : (parts : Parts) → AreParts parts → IsCounted (holds_of parts)
@@ -168,8 +169,8 @@ counted_parts parts are = none_parts (λ e. e.1 == 0) parts are (λ j. (are.each
 pub none_part : (p : Hold × ℕ → Bool) (parts : Parts) (j : ℕ) → list_any p (holds_of parts) ≡ false → list_any p (part_at parts j) ≡ false
 none_part p [] j none = refl
 none_part p (k ∷ ks) j none = at (none_part p ks j) (j == k.0) refl where
-  parts : (list_any p k.1.items ≡ false) × (list_any p (holds_of ks) ≡ false)
-  parts = neither _ _ (sym (list_any-append p k.1.items (holds_of ks)) ∙ none)
+  parts : (list_any p (held_by k.0 k.1.entries) ≡ false) × (list_any p (holds_of ks) ≡ false)
+  parts = neither _ _ (sym (list_any-append p (held_by k.0 k.1.entries) (holds_of ks)) ∙ none)
 
   at : (list_any p (holds_of ks) ≡ false → list_any p (part_at ks j) ≡ false) → (b : Bool) → (j == k.0) ≡ b → list_any p (part_at (k ∷ ks) j) ≡ false
   at rest true e = ap (λ (l : Locks). list_any p l) (part_first k ks j e) ∙ parts.0
@@ -197,15 +198,15 @@ names_part parts are j = names_own j (part_at parts j) (are.each j).own
 
 pub names_parts : (parts : Parts) → AreParts parts → (j : ℕ) → names_of (holds_of parts) j ≡ names_of (part_at parts j) j
 names_parts [] are j = refl
-names_parts (k ∷ ks) are j = sum_by-append (λ (e : Hold × ℕ). cond (job_of e.0 == j) 1 0) k.1.items (holds_of ks) ∙ at (names_parts ks (later_parts k ks are) j) (j == k.0) refl where
-  at : names_of (holds_of ks) j ≡ names_of (part_at ks j) j → (b : Bool) → (j == k.0) ≡ b → names_of k.1.items j + names_of (holds_of ks) j ≡ names_of (part_at (k ∷ ks) j) j
+names_parts (k ∷ ks) are j = sum_by-append (λ (e : Hold × ℕ). cond (job_of e.0 == j) 1 0) (held_by k.0 k.1.entries) (holds_of ks) ∙ at (names_parts ks (later_parts k ks are) j) (j == k.0) refl where
+  at : names_of (holds_of ks) j ≡ names_of (part_at ks j) j → (b : Bool) → (j == k.0) ≡ b → names_of (held_by k.0 k.1.entries) j + names_of (holds_of ks) j ≡ names_of (part_at (k ∷ ks) j) j
   at its true e =
       let rest : names_of (holds_of ks) j ≡ 0 =
-      its ∙ ap (λ (o : Option (Vec (Hold × ℕ) Global)). names_of (part_in o) j) (past_first k ks are.rises j e) in
-      let here : names_of (part_at (k ∷ ks) j) j ≡ names_of k.1.items j = ap (λ (l : Locks). names_of l j) (part_first k ks j e) in
+      its ∙ ap (λ (o : Option (BTreeMap Name ℕ)). names_of (part_in j o) j) (past_first k ks are.rises j e) in
+      let here : names_of (part_at (k ∷ ks) j) j ≡ names_of (held_by k.0 k.1.entries) j = ap (λ (l : Locks). names_of l j) (part_first k ks j e) in
       omega (arith, rest, here)
   at its false e =
-      let none : names_of k.1.items j ≡ 0 = names_other k.0 j k.1.items (first_part k ks are).own (apart j k.0 e) in
+      let none : names_of (held_by k.0 k.1.entries) j ≡ 0 = names_other k.0 j (held_by k.0 k.1.entries) (first_part k ks are).own (apart j k.0 e) in
       let rest = its in
       let here : names_of (part_at (k ∷ ks) j) j ≡ names_of (part_at ks j) j = ap (λ (l : Locks). names_of l j) (part_later k ks j e) in
       omega (arith, none, rest, here)

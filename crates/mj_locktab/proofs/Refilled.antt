@@ -1,21 +1,20 @@
 -- What a change of one job's part is for all holds, and that the trees tell of them.
-use Rattle.std.proofs.Common.{◌≡◌, ℕ, ◌+◌, ◌-◌, ◌≤◌, Bool, true, false, cond, not, ◌&&◌, List, [], Option, Some, None, Vec, Global, Result, Ok, Err, OnErr, refl, sym, ap, ◌∙◌, subst, arith, eq-eqb}
-use Rattle.std.specs.Prelude.{◌==◌, unwrap_or, is_some, IfOk}
+use Rattle.std.proofs.Common.{◌≡◌, ℕ, ◌+◌, ◌-◌, ◌≤◌, Bool, true, false, cond, not, ◌&&◌, List, [], Option, Some, None, Result, Ok, Err, OnErr, refl, sym, ap, ◌∙◌, subst, arith, eq-eqb}
+use Rattle.std.specs.Prelude.{◌==◌, unwrap_or, IfOk}
 use Rattle.std.specs.List.{list_any}
 use Rattle.std.specs.List.Sorted.{IsStrictlySortedBy}
 use Rattle.std.specs.Ordering.{nat_cmp}
 use Rattle.std.specs.Cmp.{unsigned_tied}
 use Rattle.std.specs.FinMap.{find}
 use Rattle.std.specs.Map.{keys_of, lookup}
-use Rattle.std.specs.BTreeMap.{is_at}
+use Rattle.std.specs.BTreeMap.{BTreeMap, is_at}
 use Rattle.mj_subs.specs.Name.{Name, names_eq}
-use Rattle.mj_locktab.specs.declared.hold.Hold.{Hold}
 use Rattle.mj_locktab.specs.Locks.{Locks, hold_of, job_of, hold_cmp, count_of, names_of, is_past_limit}
 use Rattle.mj_locktab.specs.Changes.{with_count, one_more, one_less, after_give_all}
 use Rattle.mj_locktab.specs.Tries.{TakeLeaves}
 use Rattle.mj_locktab.specs.Trees.{Stand, holder_of, tally_of, along}
 use Rattle.mj_locktab.specs.Told.{Tell, IsFree, Follows, follow_by}
-use Rattle.mj_locktab.specs.Parts.{Parts, holds_of, part_in, part_at, IsPart, AreParts}
+use Rattle.mj_locktab.specs.Parts.{Parts, held_by, holds_of, part_in, part_at, IsPart, AreParts}
 use Rattle.mj_locktab.proofs.Counts.{count-one_more, count-one_less, order-one_more, order-one_less, counted-one_more, counted-one_less, order-after_give_all, without}
 use Rattle.mj_locktab.proofs.Entries.{any-filter, filter_absent}
 use Rattle.mj_locktab.proofs.Follows.{few_tallied, no_holder_there}
@@ -23,22 +22,18 @@ use Rattle.mj_locktab.proofs.Followed.{told_more, told_less, told_same, part-one
 use Rattle.mj_locktab.proofs.Parts.{IsRefilled, unlike, find_parts, count_parts, order_parts, counted_parts, names_parts, parts_refilled, same_parts, counts_refilled, over_part}
 
 -- what the writing through a job's part leaves
-pub refilled : (old new : Parts) (job : ℕ) (part : Vec (Hold × ℕ) Global) → lookup (is_at (nat_cmp job)) new ≡ Some part
-    → ((j : ℕ) → (j ≡ job → ⊥) → lookup (is_at (nat_cmp j)) new ≡ lookup (is_at (nat_cmp j)) old) → IsRefilled old new job part.items
-refilled old new job part there others = record { own = ap part_in there; others = λ j other. ap part_in (others j other) }
+pub refilled : (old new : Parts) (job : ℕ) (part : BTreeMap Name ℕ) → lookup (is_at (nat_cmp job)) new ≡ Some part
+    → ((j : ℕ) → (j ≡ job → ⊥) → lookup (is_at (nat_cmp j)) new ≡ lookup (is_at (nat_cmp j)) old) → IsRefilled old new job (held_by job part.entries)
+refilled old new job part there others = record { own = ap (part_in job) there; others = λ j other. ap (part_in j) (others j other) }
 
 -- and what taking it out leaves
 pub emptied : (old new : Parts) (job : ℕ) → lookup (is_at (nat_cmp job)) new ≡ None → ((j : ℕ) → (j ≡ job → ⊥) → lookup (is_at (nat_cmp j)) new ≡ lookup (is_at (nat_cmp j)) old)
     → IsRefilled old new job []
-emptied old new job there others = record { own = ap part_in there; others = λ j other. ap part_in (others j other) }
+emptied old new job there others = record { own = ap (part_in job) there; others = λ j other. ap (part_in j) (others j other) }
 
 -- the part that is found is the job's
-pub part_found : (parts : Parts) (job : ℕ) (o : Option (Vec (Hold × ℕ) Global)) → o ≡ lookup (is_at (nat_cmp job)) parts → part_at parts job ≡ part_in o
-part_found parts job o there = sym (ap part_in there)
-
-pub not_some : (o : Option (Vec (Hold × ℕ) Global)) → is_some o ≡ false → o ≡ None
-not_some None e = refl
-not_some (Some x) e = absurd (let never : ⊥ = cc in never)
+pub part_found : (parts : Parts) (job : ℕ) (o : Option (BTreeMap Name ℕ)) → o ≡ lookup (is_at (nat_cmp job)) parts → part_at parts job ≡ part_in job o
+part_found parts job o there = sym (ap (part_in job) there)
 
 pub other_key : (job j : ℕ) → (j ≡ job → ⊥) → is_at (nat_cmp job) j ≡ false
 other_key job j other = unsigned_tied job j ∙ unlike job j (λ e. other (sym e))
@@ -187,10 +182,12 @@ parts_without old new job are change rises =
 
 -- ---- an empty part that is put in
 
-pub parts_opened : (old new : Parts) (job : ℕ) (part : Vec (Hold × ℕ) Global) → AreParts old → part.items ≡ [] → lookup (is_at (nat_cmp job)) old ≡ None → IsRefilled old new job part.items
+pub parts_opened : (old new : Parts) (job : ℕ) (part : BTreeMap Name ℕ) → AreParts old → part.entries ≡ [] → lookup (is_at (nat_cmp job)) old ≡ None
+    → IsRefilled old new job (held_by job part.entries)
     → IsStrictlySortedBy nat_cmp (keys_of new) → AreParts new × (holds_of new ≡ holds_of old)
 parts_opened old new job part are empty none change rises =
-    kept old new job (record { global = true; word = []; subscripts = [] }) part.items are change rises (empty ∙ sym (ap part_in none))
+    kept old new job (record { global = true; word = []; subscripts = [] }) (held_by job part.entries) are change rises
+    (ap (held_by job) empty ∙ sym (ap (part_in job) none))
 
 -- ---- a job without holds
 

@@ -1,12 +1,11 @@
 -- The tallies of one job alone.
-use Rattle.std.proofs.Common.{◌≡◌, ℕ, suc, ◌+◌, ◌-◌, ◌<◌, ◌≤◌, Bool, true, false, cond, not, ◌&&◌, List, [], ◌∷◌, Option, Some, None, refl, sym, ap, ◌∙◌, subst, arith, eq-eqb}
+use Rattle.std.proofs.Common.{◌≡◌, ℕ, ◌+◌, ◌-◌, ◌<◌, ◌≤◌, Bool, true, false, cond, not, ◌&&◌, [], ◌∷◌, Option, Some, None, refl, sym, ap, ◌∙◌, arith, eq-eqb}
 use Rattle.std.specs.Prelude.{◌==◌, nat_lt, unwrap_or}
 use Rattle.std.specs.Ordering.{nat_cmp}
 use Rattle.std.specs.List.Sorted.{IsStrictlySortedBy}
-use Rattle.std.specs.Map.{lookup}
 use Rattle.std.specs.BTreeMap.{is_at}
 use Rattle.mj_locktab.specs.Trees.{Tallies, tally, AreCounted, NoOther, IsLeastOther}
-use Rattle.mj_locktab.proofs.InWay.{equal_job, tally-cons, passing, all_left, one_passed, one_found, none_found, why_passed, why_found}
+use Rattle.mj_locktab.proofs.InWay.{equal_job, tally-cons, all_left, one_passed, one_found, none_found, why_passed, why_found}
 
 abbrev alone : ℕ → ℕ → Tallies
 alone own count = (own, count) ∷ []

@@ -1,31 +1,34 @@
 -- The holds of each job by themselves. One after the other they are all holds.
-use Rattle.std.specs.Prelude.{◌≡◌, ℕ, ◌==◌, true, false, not, ◌||◌, List, [], ◌∷◌, ◌++◌, Option, Some, None, Vec, is_some}
-use Rattle.std.specs.Global.{Global}
+use Rattle.std.specs.Prelude.{◌≡◌, ℕ, ◌==◌, true, false, not, ◌||◌, List, [], ◌∷◌, ◌++◌, map, Option, Some, None, is_some}
 use Rattle.std.specs.Ordering.{nat_cmp}
 use Rattle.std.specs.List.{list_any, list_all, filter}
 use Rattle.std.specs.List.Sorted.{IsStrictlySortedBy}
 use Rattle.std.specs.Map.{keys_of, lookup}
-use Rattle.std.specs.BTreeMap.{is_at}
+use Rattle.std.specs.BTreeMap.{BTreeMap, is_at}
 use Rattle.std.specs.FinMap.{find}
-use Rattle.mj_locktab.specs.declared.hold.Hold.{Hold}
-use Rattle.mj_locktab.specs.Locks.{Locks, job_of, hold_cmp, IsInOrder}
+use Rattle.mj_subs.specs.Name.{Name}
+use Rattle.mj_locktab.specs.Locks.{Locks, hold_of, job_of, hold_cmp, IsInOrder}
 
--- jobs, each with its holds
+-- a job's names, each with its count, as the job's holds
+abbrev pub held_by : ℕ → List (Name × ℕ) → Locks
+held_by job names = map (λ e. (hold_of job e.0, e.1)) names
+
+-- jobs, each with its names and their counts
 abbrev pub Parts : Type 0
-Parts = List (ℕ × Vec (Hold × ℕ) Global)
+Parts = List (ℕ × BTreeMap Name ℕ)
 
 -- all holds
 abbrev pub holds_of : Parts → Locks
 holds_of [] = []
-holds_of (k ∷ ks) = k.1.items ++ holds_of ks
+holds_of (k ∷ ks) = held_by k.0 k.1.entries ++ holds_of ks
 
 -- those of a job, of which there are none where it isn't told
-abbrev pub part_in : Option (Vec (Hold × ℕ) Global) → Locks
-part_in None = []
-part_in (Some part) = part.items
+abbrev pub part_in : ℕ → Option (BTreeMap Name ℕ) → Locks
+part_in job None = []
+part_in job (Some part) = held_by job part.entries
 
 abbrev pub part_at : Parts → ℕ → Locks
-part_at parts job = part_in (lookup (is_at (nat_cmp job)) parts)
+part_at parts job = part_in job (lookup (is_at (nat_cmp job)) parts)
 
 -- holds of this job alone, in order and with no count of 0
 pub record IsPart (job : ℕ) (locks : Locks) : Type 0 where

@@ -8,18 +8,18 @@ use Rattle.std.specs.BTreeMap.{is_at}
 use Rattle.std.specs.Str.{bytes_eq}
 use Rattle.std.specs.Cmp.Lexicographic.{pointwise, slice_cmp}
 use Rattle.mj_subs.specs.Name.{Name, kinds_eq}
+use Rattle.mj_subs.specs.Collation.{subscript_cmp}
 use Rattle.mj_locktab.specs.declared.tally.Tallies.{Tallies as Kept}
 use Rattle.mj_locktab.specs.declared.tally.Tallies.TheVariants.{Empty, One, More}
-use Rattle.mj_subs.specs.Collation.{subscript_cmp}
 
 -- How many of its names each job has at a node or below it. A job that isn't told has none
 abbrev pub Tallies : Type 0
 Tallies = List (ℕ × ℕ)
 
--- those that are kept: of no job, of one, or of more in a map
+-- those that are kept: of no job, of one, or of any number of jobs in a map
 abbrev pub tallies_of : Kept → Tallies
 tallies_of Empty = []
-tallies_of (One job count) = (job, count) ∷ []
+tallies_of (One own count) = (own, count) ∷ []
 tallies_of (More map) = map.entries
 
 -- what stands at a node: the job that holds its name, if one does, and the tallies

@@ -1,15 +1,18 @@
 // The holds of all jobs, each job's by themselves.
 
-ghost use Rattle.std.specs.Prelude.{◌≡◌, ℕ, ◌+◌, ◌-◌, ◌^◌, min, ◌≤◌, ◌++◌, length, map, false, IfOk, OnErr, option_copied};
-ghost use Rattle.mj_locktab.specs.Locks.{job_of, name_of, count_of, is_past_limit, IsLockTable};
+ghost use Rattle.std.specs.Prelude.{◌≡◌, ℕ, ◌+◌, ◌-◌, ◌^◌, min, ◌≤◌, ◌++◌, length, map, false, None, IfOk, OnErr};
+ghost use Rattle.std.specs.Option.{option_map};
+ghost use Rattle.std.specs.Ordering.{nat_cmp};
+ghost use Rattle.std.specs.Map.{lookup};
+ghost use Rattle.std.specs.BTreeMap.{is_at};
+ghost use Rattle.mj_locktab.specs.Locks.{hold_of, job_of, name_of, count_of, is_past_limit, IsLockTable};
 ghost use Rattle.mj_locktab.specs.Changes.{one_more, one_less, after_take, after_give, after_give_all};
 ghost use Rattle.mj_locktab.specs.Tries.{conflict_with, conflict_of, AreFree, TakeLeaves};
 ghost use Rattle.mj_locktab.specs.Told.{stands_of, Tell, IsFree, visits_limit, visits_least};
 ghost use Rattle.mj_locktab.specs.Parts.{holds_of, AreParts};
 
-use crate::hold::Hold;
 use crate::index::Index;
-use crate::part;
+use crate::part::{self, Part};
 use mj_subs::Name;
 use std::alloc::{AllocError, Global};
 use std::collections::BTreeMap;
@@ -20,23 +23,23 @@ pub const HOLDS_LIMIT: usize = 1024;
 /// The most often that a job may hold one name.
 pub const COUNT_LIMIT: u32 = u32::MAX;
 
-/// Jobs, each with its holds in order. A job without one may be told or not.
-pub type Parts = BTreeMap<u32, Vec<(Hold, u32)>>;
+/// Jobs, each with its names in order and their counts. A job without a name may be told or not.
+pub type Parts = BTreeMap<u32, Part>;
 
-/// The first hold of another job that keeps this one from the names. For each name the trees are asked, at the node of its word and at one for each
-/// of its subscripts. Only the holds of the job that they name are looked through.
+/// The first hold of another job that keeps this one from the names: that job, the name and its count. For each name the trees are asked, at the node
+/// of its word and at one for each of its subscripts. Only the holds of the job that they name are looked through.
 pub fn conflict_of<'a>(
     parts: &'a Parts,
     index: &Index,
     job: u32,
     names: &[Name],
     visits: &mut u64,
-) -> Option<&'a (Hold, u32)>
+) -> Option<(u32, &'a Name, u32)>
     requires parts { AreParts parts.now.entries }
     requires told { Tell (stands_of index.now) (holds_of parts.now.entries) }
-    ensures conflict { option_copied result ≡ conflict_of (holds_of parts.now.entries) job names.now }
+    ensures conflict { option_map (λ e. (hold_of e.0 e.1.now, e.2)) result ≡ conflict_of (holds_of parts.now.entries) job names.now }
     ensures visits { visits.new ≤ visits.old + visits_limit names.now }
-    ensures looked { min (visits.old + visits_least (option_copied result) names.now) (2 ^ 64 - 1) ≤ visits.new }
+    ensures looked { min (visits.old + visits_least (option_map (λ e. (hold_of e.0 e.1.now, e.2)) result) names.now) (2 ^ 64 - 1) ≤ visits.new }
 {
     for name in names {
         if let Some(entry) = conflict_with(parts, index, job, name, visits) {
@@ -53,10 +56,10 @@ fn conflict_with<'a>(
     job: u32,
     name: &Name,
     visits: &mut u64,
-) -> Option<&'a (Hold, u32)>
+) -> Option<(u32, &'a Name, u32)>
     requires parts { AreParts parts.now.entries }
     requires told { Tell (stands_of index.now) (holds_of parts.now.entries) }
-    ensures conflict { option_copied result ≡ conflict_with (holds_of parts.now.entries) job name.now }
+    ensures conflict { option_map (λ e. (hold_of e.0 e.1.now, e.2)) result ≡ conflict_with (holds_of parts.now.entries) job name.now }
     ensures visits { visits.new ≤ visits.old + 1 + length name.now.subscripts }
     ensures looked { min (visits.old + 1) (2 ^ 64 - 1) ≤ visits.new }
 {
@@ -64,7 +67,7 @@ fn conflict_with<'a>(
         None => None,
         Some(least) => match parts.get(&least) {
             None => None,
-            Some(part) => part::first_conflict(part, job, name),
+            Some(part) => part::first_conflict(part, least, job, name),
         },
     }
 }
@@ -121,23 +124,46 @@ fn take(
     ensures parts { AreParts parts.new.entries }
     ensures told { Tell (stands_of index.new) (holds_of parts.new.entries) }
 {
+    match parts.get_mut(&job) {
+        Some(part) => part::take(part, index, alloc, job, name),
+        None => take_first(parts, index, alloc, job, name),
+    }
+}
+
+// Takes the name for a job that isn't told.
+fn take_first(
+    parts: &mut Parts,
+    index: &mut Index,
+    alloc: Global,
+    job: u32,
+    name: &Name,
+) -> Result<bool, AllocError>
+    requires parts { AreParts parts.old.entries }
+    requires untold { lookup (is_at (nat_cmp job)) parts.old.entries ≡ None }
+    requires within { is_past_limit (holds_of parts.old.entries) job ≡ false }
+    requires told { Tell (stands_of index.old) (holds_of parts.old.entries) }
+    requires free { IsFree (holds_of parts.old.entries) job name.now }
+    ensures ok { IfOk result (λ taken.
+        TakeLeaves (holds_of parts.old.entries) (one_more (holds_of parts.old.entries) job name.now) job taken (holds_of parts.new.entries)) }
+    ensures err { OnErr result (holds_of parts.new.entries ≡ holds_of parts.old.entries) }
+    ensures parts { AreParts parts.new.entries }
+    ensures told { Tell (stands_of index.new) (holds_of parts.new.entries) }
+{
     open(parts, alloc, job)?;
     match parts.get_mut(&job) {
-        Some(part) => part::take(part, index, job, name),
+        Some(part) => part::take(part, index, alloc, job, name),
         None => Err(AllocError), // it was opened
     }
 }
 
-// Makes room for the holds of a job that has none.
+// Makes room for the names of a job that isn't told.
 fn open(parts: &mut Parts, alloc: Global, job: u32) -> Result<(), AllocError>
-    requires { AreParts parts.old.entries }
+    requires parts { AreParts parts.old.entries }
+    requires untold { lookup (is_at (nat_cmp job)) parts.old.entries ≡ None }
     ensures same { holds_of parts.new.entries ≡ holds_of parts.old.entries }
     ensures parts { AreParts parts.new.entries }
 {
-    if parts.contains_key(&job) {
-        return Ok(());
-    }
-    parts.insert(job, Vec::new(alloc))?;
+    parts.insert(job, BTreeMap::new(alloc))?;
     Ok(())
 }
 
@@ -179,8 +205,8 @@ pub fn give_all(parts: &mut Parts, index: &mut Index, job: u32)
     let Some(mut part) = parts.remove(&job) else {
         return;
     };
-    while let Some(entry) = part.pop() {
-        index.unmark(job, &entry.0.name);
+    while let Some((name, _count)) = part.pop_last() {
+        index.unmark(job, &name);
     }
 }
 
@@ -191,7 +217,7 @@ pub fn count(parts: &Parts, job: u32, name: &Name) -> u32
 {
     match parts.get(&job) {
         None => 0,
-        Some(part) => part::count(part, job, name),
+        Some(part) => part::count(part, name),
     }
 }
 
@@ -200,8 +226,8 @@ pub fn list(alloc: Global, parts: &Parts) -> Result<Vec<(u32, Name, u32)>, Alloc
     ensures { IfOk result (λ list. list.items ≡ map (λ e. (job_of e.0, name_of e.0, e.1)) (holds_of parts.now.entries)) }
 {
     let mut list = Vec::new(alloc);
-    for (_, part) in parts {
-        part::list(&mut list, part)?;
+    for (job, part) in parts {
+        part::list(&mut list, *job, part)?;
     }
     Ok(list)
 }

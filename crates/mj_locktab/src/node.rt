@@ -142,7 +142,7 @@ impl Node {
 pub fn chain(alloc: Global, job: u32, path: &[Sub]) -> Result<Node, AllocError>
     ensures { IfOk result (λ n. HasOneMore (λ p. None) (stand_at n) (λ p. paths_eq p path.now) (λ p. is_front p path.now) job) }
 {
-    let tallies = Tallies::One(job, 1);
+    let tallies = Tallies::One { own: job, count: 1 };
     let mut children = BTreeMap::new(alloc);
     match path {
         [] => Ok(Node {

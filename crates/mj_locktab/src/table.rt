@@ -62,9 +62,8 @@ impl LockTable {
     {
         let mut visits = 0;
         match held::conflict_of(&self.held, &self.index, job, names, &mut visits) {
-            Some(entry) => {
-                let name = entry.0.name.try_clone()?;
-                let holder = entry.0.job;
+            Some((holder, in_the_way, _)) => {
+                let name = in_the_way.try_clone()?;
                 self.visits = visits;
                 Ok(Taken::Busy { holder, name })
             }

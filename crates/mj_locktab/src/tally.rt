@@ -7,14 +7,14 @@ ghost use Rattle.mj_locktab.specs.Trees.{tally, tallies_of, AreCounted, NoOther,
 use std::alloc::{AllocError, Global};
 use std::collections::BTreeMap;
 
-/// Jobs, each with how many names it has. One that isn't told has none. Most names are of one job, which is kept without memory of its own.
+/// Jobs, each with how many names it has. One that isn't told has none. At most nodes all names are of one job, which takes no memory of its own.
 #[derive(Drop)]
 pub enum Tallies {
     /// No job.
     Empty,
     /// One job, and how many names it has.
-    One(u32, u32),
-    /// Several jobs, or those that are left of several.
+    One { own: u32, count: u32 },
+    /// Several jobs, or what is left of several: any number, or none.
     More(BTreeMap<u32, u32>),
 }
 
@@ -24,7 +24,7 @@ pub fn is_empty(tallies: &Tallies) -> bool
 {
     match tallies {
         Tallies::Empty => true,
-        Tallies::One(_, _) => false,
+        Tallies::One { .. } => false,
         Tallies::More(map) => map.is_empty(),
     }
 }
@@ -38,10 +38,10 @@ pub fn raise(tallies: &mut Tallies, alloc: Global, job: u32) -> Result<(), Alloc
 {
     match tallies {
         Tallies::Empty => {
-            *tallies = Tallies::One(job, 1);
+            *tallies = Tallies::One { own: job, count: 1 };
             Ok(())
         }
-        Tallies::One(own, count) => {
+        Tallies::One { own, count } => {
             if *own == job {
                 *count += 1;
                 return Ok(());
@@ -90,7 +90,7 @@ pub fn lower(tallies: &mut Tallies, job: u32)
 {
     match tallies {
         Tallies::Empty => {}
-        Tallies::One(own, count) => {
+        Tallies::One { own, count } => {
             if *own != job {
                 return;
             }
@@ -126,9 +126,9 @@ pub fn first_other(tallies: &Tallies, job: u32) -> Option<u32>
 {
     match tallies {
         Tallies::Empty => None,
-        Tallies::One(other, count) => {
-            if has_one(*other, *count, job) {
-                return Some(*other);
+        Tallies::One { own, count } => {
+            if has_one(*own, *count, job) {
+                return Some(*own);
             }
             None
         }
@@ -161,7 +161,10 @@ pub fn copy(tallies: &Tallies) -> Result<Tallies, AllocError>
 {
     match tallies {
         Tallies::Empty => Ok(Tallies::Empty),
-        Tallies::One(job, count) => Ok(Tallies::One(*job, *count)),
+        Tallies::One { own, count } => Ok(Tallies::One {
+            own: *own,
+            count: *count,
+        }),
         Tallies::More(map) => Ok(Tallies::More(map.clone()?)),
     }
 }

@@ -205,8 +205,8 @@ pub enum Instr {
 }
 
 impl Instr {
-    /// Whether it is of time, of starting jobs, of locks, transactions or devices. What writes a text as it stands, and the two by which a restart is marked
-    /// and goes back, aren't among these, nor what ends a job or asks of globals.
+    /// Whether it is of time, of starting jobs, of locks, transactions or devices. What writes a text, or what the marks of a format stand for, and the two by
+    /// which a restart is marked and goes back, aren't among these, nor what ends a job or asks of globals.
     pub fn is_outside(&self) -> bool
         ensures { result ≡ is_outside self.now }
     {

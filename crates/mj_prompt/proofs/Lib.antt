@@ -1,5 +1,2 @@
-mod Beginnings
-mod Comparing
 mod Givens
-mod Keeping
 mod Resuming

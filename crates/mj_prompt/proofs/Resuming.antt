@@ -5,7 +5,7 @@ use Rattle.mj_semantics.specs.Program.{Program}
 use Rattle.mj_sys.specs.Shared.{Shared}
 use Rattle.mj_sys.specs.History.{History}
 use Rattle.mj_trace.specs.Trace.{Traced}
-use Rattle.mj_prompt.specs.Records.{Compares}
+use Rattle.mj_remade.specs.Records.{Compares}
 use Rattle.mj_prompt.specs.Ends.{IsResumed, IsOpened}
 
 -- what is told is whether the record is that of before

@@ -1,5 +1,5 @@
 -- How commands end, and what a debugger begins with that opens a trace, or goes on from a place.
-use Rattle.std.specs.Prelude.{◌≡◌, ◌≤◌, ℕ, List, Option, Some, None, codes, take, ◌++◌, ◌∷◌, [], ◌⊎◌, Bool, true, false, if◌then◌else◌}
+use Rattle.std.specs.Prelude.{◌≡◌, ◌≤◌, ℕ, List, Option, Some, None, codes, take, ◌++◌, ◌∷◌, [], ◌⊎◌, Bool, true, false}
 use Rattle.std.specs.Io.KnownBytes.{Appends}
 use Rattle.mj_semantics.specs.Program.{Program}
 use Rattle.mj_sys.specs.Shared.{Shared}
@@ -7,9 +7,8 @@ use Rattle.mj_sys.specs.History.{History}
 use Rattle.mj_replica.specs.Replays.{history_of}
 use Rattle.mj_debug.specs.Walks.{Walk}
 use Rattle.mj_trace.specs.Trace.{Traced}
-use Rattle.mj_prompt.specs.Marks.{AreMarksOf}
-use Rattle.mj_prompt.specs.Records.{IsRecord, IsApart}
-use Rattle.mj_prompt.specs.declared.said.Said.{Said}
+use Rattle.mj_remade.specs.Marks.{AreMarksOf}
+use Rattle.mj_remade.specs.Records.{IsRecord, IsApart}
 use Rattle.mj_prompt.specs.declared.talking.Talked.{Talked}
 use Rattle.mj_prompt.specs.declared.talking.Talked.TheVariants as talks
 
@@ -29,7 +28,3 @@ IsResumed told history old new =
 abbrev pub IsOpened : Program → Shared → Traced → History → Bool → Type 0
 IsOpened program opening trace history false = IsRecord trace.form program opening trace.events history
 IsOpened program opening trace history true = (at : ℕ) × IsApart trace.form program opening trace.events history at
-
--- the exit status of what was told
-abbrev pub status_said : Said → ℕ
-status_said said = if said.full then 4 else if said.differs then 1 else 0

@@ -5,10 +5,8 @@ ghost use Rattle.mj_sys.specs.Opening.{opening_of};
 ghost use Rattle.mj_replica.specs.Replicas.{AreWhole};
 ghost use Rattle.mj_begin.specs.Words.{WereGiven};
 
-use crate::branches::Again;
 use crate::prompts::{Prompt, prompt_of};
 use crate::talking::{Talked, talk};
-use crate::traces::{beginning_of, opened};
 use mj_ask::Start;
 use mj_begin::{Beginning, Outlet, begin, refused, refused_record, save, write_record};
 use mj_command_line::{Debug, Replay, Run};
@@ -17,6 +15,7 @@ use mj_dev::{Device, Memory};
 use mj_drafts::{FAULTED, Lockable, ProgramError, stopped, tell_trouble};
 use mj_files::Port;
 use mj_guide::Notes;
+use mj_remade::{Again, beginning_of, opened};
 use mj_report::has_faulted;
 use mj_sessions::Sessions;
 use mj_sys::Opening;

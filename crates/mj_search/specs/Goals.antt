@@ -3,7 +3,7 @@ use Rattle.std.specs.Prelude.{◌≡◌, ℕ, List, Option, Some, None, true, fa
 use Rattle.std.specs.Str.{bytes_eq}
 use Rattle.mj_explore.specs.declared.goals.Goal.{Goal}
 use Rattle.mj_explore.specs.declared.goals.Goal.TheVariants as goals
-use Rattle.mj_explore.specs.Conditions.{IsConditionOf, has_caret}
+use Rattle.mj_judge.specs.Conditions.{IsConditionOf, has_caret}
 use Rattle.mj_search.specs.Printed.{is_kind}
 
 -- A word says that this is looked for. What isn't one of three words is an expression that isn't true; it spells one, which names a global.

@@ -12,9 +12,10 @@ use mj_begin::{Beginning, begin, file_bytes, refused, routine_bytes, routine_nam
 use mj_chance::put_steps;
 use mj_command_line::Explore;
 use mj_drafts::{Choice, Lockable, ProgramError, Word, print, stopped, tell_trouble, write_file};
-use mj_explore::{Explored, Goal, Search, Tally, condition};
+use mj_explore::{Explored, Goal, Search, Tally};
 use mj_files::{BYTES_LIMIT, Side, Trouble, read_device, whole};
 use mj_globs::Globals;
+use mj_judge::condition;
 use mj_script::{Script, Source, Supply, Unread};
 use mj_sys::Opening;
 use mj_text::Fault;

@@ -97,7 +97,8 @@ impl Ongoing {
         self.log.unlock(Unlock::All)
     }
 
-    // Makes an access in the transaction: what it is told, twice. A write, and a read of one text, passes over nothing.
+    // Makes an access in the transaction: what it is told, twice. A write, and a read of one text or of a subtree, passes over nothing. Where it does
+    // after all, what it passed over isn't kept.
     pub fn access(
         &mut self,
         globals: &Globals,
@@ -110,27 +111,9 @@ impl Ongoing {
         ensures unchanged { OnErr result (self.new.log.transaction ≡ self.old.log.transaction) }
         ensures open { IsOpenOn globals.now self.new }
     {
-        match access {
-            Access::Value(_) | Access::Set(_, _) | Access::Kill(_) | Access::Put(_, _) => {
-                self.straight(globals, access)
-            }
-            _ => self.passing(globals, access),
+        if may_pass(access) {
+            return self.passing(globals, access);
         }
-    }
-
-    // Makes one that passes over nothing. Where it does after all, what it passed over isn't kept.
-    fn straight(
-        &mut self,
-        globals: &Globals,
-        access: &Access,
-    ) -> Result<(Answer, Answer), AllocError>
-        requires { IsOpenOn globals.now self.old }
-        ensures answer { IfOk result (λ told. told.0 ≡ told_in self.old.log.transaction globals.now.content access.now) }
-        ensures again { IfOk result (λ told. told.1 ≡ told_in self.old.log.transaction globals.now.content access.now) }
-        ensures log { OnOk result (self.new.log.transaction ≡ after_told self.old.log.transaction globals.now.content access.now) }
-        ensures unchanged { OnErr result (self.new.log.transaction ≡ self.old.log.transaction) }
-        ensures open { IsOpenOn globals.now self.new }
-    {
         let mut skips = Skips::new(self.alloc);
         let told = txn::access(&mut self.log, globals, &mut skips, access);
         drop(skips); // for the proof
@@ -163,6 +146,18 @@ impl Ongoing {
             drop(word); // for the proof
         }
         told
+    }
+}
+
+// Whether an access may pass over something.
+fn may_pass(access: &Access) -> bool {
+    match access {
+        Access::Data(_) | Access::Order(_, _) | Access::Query(_) => true,
+        Access::Value(_)
+        | Access::Subtree(_)
+        | Access::Set(_, _)
+        | Access::Kill(_)
+        | Access::Put(_, _) => false,
     }
 }
 

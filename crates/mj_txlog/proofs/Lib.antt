@@ -12,6 +12,7 @@ pub mod Nexts
 pub mod Passing
 pub mod Bare
 pub mod Goes
+pub mod Laying
 pub mod Following
 pub mod Appending
 pub mod Only

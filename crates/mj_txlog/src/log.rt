@@ -1,11 +1,12 @@
 // The list of a transaction's accesses.
 
-ghost use Rattle.std.specs.Prelude.{◌≡◌, ◌≤◌, ◌∷◌, ◌++◌, [], false, true, cond, length, ◌↔◌, IsTrue, IfOk, OnOk, OnErr};
+ghost use Rattle.std.specs.Prelude.{◌≡◌, ◌≤◌, ◌∷◌, ◌++◌, [], false, true, cond, length, take, ◌↔◌, IsTrue, IfOk, OnOk, OnErr};
 ghost use Rattle.mj_globs.specs.Stamps.{Stamped};
 ghost use Rattle.mj_store.specs.Runs.{answer_of};
 ghost use Rattle.mj_txlog.specs.declared.entry.Entry.TheVariants.{Access as access_entry};
 ghost use Rattle.mj_txlog.specs.Accesses.{is_write, is_full, reply_in, seen, with_entry, with_told, with_unlock, unlock_reply, with_gained};
 ghost use Rattle.mj_txlog.specs.Follows.{stamp_kept, with_stamp, Follows, stale_of};
+ghost use Rattle.mj_txlog.specs.Laid.{IsLaid};
 ghost use Rattle.mj_txlog.specs.Skips.{AreSkips, gone_by};
 
 use crate::entry::{Entry, Unlock, is_refused, is_write};
@@ -32,13 +33,15 @@ pub struct TxLog {
     entries: Vec<Entry>,
     // for each of them the stamp that its word had when it was made, where it is a read
     stamps: Vec<u64>,
-    // the writes among them, by what they leave
+    // the writes among the first of them, by what they leave
     own: Overlay,
+    // how many these first ones are: the next read lays the writes among the others over them
+    laid: usize,
     gained: Vec<Name>,
 }
 
 impl Model for TxLog {
-    ghost use Rattle.std.specs.Prelude.{◌≡◌, ◌≤◌, [], length};
+    ghost use Rattle.std.specs.Prelude.{◌≡◌, ◌≤◌, [], length, take};
     ghost use Rattle.mj_txlog.specs.Logged.{Logged};
     ghost use Rattle.mj_txlog.specs.declared.log.TheConstants.{ACCESSES_LIMIT};
     ghost use Rattle.mj_txlog.specs.Laid.{IsLaid};
@@ -52,8 +55,8 @@ impl Model for TxLog {
     } };
 
     ghost invariant = { λ t.
-        (length t.entries.items ≤ ACCESSES_LIMIT) × IsLaid t.own t.entries.items × (t.own.gone ≡ gone_by t.entries.items)
-        × (length t.stamps.items ≡ length t.entries.items) };
+        (length t.entries.items ≤ ACCESSES_LIMIT) × (length t.stamps.items ≡ length t.entries.items) × (t.laid ≤ length t.entries.items)
+        × IsLaid t.own (take t.laid t.entries.items) × (t.own.gone ≡ gone_by (take t.laid t.entries.items)) };
 }
 
 impl TxLog {
@@ -69,6 +72,7 @@ impl TxLog {
             entries: Vec::new(alloc),
             stamps: Vec::new(alloc),
             own: Overlay::new(alloc),
+            laid: 0,
             gained: Vec::new(alloc),
         }
     }
@@ -163,28 +167,24 @@ impl TxLog {
         }
     }
 
-    // The answer to a read, to be given twice and to be kept.
+    // The answer to a read, to be given twice and to be kept. Own writes that don't lie over the globals yet are laid over them.
     fn answers(
-        &self,
+        &mut self,
         globals: &Globals,
         skips: &mut Skips,
         read: &Access,
     ) -> Result<((Answer, Answer), Answer), AllocError>
         requires read { is_write read.now ≡ false }
-        requires skips { AreSkips globals.now.content (gone_by self.now.transaction.accesses) skips.old }
-        ensures skips { AreSkips globals.now.content (gone_by self.now.transaction.accesses) skips.new }
-        ensures given { IfOk result (λ x. x.0.0 ≡ answer_of read.now (seen globals.now.content self.now.transaction.accesses)) }
-        ensures again { IfOk result (λ x. x.0.1 ≡ answer_of read.now (seen globals.now.content self.now.transaction.accesses)) }
-        ensures kept { IfOk result (λ x. x.1 ≡ answer_of read.now (seen globals.now.content self.now.transaction.accesses)) }
+        requires skips { AreSkips globals.now.content (gone_by self.old.transaction.accesses) skips.old }
+        ensures same { self.new ≡ self.old }
+        ensures skips { AreSkips globals.now.content (gone_by self.old.transaction.accesses) skips.new }
+        ensures given { IfOk result (λ x. x.0.0 ≡ answer_of read.now (seen globals.now.content self.old.transaction.accesses)) }
+        ensures again { IfOk result (λ x. x.0.1 ≡ answer_of read.now (seen globals.now.content self.old.transaction.accesses)) }
+        ensures kept { IfOk result (λ x. x.1 ≡ answer_of read.now (seen globals.now.content self.old.transaction.accesses)) }
     {
-        let answer = answer(
-            self.alloc,
-            globals.texts(),
-            &self.entries,
-            &self.own,
-            skips,
-            read,
-        )?;
+        let entries = self.entries.as_slice();
+        lay(entries, &mut self.own, &mut self.laid)?;
+        let answer = answer(self.alloc, globals.texts(), entries, &self.own, skips, read)?;
         match twice(&answer) {
             Ok((again, kept)) => Ok(((answer, again), kept)),
             Err(refused) => {
@@ -219,8 +219,8 @@ impl TxLog {
         }
     }
 
-    // Appends an entry with the stamp that it keeps, and makes the write that it is, if it is one.
-    #[tactic(auto, using(crate::proofs::Laid::more_laid, crate::proofs::Goes::gone_laid))]
+    // Appends an entry with the stamp that it keeps.
+    #[tactic(auto, using(crate::proofs::Laying::still_laid, crate::proofs::Laying::still_gone))]
     fn push(&mut self, entry: Entry, stamp: u64) -> Result<(), AllocError>
         requires { is_full self.old.transaction ≡ false }
         ensures each { length self.old.stamps ≡ length self.old.transaction.accesses }
@@ -233,11 +233,7 @@ impl TxLog {
             Ok(()) => self.stamps.reserve(1),
             Err(refused) => Err(refused),
         };
-        let made = match room {
-            Ok(()) => self.own.add(&entry),
-            Err(refused) => Err(refused),
-        };
-        match made {
+        match room {
             Ok(()) => {
                 self.entries.push_reserved(entry);
                 self.stamps.push_reserved(stamp);
@@ -305,6 +301,24 @@ impl TxLog {
     {
         ACCESSES_LIMIT <= self.entries.len()
     }
+}
+
+// Lays those of the writes among the entries that don't lie over the globals yet over the others.
+fn lay(entries: &[Entry], own: &mut Overlay, laid: &mut usize) -> Result<(), AllocError>
+    requires within { laid.old ≤ length entries.now }
+    requires laid { IsLaid own.old (take laid.old entries.now) }
+    requires gone { own.old.gone ≡ gone_by (take laid.old entries.now) }
+    ensures within { laid.new ≤ length entries.now }
+    ensures laid { IsLaid own.new (take laid.new entries.now) }
+    ensures gone { own.new.gone ≡ gone_by (take laid.new entries.now) }
+    ensures all_laid { OnOk result (IsLaid own.new entries.now) }
+    ensures all_gone { OnOk result (own.new.gone ≡ gone_by entries.now) }
+{
+    for at in *laid..entries.len() {
+        own.add(&entries[at])?;
+        *laid = at + 1;
+    }
+    Ok(())
 }
 
 // Two copies of the answer.

@@ -77,8 +77,8 @@ impl Overlay {
         match access {
             Access::Set(name, text) => self.over.set(name.get(), text),
             Access::Kill(name) => {
-                self.kills = true;
                 self.gone.set(name.get(), &Text::new(self.alloc))?;
+                self.kills = true;
                 self.over.kill(name.get());
                 Ok(())
             }

@@ -87,6 +87,9 @@ impl Skips {
     pub fn clear(&mut self)
         ensures { self.new ≡ [] }
     {
+        if !self.may_be_any() {
+            return;
+        }
         self.runs = Texts::new(self.alloc);
         self.of = None;
     }

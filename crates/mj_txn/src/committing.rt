@@ -65,7 +65,7 @@ fn made(log: &TxLog, globals: &mut Globals) -> Result<Outcome, AllocError>
     Ok(Outcome::Done)
 }
 
-// Makes all changes, or none. One alone is made without a copy.
+// Makes all changes, or none. A SET at the end, where no other access is a write, is made without a list of changes.
 #[tactic(auto, using(crate::proofs::Replies::set_seen, crate::proofs::Replies::set_others))]
 fn make_changes(log: &TxLog, globals: &mut Globals) -> Result<(), AllocError>
     ensures globals { OnOk result (globals.new.content ≡ seen globals.old.content log.now.transaction.accesses) }
@@ -73,11 +73,10 @@ fn make_changes(log: &TxLog, globals: &mut Globals) -> Result<(), AllocError>
     ensures stamps { Rises globals.old globals.new }
     ensures others { OnOk result (KeepsStamps (are_to (changes_of log.now.transaction.accesses)) globals.old.stamps globals.new.stamps) }
 {
-    if let Some((name, text)) = only_set(log.entries()) {
-        globals.set(name, text)?;
-        return Ok(());
+    match only_set(log.entries()) {
+        Some((name, text)) => globals.set(name, text),
+        None => make_all(log, globals),
     }
-    make_all(log, globals)
 }
 
 // Makes all changes, or none.

@@ -22,7 +22,7 @@ pub fn changes_of(alloc: Global, entries: &[Entry]) -> Result<Vec<Change>, Alloc
     Ok(changes)
 }
 
-/// The name and the text of a `SET`, where it is the last of the accesses and no other one makes a change.
+/// The name and the text of a `SET`, where it is the last of the accesses and no other one is a write.
 #[tactic(auto, using(crate::proofs::Replies::changes_last))]
 pub fn only_set(entries: &[Entry]) -> Option<(&Name, &Text)>
     ensures { IfSome result (λ set. changes_of entries.now ≡ change.Set set.0.now set.1.now ∷ []) }
@@ -30,13 +30,13 @@ pub fn only_set(entries: &[Entry]) -> Option<(&Name, &Text)>
     let [earlier @ .., last] = entries else {
         return None;
     };
+    let Entry::Access(Access::Set(name, text), _) = last else {
+        return None;
+    };
     if !change_nothing(earlier) {
         return None;
     }
-    match last {
-        Entry::Access(Access::Set(name, text), _) => Some((name.get(), text)),
-        _ => None,
-    }
+    Some((name.get(), text))
 }
 
 // Whether none of the accesses is a write.

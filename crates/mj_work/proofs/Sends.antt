@@ -8,7 +8,7 @@ use Rattle.std.proofs.option.Option.TheSendSync as option
 use Rattle.std.proofs.alloc.Global.TheSendSync as heap
 use denote.Ref.{NamedLft, ShrRef}
 use denote.Struct.Field.{u32-field}
-use denote.Struct.Tuple.{Tuple, TupleAt}
+use denote.Struct.Tuple.{TupleAt}
 use mir.Syntax.{Sym, Ty}
 use denote.Exit.{Kept}
 use denote.Param.{param, arg}
@@ -47,8 +47,6 @@ use Rattle.mj_locktab.proofs.node.Node.TheLaws.TheKnot as lock_knot
 use Rattle.mj_locktab.proofs.tally.Tallies.TheSendSync as tallies
 use Rattle.mj_locktab.specs.contracts.node.Node as LockNode
 use Rattle.mj_locktab.specs.contracts.index.Index as LockIndex
-use Rattle.mj_locktab.proofs.hold.Hold.TheSendSync as hold
-use Rattle.mj_locktab.specs.contracts.hold.Hold as Hold
 use Rattle.mj_locktab.specs.contracts.table.LockTable as LockTable
 use Rattle.mj_jobs.proofs.jobs.Jobs.TheSendSync as jobs
 use Rattle.mj_dev.proofs.pool.Pool.TheSendSync as pool
@@ -99,11 +97,8 @@ lock_node_send = as_row_send LockNode.the_field (search (lock_knot.send-Node, ta
 pub lock_index_send : IsSend LockIndex.the_row
 lock_index_send = search (lock_node_send, parts) depth 40
 
-pub lock_hold_send : IsSend (Tuple (Hold.the_row ∷ u32-field.row ∷ []))
-lock_hold_send = search (hold.the_send, parts) depth 40
-
 pub locks_send : IsSend LockTable.the_row
-locks_send = search (lock_index_send, lock_hold_send, parts) depth 40
+locks_send = search (lock_index_send, name.the_send, parts) depth 40
 
 pub shared_send : (D : RattleType) (g : Device.Ghosts D.Denot) → IsSend D → IsSend (Shared.the_row D g)
 shared_send D g d = search (transacted_send, locks_send, pool.the_send, jobs.the_send, parts) depth 40

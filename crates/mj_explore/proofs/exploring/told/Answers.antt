@@ -2,9 +2,9 @@ use Rattle.std.proofs.Common.{Bool, ap, ◌∙◌}
 use Rattle.std.specs.Prelude.{nat_lt}
 use Rattle.std.specs.List.{count_by}
 use Rattle.mj_core.specs.Shown.{Shown}
-use Rattle.mj_explore.specs.declared.marks.Mark.TheVariants as marks
+use Rattle.mj_judge.specs.declared.marks.Mark.TheVariants as marks
 use Rattle.mj_explore.specs.Ends.{end_text}
-use Rattle.mj_explore.specs.Marks.{bears}
+use Rattle.mj_judge.specs.Marks.{bears}
 use Rattle.mj_explore.proofs.Making.{noted_as}
 use Rattle.mj_explore.proofs.exploring.told.Goals as goal
 

@@ -1,6 +1,6 @@
 use Rattle.std.proofs.Common.{◌∙◌, Bool, sym, ap}
 use Rattle.mj_core.specs.Shown.{Shown}
-use Rattle.mj_explore.specs.Marks.{is_over}
+use Rattle.mj_judge.specs.Marks.{is_over}
 use Rattle.mj_explore.proofs.fates.fate_of.Goals as goal
 
 pub returns-then-all : goal.returns-then-all

@@ -2,10 +2,11 @@ use Rattle.std.proofs.Common.{◌∙◌, Bool, sym, subst, ap}
 use Rattle.mj_store.specs.Questions.{Content}
 use Rattle.mj_sys.specs.History.{state_of}
 use Rattle.mj_core.specs.Shown.{Shown}
-use Rattle.mj_explore.specs.declared.conditions.Verdict.{Verdict}
-use Rattle.mj_explore.specs.Marks.{is_over}
+use Rattle.mj_judge.specs.declared.conditions.Verdict.{Verdict}
+use Rattle.mj_judge.specs.Marks.{is_over}
 use Rattle.mj_script.specs.Scripts.{opening_in}
-use Rattle.mj_explore.specs.Found.{EndsJudged, IsJudged}
+use Rattle.mj_judge.specs.Judged.{IsJudged}
+use Rattle.mj_explore.specs.Found.{EndsJudged}
 use Rattle.mj_explore.proofs.Making.{found_so, where_some}
 use Rattle.mj_explore.proofs.goals.untruth.Goals as goal
 

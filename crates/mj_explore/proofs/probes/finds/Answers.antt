@@ -5,7 +5,8 @@ use Rattle.mj_steps.specs.declared.drive.Ending.TheVariants as endings
 use Rattle.mj_steps.specs.Driven.{ByList}
 use Rattle.mj_run.specs.Stepping.{StepsAs}
 use Rattle.mj_explore.specs.declared.goals.Finding.{Finding}
-use Rattle.mj_explore.specs.Found.{Shows, by_memory}
+use Rattle.mj_judge.specs.Judged.{by_memory}
+use Rattle.mj_explore.specs.Found.{Shows}
 use Rattle.mj_explore.proofs.Making.{are_made, where_some}
 use Rattle.mj_explore.proofs.probes.finds.Goals as goal
 

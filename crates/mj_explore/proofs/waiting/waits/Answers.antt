@@ -1,5 +1,5 @@
 use Rattle.std.proofs.Common.{◌≡◌, true, eqb, eqb-true}
-use Rattle.mj_explore.specs.Found.{by_memory}
+use Rattle.mj_judge.specs.Judged.{by_memory}
 use Rattle.mj_explore.proofs.Holding.{waits_still, ended_still}
 use Rattle.mj_explore.proofs.waiting.waits.Goals as goal
 

@@ -9,8 +9,8 @@ use Rattle.mj_semantics.specs.Sharing.{served}
 use Rattle.mj_pcode.specs.Machine.{Next, Stack, waits, wait_size, counts, names_on}
 use Rattle.mj_machine.specs.Kept.{context_of, stack_of, state_of, replied}
 use Rattle.mj_machine.proofs.Asks.{does_as}
-use Rattle.mj_lock_ops.specs.Wanted.{ask_of, listed, takes_or_gives, wanted_in}
-use Rattle.mj_lock_ops.proofs.Wanting.{none_asked, obeys_lock, some_asked, wanted_is}
+use Rattle.mj_lock_ops.specs.Wanted.{ask_of, listed, wanted_in}
+use Rattle.mj_lock_ops.proofs.Wanting.{none_asked, obeys_lock, some_asked, takes_or_gives, wanted_is}
 use Rattle.mj_lock_ops.proofs.locks.take_or_give.Goals as goal
 
 pub returns-in-Err-clause-ok : goal.returns-in-Err-clause-ok

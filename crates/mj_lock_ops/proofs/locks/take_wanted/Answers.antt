@@ -10,8 +10,8 @@ use Rattle.mj_pcode.specs.declared.instr.Reference.{Reference}
 use Rattle.mj_pcode.specs.Machine.{Next, Stack, waits, wait_size, counts, names_on}
 use Rattle.mj_machine.specs.Kept.{context_of, stack_of, state_of}
 use Rattle.mj_machine.proofs.Asks.{does_as, takes}
-use Rattle.mj_lock_ops.specs.Wanted.{refused, takes_or_gives, timeout_in, wanted_in}
-use Rattle.mj_lock_ops.proofs.Wanting.{all_named, asked_told, names_told, none_asked, not_all_named, obeys_lock, some_named, wanted_is, wanted_late, wanted_of}
+use Rattle.mj_lock_ops.specs.Wanted.{refused, timeout_in, wanted_in}
+use Rattle.mj_lock_ops.proofs.Wanting.{all_named, asked_told, names_told, none_asked, not_all_named, obeys_lock, some_named, takes_or_gives, wanted_is, wanted_late, wanted_of}
 use Rattle.mj_lock_ops.proofs.locks.take_wanted.Goals as goal
 
 no_more_left : (rs : List Reference) → length rs ≡ 0 → rs ≡ []

@@ -30,6 +30,5 @@ returns-in-Some-get-clause-conflict c =
     let n = c.args.name.now in
     let found = part_found parts c.in-Some.least (Some c.in-Some-get.part.now) c.in-Some-get.ensures.value in
     c.first_conflict.ensures
-    ∙ ap (λ (l : Locks). conflict_with l c.args.job n) c.deref.ensures.value
     ∙ sym (conflict_of_least (stands_of c.args.index.now) parts c.args.job n c.requires.parts c.requires.told c.in-Some.least c.in-Some.ensures.least
     ∙ ap (λ (l : Locks). conflict_with l c.args.job n) found)

@@ -1,5 +1,5 @@
-use Rattle.std.proofs.Common.{Some, None, sym, ap, ◌∙◌, subst}
-use Rattle.mj_locktab.specs.Locks.{Locks, count_of, IsInOrder}
+use Rattle.std.proofs.Common.{Some, None, sym, ap, ◌∙◌}
+use Rattle.mj_locktab.specs.Locks.{Locks, count_of}
 use Rattle.mj_locktab.proofs.Parts.{count_parts}
 use Rattle.mj_locktab.proofs.Refilled.{part_found}
 use Rattle.mj_locktab.proofs.held.count.Goals as goal
@@ -12,12 +12,6 @@ returns-in-None c =
 pub returns-in-Some : goal.returns-in-Some
 returns-in-Some c =
     let parts = c.args.parts.now.entries in
-    c.count.ensures
-    ∙ ap (λ (l : Locks). count_of l c.args.job c.args.name.now) c.deref.ensures.value
+    c.count.ensures c.args.job
     ∙ sym (count_parts parts c.requires c.args.job c.args.name.now
     ∙ ap (λ (l : Locks). count_of l c.args.job c.args.name.now) (part_found parts c.args.job (Some c.in-Some.part.now) c.in-Some.ensures.value))
-
-pub count-requires : goal.count-requires
-count-requires c =
-    let parts = c.args.parts.now.entries in
-    subst (λ (l : Locks). IsInOrder l) (part_found parts c.args.job (Some c.in-Some.part.now) c.in-Some.ensures.value ∙ sym c.deref.ensures.value) (c.requires.each c.args.job).in_order

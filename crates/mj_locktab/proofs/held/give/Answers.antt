@@ -3,7 +3,7 @@ use Rattle.std.specs.Prelude.{is_some}
 use Rattle.mj_locktab.specs.Locks.{Locks}
 use Rattle.mj_locktab.specs.Changes.{one_less}
 use Rattle.mj_locktab.specs.Told.{Follows, stands_of}
-use Rattle.mj_locktab.specs.Parts.{holds_of, IsPart}
+use Rattle.mj_locktab.specs.Parts.{holds_of, held_by, IsPart}
 use Rattle.mj_locktab.proofs.Refilled.{refilled, part_found, other_key, given_all, given_none}
 use Rattle.mj_locktab.proofs.held.give.Goals as goal
 
@@ -27,8 +27,8 @@ returns c =
     let found = part_found parts c.args.job (Some c.in-Some.part.now) c.in-Some.ensures.value in
     let updates = holds.3 (ap (λ o. is_some o) (sym c.in-Some.ensures.value)) in
     let change = refilled parts new c.args.job c.give.new.part updates.1 (λ j other. updates.2 j (other_key c.args.job j other)) in
-    let follows = subst (λ (l : Locks). Follows (stands_of c.args.index.now) (stands_of c.give.new.index) l c.give.new.part.items c.args.job c.args.name.now) (sym found) c.give.ensures.follows in
+    let follows = subst (λ (l : Locks). Follows (stands_of c.args.index.now) (stands_of c.give.new.index) l (held_by c.args.job c.give.new.part.entries) c.args.job c.args.name.now) (sym found) c.give.ensures.follows in
     let after = c.give.ensures.after ∙ ap (λ (l : Locks). one_less l c.args.job c.args.name.now) (sym found) in
-    let all = given_all parts new c.args.job c.args.name.now c.give.new.part.items c.requires.parts change holds.4
+    let all = given_all parts new c.args.job c.args.name.now (held_by c.args.job c.give.new.part.entries) c.requires.parts change holds.4
     (stands_of c.args.index.now) (stands_of c.give.new.index) c.requires.told follows after in
     record { after = all.0; parts = all.1.0; told = all.1.1 }

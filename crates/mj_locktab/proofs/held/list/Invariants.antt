@@ -4,6 +4,6 @@ use Rattle.mj_locktab.specs.Parts.{holds_of}
 use Rattle.mj_locktab.proofs.held.list.Given as goal
 
 -- the list so far and what the jobs that are left add to it are all
-abbrev pub invariant-loop-part : goal.invariant-loop-part
-invariant-loop-part l =
-    l.list.items ++ map (λ e. (job_of e.0, name_of e.0, e.1)) (holds_of l.part-iterator) ≡ map (λ e. (job_of e.0, name_of e.0, e.1)) (holds_of l.parts.entries)
+abbrev pub invariant-loop-job : goal.invariant-loop-job
+invariant-loop-job l =
+    l.list.items ++ map (λ e. (job_of e.0, name_of e.0, e.1)) (holds_of l.job-iterator) ≡ map (λ e. (job_of e.0, name_of e.0, e.1)) (holds_of l.parts.entries)

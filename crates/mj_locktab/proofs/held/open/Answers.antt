@@ -1,5 +1,4 @@
-use Rattle.std.proofs.Common.{sym, ◌∙◌}
-use Rattle.mj_locktab.proofs.Refilled.{refilled, other_key, not_some, parts_opened}
+use Rattle.mj_locktab.proofs.Refilled.{refilled, other_key, parts_opened}
 use Rattle.mj_locktab.proofs.held.open.Goals as goal
 
 pub returns : goal.returns
@@ -8,5 +7,5 @@ returns c =
     let new = c.insert.new.self.entries in
     let updates = c.in_ok-insert.ensures.updates in
     let change = refilled old new c.args.job c.new.result updates.1 (λ j other. updates.2 j (other_key c.args.job j other)) in
-    let all = parts_opened old new c.args.job c.new.result c.requires c.new.ensures.items (not_some _ (sym c.contains_key.ensures ∙ c.if-contains_key.false)) change c.in_ok-insert.ensures.ordered in
+    let all = parts_opened old new c.args.job c.new.result c.requires.parts c.new.ensures.empty c.requires.untold change c.in_ok-insert.ensures.ordered in
     record { same = all.1; parts = all.0 }

@@ -1,64 +1,65 @@
-use Rattle.std.proofs.Common.{◌≡◌, ℕ, get_or, set, Some, refl, sym, ap, ◌∙◌, arith}
-use Rattle.std.specs.List.{remove}
-use Rattle.std.specs.FinMap.{find}
-use Rattle.std.proofs.lemmas.List.{set-get_or}
-use Rattle.mj_locktab.specs.declared.hold.Hold.{Hold}
-use Rattle.mj_locktab.specs.Locks.{Locks, hold_of, hold_cmp}
+use Rattle.std.proofs.Common.{ℕ, ◌-◌, ◌≤◌, cond, Option, Some, None, sym, ap, ◌∙◌, arith}
+use Rattle.std.specs.Prelude.{is_some}
+use Rattle.std.specs.BTreeMap.{BTreeMap, is_at}
+use Rattle.mj_subs.specs.Name.{Name}
+use Rattle.mj_subs.specs.Collation.{name_cmp}
 use Rattle.mj_locktab.specs.Told.{stands_of}
-use Rattle.mj_locktab.proofs.Places.{stands_there, gap_there}
-use Rattle.mj_locktab.proofs.Kept.{less_there, gone_there, absent_there}
+use Rattle.mj_locktab.specs.Parts.{held_by}
 use Rattle.mj_locktab.proofs.Followed.{follows_alike, follows_less, follows_gone, alike_itself}
+use Rattle.mj_locktab.proofs.Named.{absent_less, found_of, held_once_less, held_no_more, written_last}
 use Rattle.mj_locktab.proofs.part.give.Goals as goal
 
+-- a name that isn't held
 pub returns-in_default-clause-after : goal.returns-in_default-clause-after
 returns-in_default-clause-after c =
-    let locks = c.args.part.now.items in
-    let h = hold_of c.args.job c.args.name.now in
-    let gap = gap_there locks c.deref.result.now h c.in_default.field-0 c.requires.in_order c.deref.ensures.value c.in_default.ensures.range c.in_default.ensures.position in
-    absent_there locks c.args.job c.args.name.now c.in_default.field-0 gap
+    let old = c.args.part.now.entries in
+    ap (λ (m : BTreeMap Name ℕ). held_by c.args.job m.entries) c.get_mut.follows.holds-at-none
+    ∙ absent_less (held_by c.args.job old) c.args.job c.args.name.now (found_of c.args.job c.args.name.now old None c.in_default.ensures.value)
 
 pub returns-in_default-clause-follows : goal.returns-in_default-clause-follows
 returns-in_default-clause-follows c =
-    follows_alike (stands_of c.args.index.now) (stands_of c.args.index.now) c.args.part.now.items c.args.part.now.items c.args.job c.args.name.now refl (alike_itself (stands_of c.args.index.now))
+    follows_alike (stands_of c.args.index.now) (stands_of c.args.index.now) (held_by c.args.job c.args.part.now.entries) (held_by c.args.job c.get_mut.follows.lender-at-none.entries)
+    c.args.job c.args.name.now (ap (λ (m : BTreeMap Name ℕ). held_by c.args.job m.entries) c.get_mut.follows.holds-at-none) (alike_itself (stands_of c.args.index.now))
 
-pub returns-then-entry-gt1-clause-after : goal.returns-then-entry-gt1-clause-after
-returns-then-entry-gt1-clause-after c =
-    let locks = c.args.part.now.items in
-    let h = hold_of c.args.job c.args.name.now in
-    let is = stands_there locks c.deref.result.now h c.in-Ok.at c.requires.in_order c.deref.ensures.value c.in-Ok.ensures.range c.in-Ok.ensures.position in
-    less_there locks c.args.job c.args.name.now c.in-Ok.at c.index_mut-entry.result.now is c.index_mut-entry.ensures.value c.if-entry-gt1.true
+-- one that is held more than once
+pub returns-then-count-gt1-clause-after : goal.returns-then-count-gt1-clause-after
+returns-then-count-gt1-clause-after c =
+    let old = c.args.part.now.entries in
+    let less = c.in-Some.count.now - 1 in
+    let holds = c.get_mut.follows.holds less in
+    let updates = holds.3 (ap (λ o. is_some o) (sym c.in-Some.ensures.value)) in
+    held_once_less c.args.job c.args.name.now old (c.get_mut.follows.lender less).entries c.requires holds.4 c.in-Some.count.now c.in-Some.ensures.value c.if-count-gt1.true updates.0
 
-pub returns-then-entry-gt1-clause-follows : goal.returns-then-entry-gt1-clause-follows
-returns-then-entry-gt1-clause-follows c =
-    let locks = c.args.part.now.items in
-    let h = hold_of c.args.job c.args.name.now in
-    let e = c.index_mut-entry.result.now in
-    let is = stands_there locks c.deref.result.now h c.in-Ok.at c.requires.in_order c.deref.ensures.value c.in-Ok.ensures.range c.in-Ok.ensures.position in
-    let found : find hold_cmp h locks ≡ Some e.1 = is.found e ∙ ap (λ (x : Hold × ℕ). Some x.1) (sym c.index_mut-entry.ensures.value) in
-    follows_less (stands_of c.args.index.now) (stands_of c.args.index.now) locks _ c.args.job c.args.name.now e.1 found c.if-entry-gt1.true
-    (less_there locks c.args.job c.args.name.now c.in-Ok.at e is c.index_mut-entry.ensures.value c.if-entry-gt1.true) (alike_itself (stands_of c.args.index.now))
+pub returns-then-count-gt1-clause-follows : goal.returns-then-count-gt1-clause-follows
+returns-then-count-gt1-clause-follows c =
+    let old = c.args.part.now.entries in
+    let less = c.in-Some.count.now - 1 in
+    let new = (c.get_mut.follows.lender less).entries in
+    let holds = c.get_mut.follows.holds less in
+    let updates = holds.3 (ap (λ o. is_some o) (sym c.in-Some.ensures.value)) in
+    follows_less (stands_of c.args.index.now) (stands_of c.args.index.now) (held_by c.args.job old) (held_by c.args.job new) c.args.job c.args.name.now c.in-Some.count.now
+    (found_of c.args.job c.args.name.now old (Some c.in-Some.count.now) c.in-Some.ensures.value) c.if-count-gt1.true
+    (held_once_less c.args.job c.args.name.now old new c.requires holds.4 c.in-Some.count.now c.in-Some.ensures.value c.if-count-gt1.true updates.0) (alike_itself (stands_of c.args.index.now))
 
-pub returns-else-entry-gt1-clause-after : goal.returns-else-entry-gt1-clause-after
-returns-else-entry-gt1-clause-after c =
-    let locks = c.args.part.now.items in
-    let h = hold_of c.args.job c.args.name.now in
-    let is = stands_there locks c.deref.result.now h c.in-Ok.at c.requires.in_order c.deref.ensures.value c.in-Ok.ensures.range c.in-Ok.ensures.position in
-    let e = c.index_mut-entry.result.now in
-    let here : e ≡ get_or locks c.in-Ok.at e = c.index_mut-entry.ensures.value in
-    c.remove-gone.ensures.items
-    ∙ ap (λ (l : Locks). remove l c.in-Ok.at) (ap (λ (x : Hold × ℕ). set locks c.in-Ok.at x) here ∙ set-get_or locks c.in-Ok.at e)
-    ∙ gone_there locks c.args.job c.args.name.now c.in-Ok.at c.index_mut-entry.result.now is c.index_mut-entry.ensures.value (omega (arith, c.if-entry-gt1.false))
+-- one that is held once
+pub returns-else-count-gt1-clause-after : goal.returns-else-count-gt1-clause-after
+returns-else-count-gt1-clause-after c =
+    let old = c.args.part.now.entries in
+    let n = c.args.name.now in
+    let count = c.in-Some.count.now in
+    let updates = (c.get_mut.follows.holds count).3 (ap (λ o. is_some o) (sym c.in-Some.ensures.value)) in
+    held_no_more c.args.job n old c.remove-gone.new.self.entries c.requires c.remove-gone.ensures.ordered count c.in-Some.ensures.value (omega (arith, c.if-count-gt1.false))
+    (λ m. c.remove-gone.ensures.updates.0 m ∙ ap (λ (o : Option ℕ). cond (is_at (name_cmp n) m) None o) (updates.0 m) ∙ written_last (is_at (name_cmp n) m) None (Some count) _)
 
-pub returns-else-entry-gt1-clause-follows : goal.returns-else-entry-gt1-clause-follows
-returns-else-entry-gt1-clause-follows c =
-    let locks = c.args.part.now.items in
-    let h = hold_of c.args.job c.args.name.now in
-    let e = c.index_mut-entry.result.now in
-    let is = stands_there locks c.deref.result.now h c.in-Ok.at c.requires.in_order c.deref.ensures.value c.in-Ok.ensures.range c.in-Ok.ensures.position in
-    let here : e ≡ get_or locks c.in-Ok.at e = c.index_mut-entry.ensures.value in
-    let found : find hold_cmp h locks ≡ Some e.1 = is.found e ∙ ap (λ (x : Hold × ℕ). Some x.1) (sym here) in
+pub returns-else-count-gt1-clause-follows : goal.returns-else-count-gt1-clause-follows
+returns-else-count-gt1-clause-follows c =
+    let old = c.args.part.now.entries in
+    let n = c.args.name.now in
+    let count = c.in-Some.count.now in
+    let updates = (c.get_mut.follows.holds count).3 (ap (λ o. is_some o) (sym c.in-Some.ensures.value)) in
+    let few : c.in-Some.count.now ≤ 1 = omega (arith, c.if-count-gt1.false) in
     let less =
-    c.remove-gone.ensures.items
-    ∙ ap (λ (l : Locks). remove l c.in-Ok.at) (ap (λ (x : Hold × ℕ). set locks c.in-Ok.at x) here ∙ set-get_or locks c.in-Ok.at e)
-    ∙ gone_there locks c.args.job c.args.name.now c.in-Ok.at e is here (omega (arith, c.if-entry-gt1.false)) in
-    follows_gone (stands_of c.args.index.now) (stands_of c.unmark.new.self) locks _ c.args.job c.args.name.now e.1 found (omega (arith, c.if-entry-gt1.false)) less c.unmark.ensures
+    held_no_more c.args.job n old c.remove-gone.new.self.entries c.requires c.remove-gone.ensures.ordered count c.in-Some.ensures.value few
+    (λ m. c.remove-gone.ensures.updates.0 m ∙ ap (λ (o : Option ℕ). cond (is_at (name_cmp n) m) None o) (updates.0 m) ∙ written_last (is_at (name_cmp n) m) None (Some count) _) in
+    follows_gone (stands_of c.args.index.now) (stands_of c.unmark.new.self) (held_by c.args.job old) (held_by c.args.job c.remove-gone.new.self.entries) c.args.job n count
+    (found_of c.args.job n old (Some count) c.in-Some.ensures.value) few less c.unmark.ensures

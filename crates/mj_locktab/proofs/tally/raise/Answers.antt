@@ -1,4 +1,4 @@
-use Rattle.std.proofs.Common.{◌≡◌, subst}
+use Rattle.std.proofs.Common.{subst}
 use Rattle.mj_locktab.specs.Trees.{tallies_of, AreCounted}
 use Rattle.mj_locktab.specs.declared.tally.Tallies.{Tallies as Kept}
 use Rattle.mj_locktab.proofs.tally.raise.Goals as goal

@@ -1,6 +1,6 @@
 use Rattle.std.proofs.Common.{ℕ, Option, subst}
 use Rattle.mj_load.specs.Image.{program_of}
-use Rattle.mj_prompt.specs.Records.{Compares}
+use Rattle.mj_remade.specs.Records.{Compares}
 use Rattle.mj_prompt.proofs.Resuming.{opened_same, opened_apart}
 use Rattle.mj_prompt.proofs.talking.followed.Goals as goal
 

@@ -12,8 +12,8 @@ use Rattle.mj_txn.specs.Commits.{changes_of}
 use Rattle.mj_txn.proofs.Replies.{changes_next}
 use Rattle.mj_txn.proofs.writes.only_set.Goals as goal
 
-pub returns-in-Access-Set-default : goal.returns-in-Access-Set-default
-returns-in-Access-Set-default c =
+pub returns : goal.returns
+returns c =
     let es : Accesses = c.args.entries.now in
     let set = c.in-Access-Set-default in
     let e : Entry = c.last-item.result in

@@ -1,4 +1,4 @@
-use Rattle.std.proofs.Common.{true, false, sym, ◌∙◌}
+use Rattle.std.proofs.Common.{sym, ◌∙◌}
 use Rattle.mj_locktab.specs.Trees.{Stand, tallies_of}
 use Rattle.mj_locktab.proofs.Bare.{told_false, none_there, one_there, is_bare_if, bare_holder, bare_tallies, bare_kids}
 use Rattle.mj_locktab.proofs.node.Node.is_bare.Goals as goal

@@ -1,4 +1,4 @@
-use Rattle.std.proofs.Common.{◌≡◌, Bool, Some, None, sym, ap, subst}
+use Rattle.std.proofs.Common.{◌≡◌, Bool, None, sym, ap, subst}
 use Rattle.mj_locktab.specs.declared.taken.Taken.TheVariants as takes
 use Rattle.mj_locktab.specs.Locks.{Locks, IsLockTable}
 use Rattle.mj_locktab.specs.Visits.{Visited}
@@ -13,11 +13,9 @@ use Rattle.mj_locktab.proofs.table.LockTable.try_take.Goals as goal
 pub returns-in_ok-name-in-Some-clause-meaning : goal.returns-in_ok-name-in-Some-clause-meaning
 returns-in_ok-name-in-Some-clause-meaning c =
     let locks = holds_of c.self.inside.held.entries in
-    let e = c.in-Some.entry.now in
-    let found : conflict_of locks c.args.job c.args.names.now ≡ Some e = sym c.in-Some.ensures.conflict in
-    let there = in_the_way locks c.args.job c.args.names.now e c.self.invariant.0.counted found in
-    let named = subst (IsInTheWay locks c.args.job c.args.names.now e.0.job) (sym c.in_ok-name-in-Some.ensures) there in
-    (subst (λ (v : Visited). IsInTheWay v.holds c.args.job c.args.names.now e.0.job c.in_ok-name-in-Some.name) c.self.view_is named, ap (λ (v : Visited). v.holds) c.self.view_is)
+    let there = in_the_way locks c.args.job c.args.names.now _ c.self.invariant.0.counted (sym c.in-Some.ensures.conflict) in
+    let named = subst (IsInTheWay locks c.args.job c.args.names.now c.in-Some.holder) (sym c.in_ok-name-in-Some.ensures) there in
+    (subst (λ (v : Visited). IsInTheWay v.holds c.args.job c.args.names.now c.in-Some.holder c.in_ok-name-in-Some.name) c.self.view_is named, ap (λ (v : Visited). v.holds) c.self.view_is)
 
 -- a limit would be passed, and nothing changes
 pub returns-then-not-branch-clause-meaning : goal.returns-then-not-branch-clause-meaning

@@ -1,7 +1,9 @@
-use Rattle.std.proofs.Common.{rules, ◌≡◌, []}
+use Rattle.std.proofs.Common.{rules, ◌≡◌, [], sym, subst}
 use Rattle.mj_store.specs.Runs.{name_of, answer_of}
 use Rattle.mj_globs.specs.Stamps.{stamp_at}
 use Rattle.mj_txlog.specs.Accesses.{seen, reply_in, with_reply}
+use Rattle.mj_txlog.specs.Logged.{Logged}
+use Rattle.mj_txlog.specs.Follows.{Follows}
 use Rattle.mj_txlog.proofs.Goes.{reply_skips, result_skips}
 use Rattle.mj_txlog.proofs.Appending.{read_follows}
 use Rattle.mj_txlog.proofs.log.TxLog.see.Goals as goal
@@ -16,7 +18,9 @@ returns-then-is_write-clause-skips c =
 
 pub returns-in-Ok-clause-follows : goal.returns-in-Ok-clause-follows
 returns-in-Ok-clause-follows c =
-    let told : c.in-Ok.kept ≡ answer_of c.args.access (seen c.args.globals.now.content c.args.self.now.transaction.accesses) = search rules in
-    let stamp : c.stamp-stamp.result ≡ stamp_at c.args.globals.now.stamps (name_of c.args.access) = search rules in
-    read_follows c.append.result c.args.globals.now c.args.self.now c.append.new.self c.args.access c.in-Ok.kept c.stamp-stamp.result c.append.ensures.each told stamp c.append.ensures.appended
-    c.append.ensures.stamped c.append.ensures.unchanged c.append.ensures.same
+    let g = c.args.globals.now in
+    let laid = c.answers.new.self in
+    let told : c.in-Ok.kept ≡ answer_of c.args.access (seen g.content laid.transaction.accesses) = search rules in
+    let stamp : c.stamp-stamp.result ≡ stamp_at g.stamps (name_of c.args.access) = search rules in
+    λ was. read_follows c.append.result g laid c.append.new.self c.args.access c.in-Ok.kept c.stamp-stamp.result c.append.ensures.each told stamp c.append.ensures.appended
+    c.append.ensures.stamped c.append.ensures.unchanged c.append.ensures.same (subst (λ (l : Logged). Follows l g) (sym c.answers.ensures.same) was)

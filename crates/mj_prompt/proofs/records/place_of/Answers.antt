@@ -1,4 +1,0 @@
-use Rattle.mj_prompt.proofs.records.place_of.Goals as goal
-
-pub returns : goal.returns
-returns g c = record { asked = c.place_of.ensures }

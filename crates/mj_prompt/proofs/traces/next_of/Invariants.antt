@@ -1,5 +1,0 @@
-use Rattle.std.proofs.Common.{length}
-use Rattle.mj_prompt.proofs.traces.next_of.Given as goal
-
-abbrev pub decreases-sessions : goal.decreases-sessions
-decreases-sessions l = length l.rest
