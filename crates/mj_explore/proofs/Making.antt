@@ -22,12 +22,12 @@ use Rattle.mj_judge.specs.declared.marks.Mark.TheVariants as marks
 use Rattle.mj_explore.specs.declared.fates.Fate.{Fate}
 use Rattle.mj_explore.specs.declared.goals.Finding.{Finding}
 use Rattle.mj_judge.specs.declared.conditions.Verdict.{Verdict}
-use Rattle.mj_text.specs.declared.fault.Fault.{Fault}
 use Rattle.mj_explore.specs.declared.ends.End.{End}
 use Rattle.mj_explore.specs.declared.exploring.Tally.{Tally}
 use Rattle.mj_judge.specs.Marks.{bears}
 use Rattle.mj_explore.specs.Found.{Ran, IsRan, IsCome, IsFateOf, AreTallied, ends_in, has_faulted, is_fate_stuck, is_fate_stopped, WereMade, AreMade}
-use Rattle.mj_judge.specs.Judged.{by_memory, is_for_memory}
+use Rattle.mj_judge.specs.Endings.{is_for_memory}
+use Rattle.mj_judge.specs.Judged.{by_memory}
 use Rattle.mj_explore.specs.Found.{IsShownFor, IsFoundFor, found_verdict}
 use Rattle.mj_explore.proofs.Ending.{one_more}
 

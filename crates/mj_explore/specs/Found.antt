@@ -2,8 +2,6 @@
 use Rattle.std.specs.Prelude.{◌≡◌, ◌<◌, ℕ, ◌-◌, ◌^◌, min, nat_lt, List, [], ◌∷◌, ◌++◌, length, map, Bool, true, false, Option, Some, None, All, ◌⊎◌, IfSome}
 use Rattle.std.specs.List.{count_by}
 use Rattle.std.specs.Str.{bytes_eq}
-use Rattle.mj_text.specs.declared.fault.Fault.{Fault}
-use Rattle.mj_text.specs.declared.fault.Fault.TheVariants as faults
 use Rattle.mj_ask.specs.Fits.{is_shared, timeout_of}
 use Rattle.mj_semantics.specs.Program.{Program}
 use Rattle.mj_jobs.specs.Rows.{Row, row_at, IsLive}
@@ -12,7 +10,6 @@ use Rattle.mj_sessions.specs.Answers.{IsReading}
 use Rattle.mj_sys.specs.Shared.{Shared, served}
 use Rattle.mj_sys.specs.History.{History, state_of, log_of}
 use Rattle.mj_steps.specs.declared.step.Step.{Step}
-use Rattle.mj_steps.specs.declared.step.Refusal.TheVariants as refusals
 use Rattle.mj_steps.specs.declared.drive.Ending.{Ending}
 use Rattle.mj_steps.specs.declared.drive.Ending.TheVariants as endings
 use Rattle.mj_steps.specs.Driven.{ByList}
@@ -32,7 +29,8 @@ use Rattle.mj_explore.specs.declared.fates.Fate.{Fate}
 use Rattle.mj_explore.specs.declared.fates.Fate.TheVariants as fates
 use Rattle.mj_explore.specs.declared.ends.End.{End}
 use Rattle.mj_explore.specs.declared.exploring.Tally.{Tally}
-use Rattle.mj_judge.specs.Judged.{by_memory, IsJudged, is_for_memory}
+use Rattle.mj_judge.specs.Endings.{is_for_memory}
+use Rattle.mj_judge.specs.Judged.{by_memory, IsJudged}
 use Rattle.mj_judge.specs.Marks.{bears, is_over}
 use Rattle.mj_explore.specs.Ends.{IsNoted, end_text, different, often, texts_of}
 use Rattle.mj_script.specs.Scripts.{Scripted, IsImageOf, opening_in}

@@ -9,7 +9,7 @@ ghost use Rattle.mj_judge.specs.declared.marks.Mark.TheVariants as marks;
 ghost use Rattle.mj_script.specs.Scripts.{opening_in};
 ghost use Rattle.mj_explore.specs.Ends.{IsNoted, end_text};
 ghost use Rattle.mj_judge.specs.Marks.{bears};
-ghost use Rattle.mj_judge.specs.Judged.{is_for_memory};
+ghost use Rattle.mj_judge.specs.Endings.{is_for_memory};
 ghost use Rattle.mj_explore.specs.Found.{IsShownFor, IsFoundFor, IsFateOf, WereMade, IsCome, is_fate_stopped, is_fate_stuck};
 
 use crate::ends::{End, end_text, note};

@@ -1,19 +1,18 @@
 -- A run that judges an expression.
 use Rattle.std.specs.Prelude.{IfOk, IfSome, Result}
 use Rattle.std.specs.Str.{bytes_eq}
-use Rattle.std.proofs.Common.{◌≡◌, ℕ, ◌-◌, List, Option, Bool, true, false, codes, sym, ap, ◌∙◌, subst}
+use Rattle.std.proofs.Common.{◌≡◌, ℕ, List, Option, Bool, true, false, codes, sym, ap, ◌∙◌, subst}
 use Rattle.std.specs.declared.alloc.AllocError.{AllocError}
 use Rattle.std.proofs.lemmas.Option.{IfSome_then}
 use Rattle.std.proofs.lemmas.Result.{IfOk-weaker}
 use Rattle.mj_sys.specs.Shared.{Shared}
-use Rattle.mj_script.specs.Scripts.{Scripted}
+use Rattle.mj_script.specs.Scripts.{Scripted, IsImageOf}
 use Rattle.mj_load.specs.Image.{Loaded, program_of}
 use Rattle.mj_dev.specs.Shelves.{principal}
 use Rattle.mj_core.specs.Runs.{IsRun, out_of}
 use Rattle.mj_core.specs.Shown.{Shown, begun}
 use Rattle.mj_run.specs.Stepping.{AreSteps}
 use Rattle.mj_run.proofs.Stepping.{steps_image}
-use Rattle.mj_script.specs.Scripts.{IsImageOf}
 use Rattle.mj_judge.specs.declared.conditions.Verdict.{Verdict}
 use Rattle.mj_text.specs.declared.fault.Fault.{Fault}
 use Rattle.mj_judge.specs.Marks.{fault_in, is_over}

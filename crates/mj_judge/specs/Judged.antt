@@ -1,5 +1,5 @@
 -- What an expression comes to, by a run of its script.
-use Rattle.std.specs.Prelude.{◌≡◌, ◌-◌, Bool, true, false, Option, Some, None, codes}
+use Rattle.std.specs.Prelude.{◌≡◌, Bool, true, false, Option, Some, None, codes}
 use Rattle.std.specs.Str.{bytes_eq}
 use Rattle.mj_text.specs.declared.fault.Fault.{Fault}
 use Rattle.mj_text.specs.declared.fault.Fault.TheVariants as faults
@@ -10,9 +10,6 @@ use Rattle.mj_load.specs.Image.{Loaded, program_of}
 use Rattle.mj_sessions.specs.Asked.{Answering}
 use Rattle.mj_sys.specs.Shared.{Shared}
 use Rattle.mj_sys.specs.History.{History}
-use Rattle.mj_steps.specs.declared.step.Refusal.TheVariants as refusals
-use Rattle.mj_steps.specs.declared.drive.Ending.{Ending}
-use Rattle.mj_steps.specs.declared.drive.Ending.TheVariants as endings
 use Rattle.mj_core.specs.Runs.{IsRun, out_of}
 use Rattle.mj_core.specs.Shown.{Shown}
 use Rattle.mj_judge.specs.declared.conditions.Verdict.{Verdict}
@@ -23,11 +20,6 @@ use Rattle.mj_script.specs.Scripts.{Scripted, IsImageOf}
 -- devices in memory, of whose calls the replies come
 abbrev pub by_memory : Answering
 by_memory = IsToldBy (λ (m : Supply). 0) (λ m. m.failures) (λ m. m.taken) (λ m. m.given) (λ m inside call. Unit {0})
-
--- stepping ended since memory was refused
-abbrev pub is_for_memory : Ending → Bool
-is_for_memory (endings.Refused refusals.Memory step) = true
-is_for_memory _ = false
 
 -- what an expression comes to, by the fault by which its run ended, if there is one, and by whether that run wrote 1
 abbrev pub verdict_by : Option Fault → Bool → Verdict

@@ -1,3 +1,4 @@
 pub mod Conditions
+pub mod Endings
 pub mod Judged
 pub mod Marks

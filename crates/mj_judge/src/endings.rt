@@ -1,7 +1,7 @@
 // How stepping ended.
 
 ghost use Rattle.std.specs.Prelude.{◌≡◌};
-ghost use Rattle.mj_judge.specs.Judged.{is_for_memory};
+ghost use Rattle.mj_judge.specs.Endings.{is_for_memory};
 
 use mj_steps::{Ending, Refusal};
 

@@ -1,12 +1,11 @@
 -- Every change keeps what a table keeps, and what a try says of it.
-use Rattle.std.proofs.Common.{◌≡◌, ℕ, ◌+◌, ◌<◌, ◌≤◌, true, false, not, List, [], ◌∷◌, ◌++◌, length, get_or, take, drop, Option, Some, None, refl, sym, ap, ◌∙◌, arith}
+use Rattle.std.proofs.Common.{◌≡◌, ℕ, ◌+◌, ◌<◌, ◌≤◌, true, false, not, List, [], ◌∷◌, ◌++◌, length, get_or, take, drop, Some, None, refl, sym, ap, ◌∙◌, arith}
 use Rattle.std.specs.Prelude.{◌==◌}
 use Rattle.std.specs.FinMap.{find}
 use Rattle.std.proofs.lemmas.List.{at_drop_more, take_more, take-append-drop}
 use Rattle.mj_subs.specs.Name.{Name}
-use Rattle.mj_locktab.specs.declared.hold.Hold.{Hold}
 use Rattle.mj_locktab.specs.declared.taken.Taken.TheVariants as takes
-use Rattle.mj_locktab.specs.Locks.{Locks, hold_of, job_of, hold_cmp, count_of, names_of, is_past_limit, IsInOrder, IsLockTable}
+use Rattle.mj_locktab.specs.Locks.{Locks, hold_of, job_of, hold_cmp, names_of, is_past_limit, IsInOrder, IsLockTable}
 use Rattle.mj_locktab.specs.declared.held.TheConstants.{HOLDS_LIMIT, COUNT_LIMIT}
 use Rattle.mj_locktab.specs.Changes.{one_more, one_less, after_take, after_give, after_give_all}
 use Rattle.mj_locktab.specs.Tries.{conflict_of, try_answer, left, outcome_of, after_try, AreFree, TryGives}

@@ -23,40 +23,41 @@ use Rattle.mj_locktab.proofs.Conflicts.{conflict_in_way, in_way_conflict}
 use Rattle.mj_locktab.proofs.Parts.{equal_job, apart, past_first, part_first, part_later, later_parts, find_other, count_parts, counted_parts}
 
 -- what is found in the part of a job, and in none before it, is the first of all
-first_found : (p : Hold × ℕ → Bool) (parts : Parts) (least : ℕ) (e : Hold × ℕ) → AreParts parts → ((j : ℕ) → j < least → find p (part_at parts j) ≡ None) → find p (part_at parts least) ≡ Some e
-    → find p (holds_of parts) ≡ Some e
+first_found : (p : Hold × ℕ → Bool) (parts : Parts) (least : ℕ) (e : Hold × ℕ) → AreParts parts → ((j : ℕ) → j < least → find p (part_at parts j) ≡ None)
+    → find p (part_at parts least) ≡ Some e → find p (holds_of parts) ≡ Some e
 first_found p [] least e are early found = absurd (let never : ⊥ = cc in never)
-first_found p (k ∷ ks) least e are early found = find-append p (held_by k.0 k.1.entries) (holds_of ks) ∙ at (first_found p ks least e (later_parts k ks are)) (least == k.0) refl (order k.0 least) where
-  order : (a b : ℕ) → (a < b) ⊎ (b ≤ a)
-  order a zero = inr (omega arith)
-  order zero (suc b) = inl (omega arith)
-  order (suc a) (suc b) = by (order a b) where
-    by : (a < b) ⊎ (b ≤ a) → (suc a < suc b) ⊎ (suc b ≤ suc a)
-    by (inl h) = inl (omega arith)
-    by (inr h) = inr (omega arith)
+first_found p (k ∷ ks) least e are early found =
+    find-append p (held_by k.0 k.1.entries) (holds_of ks) ∙ at (first_found p ks least e (later_parts k ks are)) (least == k.0) refl (order k.0 least) where
+      order : (a b : ℕ) → (a < b) ⊎ (b ≤ a)
+      order a zero = inr (omega arith)
+      order zero (suc b) = inl (omega arith)
+      order (suc a) (suc b) = by (order a b) where
+        by : (a < b) ⊎ (b ≤ a) → (suc a < suc b) ⊎ (suc b ≤ suc a)
+        by (inl h) = inl (omega arith)
+        by (inr h) = inr (omega arith)
 
-  at : (((j : ℕ) → j < least → find p (part_at ks j) ≡ None) → find p (part_at ks least) ≡ Some e → find p (holds_of ks) ≡ Some e) → (b : Bool) → (least == k.0) ≡ b
-      → (k.0 < least) ⊎ (least ≤ k.0) → option_or (find p (held_by k.0 k.1.entries)) (find p (holds_of ks)) ≡ Some e
-  at further true same h = ap (λ (o : Option (Hold × ℕ)). option_or o (find p (holds_of ks))) (ap (λ (l : Locks). find p l) (sym (part_first k ks least same)) ∙ found)
-  at further false other (inl before) =
-      ap (λ (o : Option (Hold × ℕ)). option_or o (find p (holds_of ks))) (ap (λ (l : Locks). find p l) (sym (part_first k ks k.0 (eq-eqb k.0 k.0 refl))) ∙ early k.0 before)
-      ∙ further (λ j low. still j low (j == k.0) refl) (ap (λ (l : Locks). find p l) (sym (part_later k ks least other)) ∙ found)
-    where
-      still : (j : ℕ) → j < least → (b : Bool) → (j == k.0) ≡ b → find p (part_at ks j) ≡ None
-      still j low true f = ap (λ (o : Option (BTreeMap Name ℕ)). find p (part_in j o)) (past_first k ks are.rises j f)
-      still j low false f = ap (λ (l : Locks). find p l) (sym (part_later k ks j f)) ∙ early j low
-  at further false other (inr past) =
-      let below : least < k.0 = strict past in
-      let less : nat_cmp least k.0 ≡ Less = sym (nat_cmp_is least k.0 Less below) in
-      let none = lookup-none (is_at (nat_cmp least)) (k ∷ ks) (none_below_head nat_cmp_total least k ks are.rises less) in
-      let empty : find p (part_at (k ∷ ks) least) ≡ None = ap (λ (o : Option (BTreeMap Name ℕ)). find p (part_in least o)) none in
-      absurd (let never : ⊥ = cc in never)
-    where
-      strict : least ≤ k.0 → least < k.0
-      strict le = by (order least k.0) where
-        by : (least < k.0) ⊎ (k.0 ≤ least) → least < k.0
-        by (inl h) = h
-        by (inr h) = absurd (apart least k.0 other (let same : least ≡ k.0 = omega arith in same))
+      at : (((j : ℕ) → j < least → find p (part_at ks j) ≡ None) → find p (part_at ks least) ≡ Some e → find p (holds_of ks) ≡ Some e) → (b : Bool) → (least == k.0) ≡ b
+          → (k.0 < least) ⊎ (least ≤ k.0) → option_or (find p (held_by k.0 k.1.entries)) (find p (holds_of ks)) ≡ Some e
+      at further true same h = ap (λ (o : Option (Hold × ℕ)). option_or o (find p (holds_of ks))) (ap (λ (l : Locks). find p l) (sym (part_first k ks least same)) ∙ found)
+      at further false other (inl before) =
+          ap (λ (o : Option (Hold × ℕ)). option_or o (find p (holds_of ks))) (ap (λ (l : Locks). find p l) (sym (part_first k ks k.0 (eq-eqb k.0 k.0 refl))) ∙ early k.0 before)
+          ∙ further (λ j low. still j low (j == k.0) refl) (ap (λ (l : Locks). find p l) (sym (part_later k ks least other)) ∙ found)
+        where
+          still : (j : ℕ) → j < least → (b : Bool) → (j == k.0) ≡ b → find p (part_at ks j) ≡ None
+          still j low true f = ap (λ (o : Option (BTreeMap Name ℕ)). find p (part_in j o)) (past_first k ks are.rises j f)
+          still j low false f = ap (λ (l : Locks). find p l) (sym (part_later k ks j f)) ∙ early j low
+      at further false other (inr past) =
+          let below : least < k.0 = strict past in
+          let less : nat_cmp least k.0 ≡ Less = sym (nat_cmp_is least k.0 Less below) in
+          let none = lookup-none (is_at (nat_cmp least)) (k ∷ ks) (none_below_head nat_cmp_total least k ks are.rises less) in
+          let empty : find p (part_at (k ∷ ks) least) ≡ None = ap (λ (o : Option (BTreeMap Name ℕ)). find p (part_in least o)) none in
+          absurd (let never : ⊥ = cc in never)
+        where
+          strict : least ≤ k.0 → least < k.0
+          strict le = by (order least k.0) where
+            by : (least < k.0) ⊎ (k.0 ≤ least) → least < k.0
+            by (inl h) = h
+            by (inr h) = absurd (apart least k.0 other (let same : least ≡ k.0 = omega arith in same))
 
 module _ (s : Name → Option Stand) (parts : Parts) (job : ℕ) (n : Name) (are : AreParts parts) (told : Tell s (holds_of parts)) where
   -- a conflict in a part is of its job

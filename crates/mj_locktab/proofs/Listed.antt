@@ -16,8 +16,8 @@ module _ {B : Type 0} (f : Hold × ℕ → B) where
   joined (x ∷ xs) ys zs = ap (λ r. x ∷ r) (joined xs ys zs)
 
   -- one job more is listed
-  pub listed_one : (before after total : List B) (left rest : Parts) (k : ℕ × BTreeMap Name ℕ) → before ++ map f (holds_of left) ≡ total → left ≡ k ∷ rest → after ≡ before ++ map f (held_by k.0 k.1.entries)
-      → after ++ map f (holds_of rest) ≡ total
+  pub listed_one : (before after total : List B) (left rest : Parts) (k : ℕ × BTreeMap Name ℕ) → before ++ map f (holds_of left) ≡ total
+      → left ≡ k ∷ rest → after ≡ before ++ map f (held_by k.0 k.1.entries) → after ++ map f (holds_of rest) ≡ total
   listed_one before after total left rest k all next more =
       ap (λ (xs : List B). xs ++ map f (holds_of rest)) more
       ∙ joined before (map f (held_by k.0 k.1.entries)) (map f (holds_of rest))

@@ -127,7 +127,8 @@ module _ (job : ℕ) (n : Name) (old new : List (Name × ℕ)) (part : IsPart jo
       same_held job (held_by job new) (held_by job old) (order_held job new rises) part.in_order (own_held job new) part.own
       (λ m. found_new (Some c) written m ∙ at m (eq_by_cmp hold_cmp (hold_of job m) (hold_of job n)) refl)
     where
-      at : (m : Name) (b : Bool) → eq_by_cmp hold_cmp (hold_of job m) (hold_of job n) ≡ b → cond b (Some c) (find hold_cmp (hold_of job m) (held_by job old)) ≡ find hold_cmp (hold_of job m) (held_by job old)
+      at : (m : Name) (b : Bool) → eq_by_cmp hold_cmp (hold_of job m) (hold_of job n) ≡ b
+          → cond b (Some c) (find hold_cmp (hold_of job m) (held_by job old)) ≡ find hold_cmp (hold_of job m) (held_by job old)
       at m true e =
           let same : hold_of job m ≡ hold_of job n = hold_cmp-IsAntisymmetric (hold_of job m) (hold_of job n) (is_Equal (hold_cmp (hold_of job m) (hold_of job n)) e) in
           sym (ap (λ (q : Hold). find hold_cmp q (held_by job old)) same ∙ found)

@@ -133,7 +133,8 @@ below_own h k (x ∷ xs) low own =
 
 below_parts : (h : Hold) (ks : Parts) → AreParts ks → AllByRecursion (λ y. nat_cmp h.job y ≡ Less) (keys_of ks) → T (below_all hold_cmp h (holds_of ks))
 below_parts h [] are low = tt
-below_parts h (k ∷ ks) are low = below_append h (held_by k.0 k.1.entries) (holds_of ks) (below_own h k.0 (held_by k.0 k.1.entries) low.0 (first_part k ks are).own) (below_parts h ks (later_parts k ks are) low.1)
+below_parts h (k ∷ ks) are low =
+    below_append h (held_by k.0 k.1.entries) (holds_of ks) (below_own h k.0 (held_by k.0 k.1.entries) low.0 (first_part k ks are).own) (below_parts h ks (later_parts k ks are) low.1)
 
 sorted_join : (k : ℕ) (xs ys : Locks) → T (is_sorted hold_cmp xs) → list_all (λ e. job_of e.0 == k) xs ≡ true → ((h : Hold) → h.job ≡ k → T (below_all hold_cmp h ys)) → T (is_sorted hold_cmp ys)
     → T (is_sorted hold_cmp (xs ++ ys))

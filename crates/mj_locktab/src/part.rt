@@ -7,7 +7,7 @@ ghost use Rattle.mj_locktab.specs.declared.held.TheConstants.{HOLDS_LIMIT};
 ghost use Rattle.mj_locktab.specs.Locks.{hold_cmp, hold_of, job_of, name_of, names_of, count_of, is_past_limit};
 ghost use Rattle.mj_locktab.specs.Changes.{one_more, one_less};
 ghost use Rattle.mj_locktab.specs.Tries.{is_conflict, conflict_with, TakeLeaves};
-ghost use Rattle.mj_locktab.specs.Trees.{holder_of, tally_of, along, AreAlike};
+ghost use Rattle.mj_locktab.specs.Trees.{holder_of, tally_of, along};
 ghost use Rattle.mj_locktab.specs.Told.{stands_of, Follows};
 ghost use Rattle.mj_locktab.specs.Parts.{held_by, IsPart};
 
@@ -78,7 +78,7 @@ pub fn take(
     }
 }
 
-// Puts a name that is new, and has the trees tell of it. Where memory is refused to the names the trees are given it back.
+// Adds a new name, and has the trees tell of it. Where memory is refused to the map, it is taken out of the trees again.
 fn add(
     part: &mut Part,
     index: &mut Index,

@@ -7,7 +7,8 @@ ghost use Rattle.mj_locktab.specs.Trees.{tally, tallies_of, AreCounted, NoOther,
 use std::alloc::{AllocError, Global};
 use std::collections::BTreeMap;
 
-/// Jobs, each with how many names it has. One that isn't told has none. At most nodes all names are of one job, which takes no memory of its own.
+/// Jobs, each with how many names it has. One that isn't told has none. As long as there was never more than one job at a time, as at most nodes, that takes
+/// no memory of its own.
 #[derive(Drop)]
 pub enum Tallies {
     /// No job.

@@ -1,5 +1,5 @@
 -- How commands end, and what a debugger begins with that opens a trace, or goes on from a place.
-use Rattle.std.specs.Prelude.{◌≡◌, ◌≤◌, ℕ, List, Option, Some, None, codes, take, ◌++◌, ◌∷◌, [], ◌⊎◌, Bool, true, false}
+use Rattle.std.specs.Prelude.{◌≡◌, ◌≤◌, ℕ, List, Option, codes, take, ◌++◌, ◌∷◌, [], ◌⊎◌, Bool, true, false}
 use Rattle.std.specs.Io.KnownBytes.{Appends}
 use Rattle.mj_semantics.specs.Program.{Program}
 use Rattle.mj_sys.specs.Shared.{Shared}

@@ -97,8 +97,8 @@ impl Ongoing {
         self.log.unlock(Unlock::All)
     }
 
-    // Makes an access in the transaction: what it is told, twice. A write, and a read of one text or of a subtree, passes over nothing. Where it does
-    // after all, what it passed over isn't kept.
+    // Makes an access in the transaction: what it is told, twice. A write, and a read of one text or of a subtree, neither goes by what reads passed over
+    // nor adds to it, so it is made without.
     pub fn access(
         &mut self,
         globals: &Globals,
@@ -149,7 +149,7 @@ impl Ongoing {
     }
 }
 
-// Whether an access may pass over something.
+// Whether an access goes by what reads passed over, and may add to it.
 fn may_pass(access: &Access) -> bool {
     match access {
         Access::Data(_) | Access::Order(_, _) | Access::Query(_) => true,

@@ -27,8 +27,10 @@ returns c =
     let found = part_found parts c.args.job (Some c.in-Some.part.now) c.in-Some.ensures.value in
     let updates = holds.3 (ap (λ o. is_some o) (sym c.in-Some.ensures.value)) in
     let change = refilled parts new c.args.job c.give.new.part updates.1 (λ j other. updates.2 j (other_key c.args.job j other)) in
-    let follows = subst (λ (l : Locks). Follows (stands_of c.args.index.now) (stands_of c.give.new.index) l (held_by c.args.job c.give.new.part.entries) c.args.job c.args.name.now) (sym found) c.give.ensures.follows in
+    let part = held_by c.args.job c.give.new.part.entries in
+    let P : Locks → Type 0 = λ l. Follows (stands_of c.args.index.now) (stands_of c.give.new.index) l part c.args.job c.args.name.now in
+    let follows = subst P (sym found) c.give.ensures.follows in
     let after = c.give.ensures.after ∙ ap (λ (l : Locks). one_less l c.args.job c.args.name.now) (sym found) in
-    let all = given_all parts new c.args.job c.args.name.now (held_by c.args.job c.give.new.part.entries) c.requires.parts change holds.4
+    let all = given_all parts new c.args.job c.args.name.now part c.requires.parts change holds.4
     (stands_of c.args.index.now) (stands_of c.give.new.index) c.requires.told follows after in
     record { after = all.0; parts = all.1.0; told = all.1.1 }

@@ -51,11 +51,14 @@ returns-in-Some c =
     let told = subst (Tell (stands_of c.args.index.now)) (sym c.open.ensures.same) c.requires.told in
     let free = subst (λ (l : Locks). IsFree l c.args.job c.args.name.now) (sym c.open.ensures.same) c.requires.free in
     let within = ap (λ (l : Locks). is_past_limit l c.args.job) c.open.ensures.same ∙ c.requires.within in
-    let follows = subst (λ (l : Locks). Follows (stands_of c.args.index.now) (stands_of c.take.new.index) l (held_by c.args.job c.take.new.part.entries) c.args.job c.args.name.now) (sym found) c.take.ensures.follows in
-    let ok = subst (λ (l : Locks). IfOk c.take.result (λ taken. TakeLeaves l (one_more l c.args.job c.args.name.now) c.args.job taken (held_by c.args.job c.take.new.part.entries))) (sym found) c.take.ensures.ok in
-    let err = subst (λ (l : Locks). OnErr c.take.result ((held_by c.args.job c.take.new.part.entries) ≡ l)) (sym found) c.take.ensures.err in
-    let all = taken_all parts new c.args.job c.args.name.now (held_by c.args.job c.take.new.part.entries) c.open.ensures.parts change holds.4 (stands_of c.args.index.now) (stands_of c.take.new.index) told follows
-    c.take.result free within ok err in
+    let part = held_by c.args.job c.take.new.part.entries in
+    let F : Locks → Type 0 = λ l. Follows (stands_of c.args.index.now) (stands_of c.take.new.index) l part c.args.job c.args.name.now in
+    let T : Locks → Type 0 = λ l. IfOk c.take.result (λ taken. TakeLeaves l (one_more l c.args.job c.args.name.now) c.args.job taken part) in
+    let follows = subst F (sym found) c.take.ensures.follows in
+    let ok = subst T (sym found) c.take.ensures.ok in
+    let err = subst (λ (l : Locks). OnErr c.take.result (part ≡ l)) (sym found) c.take.ensures.err in
+    let all = taken_all parts new c.args.job c.args.name.now part c.open.ensures.parts change holds.4
+    (stands_of c.args.index.now) (stands_of c.take.new.index) told follows c.take.result free within ok err in
     record {
       ok = subst (λ (l : Locks). IfOk c.take.result (λ taken. TakeLeaves l (one_more l c.args.job c.args.name.now) c.args.job taken (holds_of new))) c.open.ensures.same all.0.0;
       err = subst (λ (l : Locks). OnErr c.take.result (holds_of new ≡ l)) c.open.ensures.same all.0.1;

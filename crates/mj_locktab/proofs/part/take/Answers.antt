@@ -108,8 +108,9 @@ returns-in_err-add-in-None-clause-err c =
 
 pub returns-in_err-add-in-None-clause-follows : goal.returns-in_err-add-in-None-clause-follows
 returns-in_err-add-in-None-clause-follows c =
-    subst (λ (m : BTreeMap Name ℕ). Follows (stands_of c.args.index.now) (stands_of c.add.new.index) (held_by c.args.job m.entries) (held_by c.args.job c.add.new.part.entries) c.args.job c.args.name.now)
-    c.get_mut.follows.holds-at-none c.add.ensures.follows
+    let part = held_by c.args.job c.add.new.part.entries in
+    let P : BTreeMap Name ℕ → Type 0 = λ m. Follows (stands_of c.args.index.now) (stands_of c.add.new.index) (held_by c.args.job m.entries) part c.args.job c.args.name.now in
+    subst P c.get_mut.follows.holds-at-none c.add.ensures.follows
 
 pub returns-in_ok-add-in-None-clause-ok : goal.returns-in_ok-add-in-None-clause-ok
 returns-in_ok-add-in-None-clause-ok c =
@@ -125,5 +126,6 @@ returns-in_ok-add-in-None-clause-ok c =
 
 pub returns-in_ok-add-in-None-clause-follows : goal.returns-in_ok-add-in-None-clause-follows
 returns-in_ok-add-in-None-clause-follows c =
-    subst (λ (m : BTreeMap Name ℕ). Follows (stands_of c.args.index.now) (stands_of c.add.new.index) (held_by c.args.job m.entries) (held_by c.args.job c.add.new.part.entries) c.args.job c.args.name.now)
-    c.get_mut.follows.holds-at-none c.add.ensures.follows
+    let part = held_by c.args.job c.add.new.part.entries in
+    let P : BTreeMap Name ℕ → Type 0 = λ m. Follows (stands_of c.args.index.now) (stands_of c.add.new.index) (held_by c.args.job m.entries) part c.args.job c.args.name.now in
+    subst P c.get_mut.follows.holds-at-none c.add.ensures.follows

@@ -166,7 +166,8 @@ returns-in-Asks-clause-run c = λ start (turns, is).
       turns + c.turns.done + more,
       placed_as (program_of c.args.image.now) start (code_in c.args.image.now (start_of s.start)) (turns + c.turns.done + more) s.log.items s.places.places
           c.note_place.new.places.places c.wait.new.pending s.spent (standing c.go_on.new.machine (given_of c.go_on.new.given s.log.items)) c.in_ok-note_place-in-Asks.ensures.places
-          (counted_as (program_of c.args.image.now) start (code_in c.args.image.now (start_of s.start)) (turns + c.turns.done + more) s.log.items s.places.places (Some c.in-Asks.ask.value) c.wait.new.pending
+          (counted_as (program_of c.args.image.now) start (code_in c.args.image.now (start_of s.start)) (turns + c.turns.done + more) s.log.items s.places.places
+          (Some c.in-Asks.ask.value) c.wait.new.pending
           (c.args.self.now.run.spent + c.turns.done + more) s.spent (standing c.go_on.new.machine (given_of c.go_on.new.given s.log.items)) c.wait.ensures
           (let e = i.spent in omega (arith, e))
           (went_asks c.args.image.now start (start_of s.start) (turns + c.turns.done + more) c.units-units.result.now s.log.items c.deref.result.now s.places.places i.code c.deref.ensures.value
@@ -321,7 +322,8 @@ pub returns-clause-told : goal.returns-clause-told
 returns-clause-told c = λ start (turns, is).
     let i = c.turns.invariant in
     let s = c.turns.self-inside in
-    told_ran (program_of c.args.image.now) start (code_in c.args.image.now (start_of s.start)) s.log.items s.places.places s.pending c.min-self-inside.result (standing s.machine (given_of s.given s.log.items)) (
+    told_ran (program_of c.args.image.now) start (code_in c.args.image.now (start_of s.start)) s.log.items s.places.places s.pending c.min-self-inside.result
+    (standing s.machine (given_of s.given s.log.items)) (
       turns + c.turns.done,
       counted_as (program_of c.args.image.now) start
           (code_in c.args.image.now (start_of s.start)) (turns + c.turns.done) s.log.items s.places.places None s.pending (c.args.self.now.run.spent + c.turns.done) c.min-self-inside.result

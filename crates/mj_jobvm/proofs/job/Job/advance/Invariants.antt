@@ -12,7 +12,8 @@ abbrev pub invariant-turns : goal.invariant-turns
 invariant-turns l = record {
   most : l.done ≤ l.fuel;
   run : (start : Start) (turns : ℕ) → IsRunOfAfter l.image start turns l.fn.self
-      → IsRunOfAfter l.image start (turns + l.done) (running (start_of l.self-inside.start) l.self-inside.machine l.self-inside.log.items l.self-inside.places.places l.self-inside.given None (l.fn.self.run.spent + l.done));
+      → IsRunOfAfter l.image start (turns + l.done) (running (start_of l.self-inside.start) l.self-inside.machine l.self-inside.log.items l.self-inside.places.places
+      l.self-inside.given None (l.fn.self.run.spent + l.done));
   code : l.units ≡ l.image.units;
   small : AreSmall l.units;
   checked : AreChecked l.units;

@@ -32,6 +32,7 @@ returns-in-Some-clause-run c = λ image start within is.
     let s = c.self.inside in
     let P : Running → Type 0 = λ j. IsRunOf image start j in
     let Q : Running → Type 0 = λ j. FitsPending j.run.pending c.args.reply in
-    answered_by image start (start_of s.start) s.machine s.log.items c.push_reserved.new.self.items s.places.places c.keep.new.self.places s.given s.pending c.take.new.self s.spent c.in-Some.ask c.args.reply within
+    answered_by image start (start_of s.start) s.machine s.log.items c.push_reserved.new.self.items s.places.places c.keep.new.self.places s.given s.pending c.take.new.self
+    s.spent c.in-Some.ask c.args.reply within
     (sym c.take.ensures.value ∙ c.in-Some.is) (subst Q (sym c.self.view_is) c.requires) c.push_reserved.ensures.items c.take.ensures.after
     (c.keep.ensures ∙ ap (λ next. s.places.places ++ next ∷ []) (c.self.invariant (waits s.pending c.in-Some.ask (sym c.take.ensures.value ∙ c.in-Some.is))).2) (subst P (sym c.self.view_is) is)

@@ -53,7 +53,8 @@ returns-else-halted-clause-on g c =
     let free = subst P c.if-halted.false at in
     let T : Turn → Type 0 = λ t. AdvanceTells (program_of c.args.self.now.image.now) start t c.advance.new.self.run in
     let asks = subst T c.in-Ok-Asks.field-0-is (c.in-Ok-Asks.ensures.told start c.requires.own.run) in
-    answered_at ans c.args.self.now.image.now c.args.claim.now c.advance.new.self c.args.answerer.now g.O.Opening.opening c.answer.new.claim c.answer.new.job c.answer.new.answerer asks.0 c.answer.result
+    answered_at ans c.args.self.now.image.now c.args.claim.now c.advance.new.self c.args.answerer.now g.O.Opening.opening c.answer.new.claim c.answer.new.job c.answer.new.answerer
+    asks.0 c.answer.result
     free (c.answer.ensures.answered asks.0 asks.1) (c.answer.ensures.halts asks.0 asks.1)
 
 pub returns-else-halted-clause-ran : goal.returns-else-halted-clause-ran
@@ -65,7 +66,8 @@ returns-else-halted-clause-ran g c =
     let free = subst P c.if-halted.false at in
     let T : Turn → Type 0 = λ t. AdvanceTells (program_of c.args.self.now.image.now) start t c.advance.new.self.run in
     let asks = subst T c.in-Ok-Asks.field-0-is (c.in-Ok-Asks.ensures.told start c.requires.own.run) in
-    answered_ran ans c.args.self.now.image.now c.args.claim.now c.advance.new.self c.args.answerer.now g.O.Opening.opening c.answer.new.claim c.answer.new.job c.answer.new.answerer asks.0 c.answer.result
+    answered_ran ans c.args.self.now.image.now c.args.claim.now c.advance.new.self c.args.answerer.now g.O.Opening.opening c.answer.new.claim c.answer.new.job c.answer.new.answerer
+    asks.0 c.answer.result
     (asks.2.0, _, _, asks.2.1) free (c.answer.ensures.answered asks.0 asks.1)
 
 pub returns-then-halted-clause-why : goal.returns-then-halted-clause-why
