@@ -424,7 +424,8 @@ module _ (image : List Routine) (units : List unit.Unit) (alike : LeadAlike imag
         let has_body = has_back code_here first cr cb back.1 in
         let len : close + length cb ≡ pc + length (cs ++ i ∷ (cr ++ cb)) = omega (arith, length-append cs (i ∷ (cr ++ cb)), length-append cr cb) in
         let behind : Agree b (there loops (close + length cb)) ways.line_end = moved units u c at b _ _ [] ways.line_end len h in
-        local_follows units u c at b (points_of image d) here (does_calls b d deep lines loops) v i pc [] (λ x. ranges (points_of image d) here x rs steps ways) (has_front code_here pc cs _ has) back.0 (λ ss n lt many.
+        local_follows units u c at b (points_of image d) here (does_calls b d deep lines loops) v i pc [] (λ x. ranges (points_of image d) here x rs steps ways)
+        (has_front code_here pc cs _ has) back.0 (λ ss n lt many.
         let opened : List (List ℕ) → Stack → Name → Timed = λ l st x. exec units n (in_frame (record { name = x; passes = Once; body = close + 1; resume = first } ∷ loops)) first st in
         ap (λ l. given (name_of Local (reference v).word l) (λ x. exec units n
         (in_frame (record { name = x; passes = Once; body = close + 1; resume = first } ∷ loops)) first (drop (reference v).count (onto ss []))) n) (operands_are ss [] _ many)
@@ -465,7 +466,8 @@ module _ (image : List Routine) (units : List unit.Unit) (alike : LeadAlike imag
     rest_follows command c done steps f b d deep lines loops out ways pc has h quits leaves made =
         let cc = code_if pc c (λ p. command_code here p out command) in
         let cs = steps_code here (pc + length cc) out steps in
-        when_follows units u (in_frame loops) at b (points_of image d) here (does_calls b d deep lines loops) c (λ p. command_code here p out command) done (obey_all (points_of image d) here steps ways) pc []
+        when_follows units u (in_frame loops) at b (points_of image d) here (does_calls b d deep lines loops) c (λ p. command_code here p out command) done
+        (obey_all (points_of image d) here steps ways) pc []
         (has_front code_here pc cc cs has) made
         (f b d deep lines loops out ways (pc + length cc) (has_back code_here pc cc cs has) (moved units u (in_frame loops) at b _ _ [] ways.line_end (seam pc cc cs) h) quits leaves)
 

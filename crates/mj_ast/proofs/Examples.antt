@@ -57,7 +57,8 @@ unfolding lexemes
 lone_dollars = refl
 
 -- `$$` and a label are one token
-two_dollars : tokens (codes "$$A1(X)$$^R$$01$$$L") ≡ Invoked (codes "A1") ∷ Signed Open ∷ Word (codes "X") ∷ Signed Close ∷ Dollars ∷ Signed Caret ∷ Word (codes "R") ∷ Numbered (codes "01") ∷ Dollars ∷ Special (codes "L") ∷ []
+two_dollars : tokens (codes "$$A1(X)$$^R$$01$$$L") ≡ Invoked (codes "A1") ∷ Signed Open ∷ Word (codes "X") ∷ Signed Close ∷ Dollars ∷ Signed Caret ∷ Word (codes "R") ∷ Numbered
+    (codes "01") ∷ Dollars ∷ Special (codes "L") ∷ []
 unfolding lexemes
 two_dollars = refl
 

@@ -60,7 +60,7 @@ fn put_held(bytes: &mut Vec<u8>, held: &Held) -> Result<(), AllocError>
     ensures { OnOk result (bytes.new.items ≡ bytes.old.items ++ held_text held.now) }
 {
     match held {
-        Held::Name(name) => put_name(bytes, name),
+        Held::Name(name) => put_name(bytes, name.get()),
         Held::Device(device) => put_text(bytes, device),
     }
 }

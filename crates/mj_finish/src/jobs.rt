@@ -107,7 +107,7 @@ fn place<D: Device, O: Opening>(core: &Core<D, Sessions<D>, O>, job: u32) -> Opt
 fn held_bytes(alloc: Global, held: &Held) -> Result<Vec<u8>, AllocError> {
     let mut bytes = Vec::new(alloc);
     match held {
-        Held::Name(name) => put_name(&mut bytes, name)?,
+        Held::Name(name) => put_name(&mut bytes, name.get())?,
         Held::Device(device) => put_text(&mut bytes, device)?,
     }
     Ok(bytes)

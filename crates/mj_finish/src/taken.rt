@@ -53,7 +53,7 @@ fn takes(ask: &Ask, reply: &Reply, held: &Held) -> bool
     match (ask, reply, held) {
         (Ask::Shared(SharedAsk::Try(names, _)), Reply::Got, Held::Name(name)) => is_among(
             names.as_slice(),
-            name,
+            name.get(),
         ),
         (Ask::Shared(SharedAsk::Open(device, _)), Reply::Got, Held::Device(name)) => *device
             == *name,

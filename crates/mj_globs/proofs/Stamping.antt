@@ -262,7 +262,8 @@ module _ (n : Name) (a b : Stamped) (c : Content) (t : Stamps) (opened : stamped
 
   pub killed_rises : (d : Content) → AreStamped (stamped c t) → d ≡ after_kill c n → Rises a (stamped d t)
   killed_rises d is change =
-      subst (λ (x : Content). Rises a (stamped x t)) (sym change) (subst (λ (x : Content). Rises (stamped x a.stamps) (stamped (after_kill c n) t)) content_opened (rises_kill n c a.stamps t is raised_opened))
+      subst (λ (x : Content). Rises a (stamped x t)) (sym change) (subst (λ (x : Content). Rises (stamped x a.stamps) (stamped (after_kill c n) t)) content_opened
+      (rises_kill n c a.stamps t is raised_opened))
 
   pub restored_rises : (v : Option (List ℕ)) (d : Content) → AreStamped (stamped c t) → d ≡ restored name_cmp n v c → Rises a (stamped d t)
   restored_rises v d is change =

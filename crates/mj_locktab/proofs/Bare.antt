@@ -1,6 +1,6 @@
 -- What is told of a node that is bare, and that no tree keeps one.
-use Rattle.std.proofs.Common.{◌≡◌, ℕ, ◌+◌, Bool, true, false, cond, not, ◌&&◌, List, [], ◌∷◌, length, Option, Some, None, Result, Ok, Err, refl, sym, ap, ◌∙◌, subst, arith, eq-eqb}
-use Rattle.std.specs.Prelude.{◌==◌, is_some, unwrap_or, OnOk, OnErr}
+use Rattle.std.proofs.Common.{◌≡◌, ℕ, ◌+◌, Bool, true, false, cond, not, ◌&&◌, List, [], ◌∷◌, length, Option, Some, None, refl, sym, ap, ◌∙◌, subst, arith, eq-eqb}
+use Rattle.std.specs.Prelude.{◌==◌, is_some, unwrap_or}
 use Rattle.std.specs.declared.cmp.Ordering.{Ordering}
 use Rattle.std.specs.Ordering.{nat_cmp}
 use Rattle.std.specs.Map.{lookup}
@@ -29,12 +29,6 @@ more_told child before place within job inside more bare =
 pub alike_bare : (old new : Stands) → AreAlike (stand_at old) (stand_at new) → IsBare new → IsBare old
 alike_bare old new alike bare = record { holders = λ p. sym (alike.holders p) ∙ bare.holders p; tallies = λ p j. sym (alike.tallies p j) ∙ bare.tallies p j }
 
--- of a node that wasn't bare, after a name more was asked for
-pub tried_told : {A E : Type 0} (r : Result A E) (old new : Stands) (place within : List (List ℕ) → Bool) (job : ℕ) → within [] ≡ true
-    → OnOk r (HasOneMore (stand_at old) (stand_at new) place within job) → OnErr r (AreAlike (stand_at old) (stand_at new)) → (IsBare old → ⊥) → IsBare new → ⊥
-tried_told (Ok x) old new place within job inside ok err told bare = more_told new (stand_at old) place within job inside ok bare
-tried_told (Err e) old new place within job inside ok err told bare = told (alike_bare old new err bare)
-
 pub told_false : (b : Bool) → b ≡ false → b ≡ true → ⊥
 told_false b off on = let never : ⊥ = cc in never
 
@@ -54,17 +48,11 @@ none_bare_written R ks new s after kept written told = λ q child found bare.
 pub one_told : (x : Stands) → (IsBare x → ⊥) → (c : Stands) → Some x ≡ Some c → IsBare c → ⊥
 one_told x told c e bare = told (subst IsBare (sym (ap (λ (o : Option Stands). unwrap_or o x) e)) bare)
 
-pub none_told : (c : Stands) → None ≡ Some c → IsBare c → ⊥
+none_told : (c : Stands) → None ≡ Some c → IsBare c → ⊥
 none_told c e bare = cc
 
 pub none_in_none : (R : List ℕ → List ℕ → Ordering) (ks : Kids) → ks ≡ [] → NoneBare R ks
 none_in_none R ks empty = subst (NoneBare R) (sym empty) (λ q child found bare. none_told child found bare)
-
--- a tree is put, or nothing is where no memory is left
-pub none_bare_put : {A E Y : Type 0} (r : Result A E) (R : List ℕ → List ℕ → Ordering) (seen : Y → Kids) (ks : Kids) (mid new : Y) (s : List ℕ) (x : Stands) → seen mid ≡ ks
-    → OnOk r (IsWritten R (seen mid) (seen new) s (Some x)) → OnErr r (new ≡ mid) → (IsBare x → ⊥) → NoneBare R ks → NoneBare R (seen new)
-none_bare_put (Ok y) R seen ks mid new s x same ok err told kept = none_bare_written R (seen mid) (seen new) s (Some x) (subst (NoneBare R) (sym same) kept) ok (one_told x told)
-none_bare_put (Err e) R seen ks mid new s x same ok err told kept = subst (NoneBare R) (sym (ap seen err ∙ same)) kept
 
 -- ---- a bare node keeps nothing
 

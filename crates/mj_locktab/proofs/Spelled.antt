@@ -6,15 +6,13 @@ use Rattle.std.specs.declared.cmp.Ordering.TheVariants.{Less, Equal, Greater}
 use Rattle.std.specs.Ordering.{is_eq, eq_by_cmp, match_ordering}
 use Rattle.std.specs.Cmp.{IsTotalOrder}
 use Rattle.std.specs.Str.{bytes_eq}
-use Rattle.std.specs.List.{AllZip, AllByRecursion}
-use Rattle.std.specs.List.Sorted.{IsStrictlySortedBy}
-use Rattle.std.specs.Map.{keys_of, lookup, set_value, remove_entry}
+use Rattle.std.specs.List.{AllZip}
+use Rattle.std.specs.Map.{lookup, set_value}
 use Rattle.std.specs.BTreeMap.{is_at, insert_entry}
 use Rattle.std.specs.FinMap.{find, put}
 use Rattle.std.specs.FinMap.Entries.{find-put, by_order}
 use Rattle.std.proofs.lemmas.Cmp.{nat_list_cmp_total, eq_by_cmp_equiv}
-use Rattle.std.proofs.lemmas.Map.{lookup-set_value, lookup-remove_entry}
-use Rattle.std.proofs.lemmas.Map.Keys.{IsDistinct-from_sorted}
+use Rattle.std.proofs.lemmas.Map.{lookup-set_value}
 use Rattle.std.proofs.lemmas.Map.Text.{is_eq-slice_cmp}
 use Rattle.mj_subs.specs.Name.{Name, names_eq}
 use Rattle.mj_locktab.specs.Trees.{Stands, Kids, word_cmp, spelled, at_words, at_name, is_place_of, is_place_above, is_at_or_above, paths_eq, is_front, stand_in, kid_at, holder_of, tally_of, is_in_way, NoOther, IsLeastOther, AreAlike, HasOneMore, HasOneLess, IsWritten}
@@ -43,15 +41,6 @@ module _ (f : List ℕ → Ordering) where
         | false ↦ ap (λ (r : Kids). (e.0.items, e.1) ∷ r) (set_spelled es w)
       ]
 
-  remove_spelled : (es : List (Vec ℕ Global × Stands)) → spelled (remove_entry (is_at (λ (k : Vec ℕ Global). f k.items)) es) ≡ remove_entry (is_at f) (spelled es)
-  remove_spelled [] = refl
-  remove_spelled (e ∷ es) =
-      elim (is_eq (f e.0.items)) as (λ b. spelled (cond b es (e ∷ remove_entry (is_at (λ (k : Vec ℕ Global). f k.items)) es))
-      ≡ cond b (spelled es) ((e.0.items, e.1) ∷ remove_entry (is_at f) (spelled es))) [
-        | true ↦ refl
-        | false ↦ ap (λ (r : Kids). (e.0.items, e.1) ∷ r) (remove_spelled es)
-      ]
-
 insert_spelled : (es : List (Vec ℕ Global × Stands)) (k : Vec ℕ Global) (w : Stands)
     → spelled (insert_entry (λ (x y : Vec ℕ Global). word_cmp x.items y.items) es k w) ≡ put word_cmp k.items w (spelled es)
 insert_spelled [] k w = refl
@@ -67,17 +56,7 @@ find_lookup : (es : Kids) (q : List ℕ) → find word_cmp q es ≡ lookup (is_a
 find_lookup [] q = refl
 find_lookup (e ∷ es) q = ap (cond (is_at (word_cmp q) e.0) (Some e.1)) (find_lookup es q)
 
--- that the words rise is told by their bytes
-pub rises_spelled : (es : List (Vec ℕ Global × Stands)) → IsStrictlySortedBy (λ (x y : Vec ℕ Global). word_cmp x.items y.items) (keys_of es) → IsStrictlySortedBy word_cmp (keys_of (spelled es))
-unfolding IsStrictlySortedBy
-rises_spelled [] h = tt
-rises_spelled (e ∷ es) h = (above e.0 es h.0, rises_spelled es h.1) where
-  above : (k : Vec ℕ Global) (xs : List (Vec ℕ Global × Stands)) → AllByRecursion (λ (y : Vec ℕ Global). word_cmp k.items y.items ≡ Less) (keys_of xs)
-      → AllByRecursion (λ y. word_cmp k.items y ≡ Less) (keys_of (spelled xs))
-  above k [] a = tt
-  above k (x ∷ xs) a = (a.0, above k xs a.1)
-
--- ---- a word whose tree is written over, put there or taken out
+-- ---- a word whose tree is written over or put there
 
 one_key : (w x y : List ℕ) → is_at (word_cmp w) x ≡ true → is_at (word_cmp w) y ≡ eq_by_cmp word_cmp x y
 one_key w x y t = ap is_eq (word_cmp_total.congr w x y (tied (word_cmp w x) t)) where
@@ -105,13 +84,6 @@ word_put es new k w child same added = λ q.
     ∙ ap (λ b. cond b (Some child) (find word_cmp q (spelled es))) ((eq_by_cmp_equiv word_cmp_total).symm q k.items)
     ∙ ap (λ (o : Option Stands). cond (is_at (word_cmp k.items) q) (Some child) o) (find_lookup (spelled es) q)
     ∙ ap (λ (x : List ℕ). cond (is_at (word_cmp x) q) (Some child) (lookup (is_at (word_cmp q)) (spelled es))) same
-
-pub word_gone : (es new : List (Vec ℕ Global × Stands)) (w : List ℕ) → IsStrictlySortedBy word_cmp (keys_of (spelled es)) → new ≡ remove_entry (is_at (λ (k : Vec ℕ Global). word_cmp w k.items)) es
-    → IsWritten word_cmp (spelled es) (spelled new) w None
-word_gone es new w rises removed = λ q.
-    ap (λ (xs : List (Vec ℕ Global × Stands)). lookup (is_at (word_cmp q)) (spelled xs)) removed
-    ∙ ap (λ (xs : Kids). lookup (is_at (word_cmp q)) xs) (remove_spelled (word_cmp w) es)
-    ∙ lookup-remove_entry (eq_by_cmp_equiv word_cmp_total) (is_at (word_cmp w)) (one_key w) q (spelled es) (IsDistinct-from_sorted word_cmp (keys_of (spelled es)) rises)
 
 -- ---- a change of the tree of a word
 

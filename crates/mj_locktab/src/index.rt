@@ -20,13 +20,11 @@ pub struct Index {
 }
 
 impl Model for Index {
-    ghost use Rattle.mj_locktab.specs.Trees.{Kinds, word_cmp, spelled, NoneBare};
+    ghost use Rattle.mj_locktab.specs.Trees.{Kinds, spelled};
 
     ghost Value = { Kinds };
 
     ghost view = { λ a. record { globals = spelled a.globals.entries; locals = spelled a.locals.entries } };
-
-    ghost invariant = { λ a. NoneBare word_cmp (spelled a.globals.entries) × NoneBare word_cmp (spelled a.locals.entries) };
 }
 
 impl Index {

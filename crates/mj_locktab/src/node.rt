@@ -8,7 +8,7 @@ ghost use Rattle.mj_locktab.specs.Trees.{AreAlike, IsBare, HasOneMore, HasOneLes
 ghost use Rattle.std.specs.Map.{lookup};
 ghost use Rattle.std.specs.BTreeMap.{is_at, insert_entry, IsOrdered};
 
-use crate::tally::{self, Tallies};
+use crate::tally::Tallies;
 use mj_subs::Sub;
 use std::alloc::{AllocError, Global};
 use std::collections::BTreeMap;
@@ -51,20 +51,20 @@ impl Node {
         ensures ok { OnOk result (HasOneMore (stand_at self.old) (stand_at self.new) (λ p. paths_eq p path.now) (λ p. is_front p path.now) job) }
         ensures err { OnErr result (AreAlike (stand_at self.old) (stand_at self.new)) }
     {
-        tally::raise(&mut self.tallies, self.alloc, job)?;
+        self.tallies.raise(self.alloc, job)?;
         let [sub, rest @ ..] = path else {
             self.holder = Some(job);
             return Ok(());
         };
         let Some(child) = self.children.get_mut(sub) else {
             if let Err(error) = grow(&mut self.children, self.alloc, job, sub, rest) {
-                tally::lower(&mut self.tallies, job);
+                self.tallies.lower(job);
                 return Err(error);
             }
             return Ok(());
         };
         if let Err(error) = child.mark(job, rest) {
-            tally::lower(&mut self.tallies, job);
+            self.tallies.lower(job);
             return Err(error);
         }
         Ok(())
@@ -74,7 +74,7 @@ impl Node {
     pub fn unmark(&mut self, job: u32, path: &[Sub])
         ensures { HasOneLess (stand_at self.old) (stand_at self.new) (λ p. paths_eq p path.now) (λ p. is_front p path.now) job }
     {
-        tally::lower(&mut self.tallies, job);
+        self.tallies.lower(job);
         let [sub, rest @ ..] = path else {
             self.holder = None;
             return;
@@ -92,7 +92,7 @@ impl Node {
     pub fn is_bare(&self) -> bool
         ensures { IsTrue result ↔ IsBare self.now }
     {
-        self.holder.is_none() && tally::is_empty(&self.tallies) && self.children.is_empty()
+        self.holder.is_none() && self.tallies.is_empty() && self.children.is_empty()
     }
 
     /// The lowest other job that has a name in the way of a list of subscripts. It looks at no more nodes below than there are subscripts.
@@ -102,7 +102,7 @@ impl Node {
         ensures looked { min visits.old (2 ^ 64 - 1) ≤ visits.new }
     {
         let [sub, rest @ ..] = path else {
-            return tally::first_other(&self.tallies, job);
+            return self.tallies.first_other(job);
         };
         let below = match self.down(sub, visits) {
             None => None,
@@ -132,7 +132,7 @@ impl Node {
         Ok(Node {
             alloc: self.alloc,
             holder: self.holder,
-            tallies: tally::copy(&self.tallies)?,
+            tallies: self.tallies.try_clone()?,
             children,
         })
     }

@@ -9,7 +9,7 @@ ghost use Rattle.mj_locktab.specs.Told.{visits_limit, visits_least};
 use crate::held::{self, Parts};
 use crate::index::Index;
 use crate::taken::Taken;
-use mj_subs::Name;
+use mj_subs::{Name, SharedName};
 use std::alloc::{AllocError, Global};
 use std::collections::BTreeMap;
 use std::marker::Model;
@@ -63,7 +63,7 @@ impl LockTable {
         let mut visits = 0;
         match held::conflict_of(&self.held, &self.index, job, names, &mut visits) {
             Some((holder, in_the_way, _)) => {
-                let name = in_the_way.try_clone()?;
+                let name = shared(self.alloc, in_the_way)?;
                 self.visits = visits;
                 Ok(Taken::Busy { holder, name })
             }
@@ -135,4 +135,11 @@ impl LockTable {
     {
         let _held = &self.held; // for the proof
     }
+}
+
+// A copy of a name behind a pointer, so that what is told of it is small.
+fn shared(alloc: Global, name: &Name) -> Result<SharedName, AllocError>
+    ensures { IfOk result (λ shared. shared ≡ name.now) }
+{
+    SharedName::new(alloc, name.try_clone()?)
 }

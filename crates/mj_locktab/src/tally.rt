@@ -19,40 +19,94 @@ pub enum Tallies {
     More(BTreeMap<u32, u32>),
 }
 
-/// Whether no job is told.
-pub fn is_empty(tallies: &Tallies) -> bool
-    ensures { IsTrue result ↔ (length (tallies_of tallies.now) ≡ 0) }
-{
-    match tallies {
-        Tallies::Empty => true,
-        Tallies::One { .. } => false,
-        Tallies::More(map) => map.is_empty(),
+impl Tallies {
+    /// Whether no job is told.
+    pub fn is_empty(&self) -> bool
+        ensures { IsTrue result ↔ (length (tallies_of self.now) ≡ 0) }
+    {
+        match self {
+            Tallies::Empty => true,
+            Tallies::One { .. } => false,
+            Tallies::More(map) => map.is_empty(),
+        }
     }
-}
 
-/// One name more of the job.
-pub fn raise(tallies: &mut Tallies, alloc: Global, job: u32) -> Result<(), AllocError>
-    requires { tally (tallies_of tallies.old) job < 2 ^ 32 - 1 }
-    ensures ok { OnOk result ((j : ℕ) → tally (tallies_of tallies.new) j ≡ tally (tallies_of tallies.old) j + (if j == job then 1 else 0)) }
-    ensures err { OnErr result (tallies_of tallies.new ≡ tallies_of tallies.old) }
-    ensures counted { AreCounted (tallies_of tallies.old) → AreCounted (tallies_of tallies.new) }
-{
-    match tallies {
-        Tallies::Empty => {
-            *tallies = Tallies::One { own: job, count: 1 };
-            Ok(())
-        }
-        Tallies::One { own, count } => {
-            if *own == job {
-                *count += 1;
-                return Ok(());
+    /// One name more of the job.
+    pub fn raise(&mut self, alloc: Global, job: u32) -> Result<(), AllocError>
+        requires { tally (tallies_of self.old) job < 2 ^ 32 - 1 }
+        ensures ok { OnOk result ((j : ℕ) → tally (tallies_of self.new) j ≡ tally (tallies_of self.old) j + (if j == job then 1 else 0)) }
+        ensures err { OnErr result (tallies_of self.new ≡ tallies_of self.old) }
+        ensures counted { AreCounted (tallies_of self.old) → AreCounted (tallies_of self.new) }
+    {
+        match self {
+            Tallies::Empty => {
+                *self = Tallies::One { own: job, count: 1 };
+                Ok(())
             }
-            let mut map = only(alloc, *own, *count)?;
-            raise_in(&mut map, job)?;
-            *tallies = Tallies::More(map);
-            Ok(())
+            Tallies::One { own, count } => {
+                if *own == job {
+                    *count += 1;
+                    return Ok(());
+                }
+                let mut map = only(alloc, *own, *count)?;
+                raise_in(&mut map, job)?;
+                *self = Tallies::More(map);
+                Ok(())
+            }
+            Tallies::More(map) => raise_in(map, job),
         }
-        Tallies::More(map) => raise_in(map, job),
+    }
+
+    /// One name less of the job, where it has one.
+    pub fn lower(&mut self, job: u32)
+        ensures less { (j : ℕ) → tally (tallies_of self.new) j ≡ tally (tallies_of self.old) j - (if j == job then 1 else 0) }
+        ensures counted { AreCounted (tallies_of self.old) → AreCounted (tallies_of self.new) }
+    {
+        match self {
+            Tallies::Empty => {}
+            Tallies::One { own, count } => {
+                if *own != job {
+                    return;
+                }
+                if *count > 1 {
+                    *count -= 1;
+                } else {
+                    *self = Tallies::Empty;
+                }
+            }
+            Tallies::More(map) => lower_in(map, job),
+        }
+    }
+
+    /// The lowest other job that has a name. As a job without one is rarely told, it looks at two of them.
+    pub fn first_other(&self, job: u32) -> Option<u32>
+        ensures { MatchOption result (NoOther (λ j. nat_lt 0 (tally (tallies_of self.now) j)) job)
+            (IsLeastOther (λ j. nat_lt 0 (tally (tallies_of self.now) j)) job) }
+    {
+        match self {
+            Tallies::Empty => None,
+            Tallies::One { own, count } => {
+                if has_one(*own, *count, job) {
+                    return Some(*own);
+                }
+                None
+            }
+            Tallies::More(map) => first_other_in(map, job),
+        }
+    }
+
+    /// A copy.
+    pub fn try_clone(&self) -> Result<Tallies, AllocError>
+        ensures { IfOk result (λ copy. tallies_of copy ≡ tallies_of self.now) }
+    {
+        match self {
+            Tallies::Empty => Ok(Tallies::Empty),
+            Tallies::One { own, count } => Ok(Tallies::One {
+                own: *own,
+                count: *count,
+            }),
+            Tallies::More(map) => Ok(Tallies::More(map.clone()?)),
+        }
     }
 }
 
@@ -84,27 +138,6 @@ fn raise_in(map: &mut BTreeMap<u32, u32>, job: u32) -> Result<(), AllocError>
     }
 }
 
-/// One name less of the job, where it has one.
-pub fn lower(tallies: &mut Tallies, job: u32)
-    ensures less { (j : ℕ) → tally (tallies_of tallies.new) j ≡ tally (tallies_of tallies.old) j - (if j == job then 1 else 0) }
-    ensures counted { AreCounted (tallies_of tallies.old) → AreCounted (tallies_of tallies.new) }
-{
-    match tallies {
-        Tallies::Empty => {}
-        Tallies::One { own, count } => {
-            if *own != job {
-                return;
-            }
-            if *count > 1 {
-                *count -= 1;
-            } else {
-                *tallies = Tallies::Empty;
-            }
-        }
-        Tallies::More(map) => lower_in(map, job),
-    }
-}
-
 // One name less of the job, in a map.
 fn lower_in(map: &mut BTreeMap<u32, u32>, job: u32)
     ensures less { (j : ℕ) → tally map.new.entries j ≡ tally map.old.entries j - (if j == job then 1 else 0) }
@@ -117,23 +150,6 @@ fn lower_in(map: &mut BTreeMap<u32, u32>, job: u32)
         *count -= 1;
     } else {
         let _gone = map.remove(&job);
-    }
-}
-
-/// The lowest other job that has a name. As a job without one is rarely told, it looks at two of them.
-pub fn first_other(tallies: &Tallies, job: u32) -> Option<u32>
-    ensures { MatchOption result (NoOther (λ j. nat_lt 0 (tally (tallies_of tallies.now) j)) job)
-        (IsLeastOther (λ j. nat_lt 0 (tally (tallies_of tallies.now) j)) job) }
-{
-    match tallies {
-        Tallies::Empty => None,
-        Tallies::One { own, count } => {
-            if has_one(*own, *count, job) {
-                return Some(*own);
-            }
-            None
-        }
-        Tallies::More(map) => first_other_in(map, job),
     }
 }
 
@@ -154,18 +170,4 @@ fn has_one(other: u32, count: u32, job: u32) -> bool
     ensures { result ≡ (not (other == job) && nat_lt 0 count) }
 {
     other != job && count > 0
-}
-
-/// A copy.
-pub fn copy(tallies: &Tallies) -> Result<Tallies, AllocError>
-    ensures { IfOk result (λ copy. tallies_of copy ≡ tallies_of tallies.now) }
-{
-    match tallies {
-        Tallies::Empty => Ok(Tallies::Empty),
-        Tallies::One { own, count } => Ok(Tallies::One {
-            own: *own,
-            count: *count,
-        }),
-        Tallies::More(map) => Ok(Tallies::More(map.clone()?)),
-    }
 }

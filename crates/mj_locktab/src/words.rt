@@ -1,12 +1,11 @@
 // The words of one kind, each with the tree of its names that are held.
 
 ghost use Rattle.std.specs.Prelude.{◌≡◌, ℕ, ◌+◌, ◌-◌, ◌^◌, min, ◌<◌, ◌≤◌, List, length, Option, Some, None, option_copied, IfOk, OnOk, OnErr, MatchOption};
-ghost use Rattle.std.specs.Map.{lookup, keys_of};
+ghost use Rattle.std.specs.Map.{lookup};
 ghost use Rattle.std.specs.BTreeMap.{is_at};
-ghost use Rattle.std.specs.List.Sorted.{IsStrictlySortedBy};
 ghost use Rattle.mj_locktab.specs.declared.held.TheConstants.{HOLDS_LIMIT};
 ghost use Rattle.mj_locktab.specs.Trees.{word_cmp, spelled, kid_at, at_words, is_place_of, is_place_above, tally_of, is_in_way};
-ghost use Rattle.mj_locktab.specs.Trees.{AreAlike, NoneBare, HasOneMore, HasOneLess, IsWritten, NoOther, IsLeastOther};
+ghost use Rattle.mj_locktab.specs.Trees.{AreAlike, HasOneMore, HasOneLess, IsWritten, NoOther, IsLeastOther};
 
 use crate::node::{Node, chain};
 use mj_subs::Name;
@@ -46,7 +45,6 @@ pub fn mark(words: &mut Words, alloc: Global, job: u32, name: &Name) -> Result<(
     ensures ok { OnOk result
         (HasOneMore (at_words (spelled words.old.entries)) (at_words (spelled words.new.entries)) (is_place_of name.now) (is_place_above name.now) job) }
     ensures err { OnErr result (AreAlike (at_words (spelled words.old.entries)) (at_words (spelled words.new.entries))) }
-    ensures kept { NoneBare word_cmp (spelled words.old.entries) → NoneBare word_cmp (spelled words.new.entries) }
 {
     let mut digits = Digits::new();
     let key = name.word().bytes(&mut digits);
@@ -59,21 +57,16 @@ pub fn mark(words: &mut Words, alloc: Global, job: u32, name: &Name) -> Result<(
     }
 }
 
-/// Has the job hold a name of these words no more.
+/// Has the job hold a name of these words no more. The tree of its word stays, bare or not, for the next name of that word: a program has few words, and
+/// gives one up only to take it again.
 pub fn unmark(words: &mut Words, job: u32, name: &Name)
-    ensures after { HasOneLess (at_words (spelled words.old.entries)) (at_words (spelled words.new.entries)) (is_place_of name.now)
-        (is_place_above name.now) job }
-    ensures kept { NoneBare word_cmp (spelled words.old.entries) → NoneBare word_cmp (spelled words.new.entries) }
+    ensures { HasOneLess (at_words (spelled words.old.entries)) (at_words (spelled words.new.entries)) (is_place_of name.now) (is_place_above name.now) job }
 {
     let mut digits = Digits::new();
-    let key = name.word().bytes(&mut digits);
-    let Some(node) = words.get_mut(key) else {
+    let Some(node) = words.get_mut(name.word().bytes(&mut digits)) else {
         return;
     };
     node.unmark(job, name.subscripts().as_slice());
-    if node.is_bare() {
-        remove(words, key);
-    }
 }
 
 // Puts the tree of a word.
@@ -83,14 +76,6 @@ fn put(words: &mut Words, alloc: Global, word: &[u8], node: Node) -> Result<(), 
 {
     words.insert(Vec::from_slice(alloc, word)?, node)?;
     Ok(())
-}
-
-// Takes the tree of a word out.
-fn remove(words: &mut Words, word: &[u8])
-    requires { IsStrictlySortedBy word_cmp (keys_of (spelled words.old.entries)) }
-    ensures { IsWritten word_cmp (spelled words.old.entries) (spelled words.new.entries) word.now None }
-{
-    let _gone = words.remove(word);
 }
 
 /// A copy.

@@ -257,7 +257,8 @@ unfolding digits
 ends_at_the_mark = refl
 
 --  TSTART  DO A FOR  QUIT /  TCOMMIT  WRITE "e" QUIT / A QUIT: the QUIT of a frame above, and of a FOR
-quits_above : says (line (tstart ∷ cmd (Do (do_it (here "A") [] ∷ [])) ∷ cmd Forever ∷ cmd (Quit None) ∷ []) ∷ line (tcommit ∷ write (text "e" ∷ []) ∷ cmd (Quit None) ∷ []) ∷ at "A" (cmd (Quit None) ∷ []) ∷ [])
+quits_above : says (line (tstart ∷ cmd (Do (do_it (here "A") [] ∷ [])) ∷ cmd Forever ∷ cmd (Quit None) ∷ []) ∷ line (tcommit ∷ write (text "e" ∷ []) ∷ cmd (Quit None) ∷ [])
+    ∷ at "A" (cmd (Quit None) ∷ []) ∷ [])
     ≡ Some (codes "e")
 unfolding digits
 quits_above = refl

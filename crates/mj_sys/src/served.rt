@@ -1,14 +1,14 @@
 // How an ask is served, and why it isn't.
 
 use mj_ask::Reply;
-use mj_subs::Name;
+use mj_subs::SharedName;
 use mj_text::Text;
 
 /// What another job has.
 #[derive(Drop)]
 pub enum Held {
     /// a name that overlaps one of a lock
-    Name(Name),
+    Name(SharedName),
     /// the device
     Device(Text),
 }

@@ -26,7 +26,7 @@ fn a_try_looks_along_its_names_alone(rt: HostRuntime) -> Result<(), Fail> {
 
 #[test]
 fn a_try_counts_each_node_once(rt: HostRuntime) -> Result<(), Fail> {
-    assert_eq!(rt; counted(rt.alloc())?, [1, 1, 2, 2, 3, 3, 1, 2, 1]);
+    assert_eq!(rt; counted(rt.alloc())?, [1, 1, 2, 2, 3, 3, 2, 3, 1]);
     Ok(())
 }
 
@@ -79,9 +79,9 @@ fn all_counted(alloc: Global, table: &mut LockTable) -> Result<[u64; 9], Failure
     let deep = visits(table, 2, &[below.try_clone()?])?; // the word, 7, and 1 that isn't there
     let busy = visits(table, 3, &[below.try_clone()?])?; // the word, 7 and 1
     table.give_all(2);
-    let gone = visits(table, 3, &[below])?; // the word, of which no node stayed
+    let gone = visits(table, 3, &[below])?; // the word, which stayed, and 7 that isn't there any more
     table.give_all(3);
-    let two = visits(table, 3, &[apart, numbered(alloc, b"C", 7)?])?; // two words
+    let two = visits(table, 3, &[apart, numbered(alloc, b"C", 7)?])?; // the word, which stayed, and 7 that isn't there; another word
     let met = visits(
         table,
         3,
@@ -111,7 +111,7 @@ fn is_got(taken: &Taken) -> bool {
 // Whether job 1 was in the way, with a name below this one.
 fn is_met(above: &Name, taken: &Taken) -> bool {
     match taken {
-        Taken::Busy { holder, name } => *holder == 1 && above.above(name),
+        Taken::Busy { holder, name } => *holder == 1 && above.above(name.get()),
         _ => false,
     }
 }
@@ -182,7 +182,7 @@ fn is_answer(plain: &mut Plain, job: u32, name: &Name, taken: &Taken) -> Result<
 // Whether this hold is told to be in the way.
 fn is_busy(hold: Option<&(u32, Name, u32)>, taken: &Taken) -> bool {
     match (hold, taken) {
-        (Some(hold), Taken::Busy { holder, name }) => *holder == hold.0 && *name == hold.1,
+        (Some(hold), Taken::Busy { holder, name }) => *holder == hold.0 && *name.get() == hold.1,
         _ => false,
     }
 }

@@ -74,7 +74,8 @@ pub no_place_empty : (n : ℤ) (ks : Places) → ks ≡ [] → IsPlace n ks None
 no_place_empty n ks e s h = ap (λ (xs : Places). lookup (is_at (subscript_cmp s)) xs) e
 
 -- the child at a place of the row
-pub found_place : (s : List ℕ) (row others : Places) (at : ℕ) (x : List ℕ × Subtree) → IsOrdered row others → IsPlaceOf s row (Some at) → x ≡ get_or row at x → Some x.1 ≡ lookup (is_at (subscript_cmp s)) (row ++ others)
+pub found_place : (s : List ℕ) (row others : Places) (at : ℕ) (x : List ℕ × Subtree) → IsOrdered row others → IsPlaceOf s row (Some at) → x ≡ get_or row at x
+    → Some x.1 ≡ lookup (is_at (subscript_cmp s)) (row ++ others)
 found_place s row others at x o p is =
     sym (lookup_front subscript_cmp s x.1 row others
     (lookup_place subscript_cmp subscript_cmp_total row at s x (sorted_front subscript_cmp row others o.rises) p.0 (p.1 x) ∙ ap (λ (e : List ℕ × Subtree). Some e.1) (sym is)))
@@ -105,7 +106,8 @@ adds_from (Err e) old mid new s c same a = record { sound = a.sound; ok = tt; er
 pub adds_nothing : {A E : Type 0} (e : E) (old new : Children) (s : List ℕ) (c : Subtree) → IsSound new → live (all_of new) ≡ live (all_of old) → Adds {A = A} old new s c (Err e)
 adds_nothing e old new s c sound same = record { sound = sound; ok = tt; err = same }
 
-pub adds_one : {A E : Type 0} (x : A) (old new : Children) (s : List ℕ) (c : Subtree) → IsSound new → live (all_of new) ≡ insert_entry subscript_cmp (live (all_of old)) s c → Adds {E = E} old new s c (Ok x)
+pub adds_one : {A E : Type 0} (x : A) (old new : Children) (s : List ℕ) (c : Subtree) → IsSound new → live (all_of new) ≡ insert_entry subscript_cmp (live (all_of old)) s c
+    → Adds {E = E} old new s c (Ok x)
 adds_one x old new s c sound added = record { sound = sound; ok = added; err = tt }
 
 -- children with the same places

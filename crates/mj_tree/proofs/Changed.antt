@@ -52,7 +52,8 @@ pub record IsWrittenRow (s : List ℕ) (c w : Subtree) (at : ℕ) (row new other
   pub behind : 0 < at → IsTrimmed row → IsTrimmed new
   pub some : 0 < length (new ++ others)
 
-trimmed_set : (row : Places) (at : ℕ) (x : List ℕ × Subtree) (k : List ℕ) (w : Subtree) → at < length row → IsTrimmed row → (0 < length (get_or row at x).1 → 0 < length w) → IsTrimmed (slice_set row at (k, w))
+trimmed_set : (row : Places) (at : ℕ) (x : List ℕ × Subtree) (k : List ℕ) (w : Subtree) → at < length row → IsTrimmed row → (0 < length (get_or row at x).1 → 0 < length w)
+    → IsTrimmed (slice_set row at (k, w))
 trimmed_set [] at x k w lt h f = absurd (omega arith)
 trimmed_set (e ∷ es) zero x k w lt h f = f h
 trimmed_set (e ∷ es) (suc at) x k w lt h f = h
@@ -142,7 +143,8 @@ without_others s c w row others es fs o none there set gone =
         is_row = o.is_row;
         rises =
             subst (λ (xs : Places). T (is_sorted subscript_cmp xs)) (sym taken)
-            (sorted_removed subscript_cmp s (row ++ es) (subst (λ (xs : Places). T (is_sorted subscript_cmp xs)) (sym w0.written) (sorted_set_value subscript_cmp subscript_cmp_total (row ++ others) s c w o.rises w0.there)));
+            (sorted_removed subscript_cmp s (row ++ es) (subst (λ (xs : Places). T (is_sorted subscript_cmp xs)) (sym w0.written)
+            (sorted_set_value subscript_cmp subscript_cmp_total (row ++ others) s c w o.rises w0.there)));
         filled =
             subst AreFilled (sym (gone ∙ ap (λ (xs : Places). remove_entry (is_at (subscript_cmp s)) xs) set)) (filled_removed subscript_cmp s others w o.filled);
       };

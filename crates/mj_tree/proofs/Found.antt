@@ -80,7 +80,8 @@ module _ {K V : Type 0} where
   pub last_of_others : (row others : List (K × List (List K × V))) (x : Bor K × Bor (List (List K × V))) → AreFilled others → IsLast others (Some x) → IsLast (live (row ++ others)) (Some x)
   last_of_others row others x f h = subst (λ (ks : List (K × List (List K × V))). IsLast ks (Some x)) (sym (all_live row others f)) (last_behind (live row) others x h)
 
-  pub last_of_row : (row others : List (K × List (List K × V))) (r : Option (Bor K × Bor (List (List K × V)))) → AreFilled others → IsLast others None → IsLast (live row) r → IsLast (live (row ++ others)) r
+  pub last_of_row : (row others : List (K × List (List K × V))) (r : Option (Bor K × Bor (List (List K × V)))) → AreFilled others → IsLast others None → IsLast (live row) r
+      → IsLast (live (row ++ others)) r
   last_of_row row others r f h k = subst (λ (ks : List (K × List (List K × V))). IsLast ks r) (sym (all_live row others f)) (last_front (live row) others r h k)
 
   module _ (R : K → K → Ordering) (s : K) (row others : List (K × List (List K × V))) (f : AreFilled others) where

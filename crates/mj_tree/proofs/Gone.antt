@@ -22,7 +22,8 @@ pub record AreOf (text : Option (List ℕ)) (node : Subtree) (ks : List (List �
   pub view : own text ++ below ks ≡ node
   pub light : AreLighter (weight node) ks
 
-pub places_of : (text : Option (List ℕ)) (cs : Option (Box Children Global)) (c : Box Children Global) (node : Subtree) (ks : List (List ℕ × Subtree)) → own text ++ below (places cs) ≡ node → AreSound cs
+pub places_of : (text : Option (List ℕ)) (cs : Option (Box Children Global)) (c : Box Children Global) (node : Subtree) (ks : List (List ℕ × Subtree)) → own text ++ below (places cs) ≡ node
+    → AreSound cs
     → cs ≡ Some c → ks ≡ all_of c.value → AreOf text node ks
 places_of text cs c node ks view h is all =
     let sound = sound_in cs c h is in

@@ -47,7 +47,8 @@ row_pushed s c n (k ∷ ks) r h e =
     let is : n ≡ r.0 +ℤ pos (suc (length ks)) = omega (arith, ints) in (r.0, numbers_pushed r.0 (k ∷ ks) s c r.1 (subst (IsNumber s) is h))
 
 -- the next number is put behind a row
-pub pushed : (s : List ℕ) (c : Subtree) (n : ℤ) (row others : Places) → IsOrdered row others → IsNumber s n → IsEnd row 0 n → T (below_all subscript_cmp s others) → IsOrdered (row ++ (s, c) ∷ []) others
+pub pushed : (s : List ℕ) (c : Subtree) (n : ℤ) (row others : Places) → IsOrdered row others → IsNumber s n → IsEnd row 0 n → T (below_all subscript_cmp s others)
+    → IsOrdered (row ++ (s, c) ∷ []) others
 pushed s c n row others o h e b = record {
   is_row = row_pushed s c n row o.is_row h e;
   rises =
@@ -83,7 +84,8 @@ end_pushed n gap s c (k ∷ ks) e =
     let is : n ≡ number_of k.0 +ℤ pos (suc (length (ks ++ (s, c) ∷ [])) + gap) = omega (arith, ints) in is
 
 -- it is in range, and comes before what the first behind it comes before
-pub hole_before : (s t : List ℕ) (n m : ℤ) (gap : ℕ) (others : Places) → IsNumber s n → IsNumber t m → m +ℤ pos (gap + 1) ≡ n → T (below_all subscript_cmp s others) → T (below_all subscript_cmp t others)
+pub hole_before : (s t : List ℕ) (n m : ℤ) (gap : ℕ) (others : Places) → IsNumber s n → IsNumber t m → m +ℤ pos (gap + 1) ≡ n → T (below_all subscript_cmp s others)
+    → T (below_all subscript_cmp t others)
 hole_before s t n m gap others h k is b = let lt : m <ℤ n = omega (arith, ints) in before_less subscript_cmp subscript_cmp_total t s others (number_before t s m n k h lt) b
 
 -- ---- before a row

@@ -202,8 +202,10 @@ module _ {K V : Type 0} (R : K → K → Ordering) where
       let found = lead_some ks x t first in (omega arith, found.0, (λ i. lead (later R (here i) (sym view i))) ∙ ap lead (later_all text ks) ∙ found.1)
 
   -- nothing comes after a place below a node that has no child
-  pub turn_nowhere : IsTotalOrder R → IsAntisymmetric R → (path : List K) (s : K) → 1 ≤ length path → s ≡ get_or path 0 s → (node : List (List K × V)) (text : Option V) (ks : List (K × List (List K × V)))
+  pub turn_nowhere : IsTotalOrder R → IsAntisymmetric R → (path : List K) (s : K) → 1 ≤ length path → s ≡ get_or path 0 s
+      → (node : List (List K × V)) (text : Option V) (ks : List (K × List (List K × V)))
       → own text ++ below ks ≡ node → T (is_sorted R ks) → ks ≡ [] → lead (later R path node) ≡ None
   turn_nowhere o same path s le is node text ks view h none =
-      turn_aside R o same path s le is node text ks view h None (ap (λ (es : List (K × List (List K × V))). lead (later R (take (length path - 1) (drop 1 path)) (nodes_of (lookup (is_at (R s)) es)))) none)
+      turn_aside R o same path s le is node text ks view h None (ap (λ (es : List (K × List (List K × V))). lead (later R (take (length path - 1) (drop 1 path)) (nodes_of (lookup (is_at (R s)) es))))
+      none)
       (ap (λ (es : List (K × List (List K × V))). lead (below (beyond R s es))) none)

@@ -49,7 +49,8 @@ data_below text ks h =
     none (k ∷ es) e h = omega arith
 
 -- what a node holds, by whether it has a text and children
-pub data_by : (text : Option (List ℕ)) (cs : Option (Box Children Global)) → AreSound cs → data_of (own text ++ below (places cs)) ≡ cond (is_some cs) (cond (is_some text) 11 10) (cond (is_some text) 1 0)
+pub data_by : (text : Option (List ℕ)) (cs : Option (Box Children Global)) → AreSound cs → data_of (own text ++ below (places cs)) ≡ cond (is_some cs) (cond (is_some text) 11 10)
+    (cond (is_some text) 1 0)
 data_by None None h = refl
 data_by (Some text) None h = refl
 data_by text (Some c) h = data_below text (all_of c.value) (nodes_below c.value h.0 h.1)
@@ -69,8 +70,10 @@ empty_by None (Some c) false h e f = (
 )
 
 -- the subtree at a path that a pattern took apart, by the child at its first subscript
-pub subtree_in : (path : List (List ℕ)) (s : List ℕ) → 1 ≤ length path → s ≡ get_or path 0 s → (node : Subtree) (text : Option (List ℕ)) (cs : Option (Box Children Global)) → own text ++ below (places cs) ≡ node
-    → AreSound cs → (child : Option Subtree) → child ≡ lookup (is_at (subscript_cmp s)) (places cs) → subtree subscript_cmp path node ≡ subtree subscript_cmp (take (length path - 1) (drop 1 path)) (nodes_of child)
+pub subtree_in : (path : List (List ℕ)) (s : List ℕ) → 1 ≤ length path → s ≡ get_or path 0 s → (node : Subtree) (text : Option (List ℕ)) (cs : Option (Box Children Global))
+    → own text ++ below (places cs) ≡ node
+    → AreSound cs → (child : Option Subtree) → child ≡ lookup (is_at (subscript_cmp s)) (places cs) → subtree subscript_cmp path node ≡ subtree subscript_cmp
+    (take (length path - 1) (drop 1 path)) (nodes_of child)
 subtree_in path s le is node text cs view h child found =
     subtree_step subscript_cmp subscript_cmp_total path s le is node text (places cs) view (places_rise cs h)
     ∙ ap (λ (c : Option Subtree). subtree subscript_cmp (take (length path - 1) (drop 1 path)) (nodes_of c)) (sym found)
@@ -86,7 +89,8 @@ put_by_adding (Ok x) old new s p v n text o none fresh a =
     (none-live subscript_cmp s (all_of old) none)
     ∙ ap (λ (nodes : Subtree). put (slice_cmp subscript_cmp) (s ∷ p) v (own text ++ nodes)) (below-live (all_of old))
 
-pub same_by_adding : {A E : Type 0} (r : Result A E) (old new : Children) (s : List ℕ) (n : Subtree) (text : Option (List ℕ)) → Adds old new s n r → OnErr r (own text ++ below (all_of new) ≡ own text ++ below (all_of old))
+pub same_by_adding : {A E : Type 0} (r : Result A E) (old new : Children) (s : List ℕ) (n : Subtree) (text : Option (List ℕ)) → Adds old new s n r
+    → OnErr r (own text ++ below (all_of new) ≡ own text ++ below (all_of old))
 same_by_adding (Ok x) old new s n text a = tt
 same_by_adding (Err e) old new s n text a = ap (λ (nodes : Subtree). own text ++ nodes) (same_live (all_of new) (all_of old) a.err)
 
@@ -103,7 +107,12 @@ some_after (Ok x) old new s n o some f a = by (all_of new) (live (all_of old)) a
     inserted : (es : List (List ℕ × Subtree)) → 0 < length (insert_entry subscript_cmp es s n)
     inserted [] = omega arith
     inserted (e ∷ es) =
-        elim (subscript_cmp s e.0) as (λ r. 0 < length (match_ordering r ((s, n) ∷ e ∷ es) ((e.0, n) ∷ es) (e ∷ insert_entry subscript_cmp es s n))) [ Less ↦ omega arith | Equal ↦ omega arith | Greater ↦ omega arith ]
+        elim (subscript_cmp s e.0) as (λ r. 0 < length (match_ordering r ((s, n) ∷ e ∷ es) ((e.0, n) ∷ es) (e ∷ insert_entry subscript_cmp es s n))) [
+          | Less ↦ omega arith
+          | Equal
+              ↦ omega arith
+          | Greater ↦ omega arith
+        ]
 
     by : (ks es : List (List ℕ × Subtree)) → live ks ≡ insert_entry subscript_cmp es s n → 0 < length ks
     by [] es e = absurd (omega (arith, inserted es, ap (λ (xs : List (List ℕ × Subtree)). length xs) e))
@@ -127,7 +136,8 @@ pub sound_in : (cs : Option (Box Children Global)) (c : Box Children Global) →
 sound_in cs c h is = subst AreSound is h
 
 -- the child at a subscript, where the children are those behind a reference
-pub child_of : (s : List ℕ) (cs : Option (Box Children Global)) (c : Box Children Global) (d : Children) (r : Option Subtree) → r ≡ lookup (is_at (subscript_cmp s)) (all_of d) → d ≡ c.value → cs ≡ Some c
+pub child_of : (s : List ℕ) (cs : Option (Box Children Global)) (c : Box Children Global) (d : Children) (r : Option Subtree) → r ≡ lookup (is_at (subscript_cmp s)) (all_of d)
+    → d ≡ c.value → cs ≡ Some c
     → r ≡ lookup (is_at (subscript_cmp s)) (places cs)
 child_of s cs c d r h e is = h ∙ ap (λ (ks : List (List ℕ × Subtree)). lookup (is_at (subscript_cmp s)) ks) (ap (λ (x : Children). all_of x) e ∙ ap places (sym is))
 

@@ -179,7 +179,8 @@ module _ (most : ℕ) (bound : most ≤ events_limit) where
   so bytes x a h is = subst (IsTraceRefused most bytes) (err_same a x h) is
 
   -- a line that may not stand there
-  as_line : (bytes : List ℕ) (x : TraceError) (t : Traced) (k : ℕ) (rest : List ℕ) → IsUpTo most bytes t k rest → ◌≡◌ {A = Result Traced TraceError} (Err (errors.Line k)) (Err x) → IsNoLine most t rest
+  as_line : (bytes : List ℕ) (x : TraceError) (t : Traced) (k : ℕ) (rest : List ℕ) → IsUpTo most bytes t k rest → ◌≡◌ {A = Result Traced TraceError} (Err (errors.Line k)) (Err x)
+      → IsNoLine most t rest
       → IsTraceRefused most bytes x
   as_line bytes x t k rest u f why = so bytes x (errors.Line k) f (inr (first bytes t k rest u IsNoLine why))
 
@@ -205,7 +206,8 @@ module _ (most : ℕ) (bound : most ≤ events_limit) where
         )))
     says (Some p) is room f = follows p (may_follow most t p) refl is room f
 
-    fills : (b : Bool) → is_full most t ≡ b → then_more (λ v. lines_from most v (suc k) ls) (cond b (Err (errors.Long k)) (followed_by most t k (piece_of t.form l))) ≡ Err x → IsTraceRefused most bytes x
+    fills : (b : Bool) → is_full most t ≡ b → then_more (λ v. lines_from most v (suc k) ls) (cond b (Err (errors.Long k)) (followed_by most t k (piece_of t.form l))) ≡ Err x
+        → IsTraceRefused most bytes x
     fills true full f = so bytes x (errors.Long k) f (first bytes t k rest u IsOneTooMany (one_too_many bytes t k rest u l true ls e full))
     fills false room f = says (piece_of t.form l) refl room f
 
@@ -243,7 +245,8 @@ module _ (most : ℕ) (bound : most ≤ events_limit) where
         empty_text : (f : Form) → head_text f ≡ trace_text (no_lines f)
         empty_text f = sym (append-nil (head_text f ++ []) ∙ append-nil (head_text f))
 
-    limited_refused : (x : TraceError) (rest : List ℕ) (ls : List (List ℕ × Bool)) → bytes ≡ header (Second V2) ++ 10 ∷ rest → lines_of rest ≡ ls → limited most ls ≡ Err x → IsTraceRefused most bytes x
+    limited_refused : (x : TraceError) (rest : List ℕ) (ls : List (List ℕ × Bool)) → bytes ≡ header (Second V2) ++ 10 ∷ rest → lines_of rest ≡ ls → limited most ls ≡ Err x
+        → IsTraceRefused most bytes x
     limited_refused x rest [] e f h =
         so bytes x (errors.Line 2) h (inl (record { rest = rest; headed = e; none = λ limit. none_of rest (limit_line limit) (limit_within limit) f; second = refl }))
     limited_refused x rest ((l, b) ∷ ls) e f h = by (b && bytes_eq l (limit_line V2)) (b && bytes_eq l (limit_line V1)) refl refl h
@@ -328,7 +331,8 @@ module _ (most : ℕ) where
         ap (λ b. then_more (λ v. lines_from most v (suc k) ls) (cond b (Err (errors.Long k)) (followed_by most t k (piece_of t.form l)))) w.room ∙ says_none w l ls e (piece_of t.form l) refl
 
   module _ (bytes : List ℕ) where
-    from_first : (number : ℕ) (IsWhy : ℕ → Traced → List ℕ → Type 0) (f : IsFirst most bytes number IsWhy) (x : TraceError) → lines_from most f.before number (lines_of f.rest) ≡ Err x → reading_of most bytes ≡ Err x
+    from_first : (number : ℕ) (IsWhy : ℕ → Traced → List ℕ → Type 0) (f : IsFirst most bytes number IsWhy) (x : TraceError) → lines_from most f.before number (lines_of f.rest) ≡ Err x
+        → reading_of most bytes ≡ Err x
     from_first number IsWhy f x h =
         ap (reading_of most) f.cut ∙ trace_on most f.before f.begun f.sized f.few f.rest ∙ ap (λ n. lines_from most f.before n (lines_of f.rest)) (sym f.place) ∙ h
 

@@ -218,7 +218,8 @@ module _ (most : ℕ) (bound : most ≤ events_limit) where
     h.2,
   )
 
-  module _ (t : Traced) (k : ℕ) (l : List ℕ) (ls : List (List ℕ × Bool)) (more : Traced → Result Traced TraceError) (f : IsFront most t) (rec : (u : Traced) → IsFront most u → AreSaid u ls (more u)) where
+  module _ (t : Traced) (k : ℕ) (l : List ℕ) (ls : List (List ℕ × Bool)) (more : Traced → Result Traced TraceError) (f : IsFront most t)
+      (rec : (u : Traced) → IsFront most u → AreSaid u ls (more u)) where
     follows : (p : Piece) (b : Bool) → may_follow most t p ≡ b → l ≡ piece_text t.form p → is_piece t.form p ≡ true
         → AreSaid t ((l, true) ∷ ls) (then_more more (cond b (Ok (with_piece t p)) (Err (errors.Line k))))
     follows p false m is can = tt

@@ -291,7 +291,8 @@ module _ (most : ℕ) where
   ok_same r u t e f = cc
 
   -- what a call gives of a trace that can be written is this trace
-  pub reads_it : (bs : List ℕ) (r : Result Traced TraceError) → IfOk r (λ t. reading_of most bs ≡ Ok t) → (t : Traced) → bs ≡ trace_text t → IsTrace t → IsSized t → length t.events ≤ most → IfOk r (λ u. u ≡ t)
+  pub reads_it : (bs : List ℕ) (r : Result Traced TraceError) → IfOk r (λ t. reading_of most bs ≡ Ok t) → (t : Traced) → bs ≡ trace_text t → IsTrace t → IsSized t
+      → length t.events ≤ most → IfOk r (λ u. u ≡ t)
   reads_it bs (Ok u) h t is a b few = ok_same (reading_of most bs) u t h (ap (reading_of most) is ∙ is_read t a b few)
   reads_it bs (Err e) h t is a b few = tt
 

@@ -12,7 +12,8 @@ loop-place-preserved-then-is_empty c =
     let empty : vec_len c.in_ok-made.made ≡ 0 = eqb-true (vec_len c.in_ok-made.made) 0 (sym c.if-is_empty.ensures) in
     let none : length c.in_ok-made.made.items ≡ 0 = omega (arith, empty, c.in_ok-made.made.ok.0) in
     passed c.args.events.now c.args.globals.now.content c.args.read.now c.args.own.now c.args.from c.loop-place.place c.loop-place.globals.content
-    c.loop-place.found c.loop-place.told c.loop-place.auto.place (sym c.in_ok-made.ensures ∙ none_in c.in_ok-made.made.items none) c.loop-place.invariant.0 c.loop-place.invariant.1 c.loop-place.invariant.2
+    c.loop-place.found c.loop-place.told c.loop-place.auto.place (sym c.in_ok-made.ensures ∙ none_in c.in_ok-made.made.items none) c.loop-place.invariant.0 c.loop-place.invariant.1
+    c.loop-place.invariant.2
 
 pub loop-place-preserved : goal.loop-place-preserved
 loop-place-preserved c =

@@ -25,7 +25,8 @@ loop-place-preserved c =
       c.loop-place.invariant.0 ++ it.0 ∷ [],
       (
         next_item c.args.limit c.loop-place.invariant.0 (length c.args.list.now - (c.loop-place._place + 1)) (length c.args.list.now - c.loop-place._place) c.loop-place.rest.now _
-            c.loop-place.invariant.1.0 (omega arith) it.0 c.in-Some.behind.now (length c.args.list.now - (c.loop-place._place + 1)) (it.1.0 ∙ ap (λ more. Some (it.0, more, c.in-Some.behind.now)) c.if-not-more.false) refl,
+            c.loop-place.invariant.1.0 (omega arith) it.0 c.in-Some.behind.now (length c.args.list.now - (c.loop-place._place + 1))
+            (it.1.0 ∙ ap (λ more. Some (it.0, more, c.in-Some.behind.now)) c.if-not-more.false) refl,
         c.in_ok-subs.ensures c.args.limit c.loop-place.invariant.0 it.0 c.loop-place.invariant.1.1 it.1.1,
       ),
     )

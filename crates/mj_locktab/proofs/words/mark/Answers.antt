@@ -1,10 +1,9 @@
-use Rattle.std.proofs.Common.{ℕ, ◌<◌, List, Option, Some, None, Result, Ok, Err, OnErr, Vec, Global, refl, sym, ap, ◌∙◌, subst}
+use Rattle.std.proofs.Common.{ℕ, ◌<◌, List, Option, Some, None, Result, Ok, Err, OnErr, Vec, Global, sym, ap, ◌∙◌, subst}
 use Rattle.std.specs.BTreeMap.{BTreeMap}
 use Rattle.std.proofs.lemmas.Result.{on_ok_weaker, on_err_weaker}
 use Rattle.mj_locktab.specs.declared.held.TheConstants.{HOLDS_LIMIT}
-use Rattle.mj_locktab.specs.Trees.{Stands, Kids, word_cmp, spelled, stand_in, tally_of, at_words, paths_eq, is_front, AreAlike, IsWritten}
+use Rattle.mj_locktab.specs.Trees.{Stands, Kids, word_cmp, spelled, stand_in, tally_of, at_words, AreAlike, IsWritten}
 use Rattle.mj_locktab.proofs.Spelled.{word_written, there_spelled, more_word, alike_word, alike_words}
-use Rattle.mj_locktab.proofs.Bare.{more_told, tried_told, none_bare_written, none_bare_put, one_told}
 use Rattle.mj_locktab.proofs.words.mark.Goals as goal
 
 pub mark-requires : goal.mark-requires
@@ -62,25 +61,3 @@ returns-in_ok-node-in-None-clause-err c =
     let before = ap (λ (m : BTreeMap (Vec ℕ Global) Stands). spelled m.entries) c.get_mut.follows.holds-at-none in
     on_err_weaker c.put.result (λ kept.
     subst (λ (ks : Kids). AreAlike (at_words (spelled c.args.words.now.entries)) (at_words ks)) (sym (ap spelled kept ∙ before)) (alike_words (spelled c.args.words.now.entries))) c.put.ensures.err
-
-pub returns-in-Some-clause-kept : goal.returns-in-Some-clause-kept
-returns-in-Some-clause-kept c =
-    let es = c.args.words.now.entries in
-    let new = (c.get_mut.follows.lender c.mark.new.self).entries in
-    let w = c.args.name.now.word in
-    let path = c.as_slice.result.now in
-    let same = c.bytes-key.ensures.value ∙ c.word.ensures in
-    let there = c.in-Some.ensures.value in
-    let written = word_written es new c.bytes-key.result.now w c.in-Some.node.now c.mark.new.self same there (c.get_mut.follows.holds c.mark.new.self).0 in
-    let found = there_spelled es c.bytes-key.result.now w (Some c.in-Some.node.now) same there in
-    λ kept. none_bare_written word_cmp (spelled es) (spelled new) w (Some c.mark.new.self) kept written
-    (one_told c.mark.new.self (tried_told c.mark.result c.in-Some.node.now c.mark.new.self (λ p. paths_eq p path) (λ p. is_front p path) c.args.job refl c.mark.ensures.ok c.mark.ensures.err
-    (kept w c.in-Some.node.now found)))
-
-pub returns-in_ok-node-in-None-clause-kept : goal.returns-in_ok-node-in-None-clause-kept
-returns-in_ok-node-in-None-clause-kept c =
-    let path = c.as_slice-in-None.result.now in
-    let before = ap (λ (m : BTreeMap (Vec ℕ Global) Stands). spelled m.entries) c.get_mut.follows.holds-at-none in
-    none_bare_put c.put.result word_cmp spelled (spelled c.args.words.now.entries) c.get_mut.follows.lender-at-none.entries c.put.new.words.entries c.bytes-key.result.now
-    c.in_ok-node-in-None.node before c.put.ensures.ok c.put.ensures.err
-    (more_told c.in_ok-node-in-None.node (λ p. None) (λ p. paths_eq p path) (λ p. is_front p path) c.args.job refl c.in_ok-node-in-None.ensures)

@@ -13,7 +13,8 @@ returns-then-is_empty c =
     let es = live (all_of c.args.children.now) in
     let rises = keys_rise subscript_cmp es (sorted-live subscript_cmp (all_of c.args.children.now) c.requires.rises) in
     c.subscript.ensures
-    ∙ last_of_all subscript_cmp subscript_cmp_total c.last.result es es c.last.ensures.0 c.args.last.now (is_empty c.args.last.now) (ap is_empty (c.if-is_empty.ensures.0 refl)) refl c.last.ensures.1 rises
+    ∙ last_of_all subscript_cmp subscript_cmp_total c.last.result es es c.last.ensures.0 c.args.last.now (is_empty c.args.last.now) (ap is_empty (c.if-is_empty.ensures.0 refl))
+    refl c.last.ensures.1 rises
 
 pub returns : goal.returns
 returns c =

@@ -17,7 +17,8 @@ bytes-preserved g c =
           let Q : List ℕ → Type 0 = λ b. AreKept (ahead_of b false old) (ahead_of w.take_byte.new.begun.items w.take_byte.new.is_whole new) in
           let goes : AreKept (ahead_of begun c.bytes.is_whole old) (ahead_of w.take_byte.new.begun.items w.take_byte.new.is_whole new) =
           subst (λ (b : Bool). AreKept (ahead_of begun b old) (ahead_of w.take_byte.new.begun.items w.take_byte.new.is_whole new)) (sym c.if-is_whole.false)
-          (subst Q c.reserve.ensures.items (w.take_byte.ensures.kept old new (consumed old new c.next_byte.result w.in-Ok-Some.field-0 w.in-Ok-Some.byte c.next_byte.ensures.some w.in-Ok-Some.is w.in-Ok-Some.field-0-is))) in
+          (subst Q c.reserve.ensures.items
+          (w.take_byte.ensures.kept old new (consumed old new c.next_byte.result w.in-Ok-Some.field-0 w.in-Ok-Some.byte c.next_byte.ensures.some w.in-Ok-Some.is w.in-Ok-Some.field-0-is))) in
           rw (w.begun-is, w.is_whole-is) (record {
             line = w.take_byte.ensures.line;
             kept = kept_on first (ahead_of begun c.bytes.is_whole old) (ahead_of w.take_byte.new.begun.items w.take_byte.new.is_whole new) before.kept goes;
@@ -27,6 +28,7 @@ bytes-preserved g c =
           rw (w.begun-is, w.is_whole-is) (record {
             line = subst IsOfOneLine (sym c.reserve.ensures.items) before.line;
             kept = subst P (sym c.reserve.ensures.items)
-                (kept_on first (ahead_of begun c.bytes.is_whole old) (ahead_of begun c.bytes.is_whole new) before.kept (none_lost begun c.bytes.is_whole old new (on_err c.next_byte.result _ w.in-Err.is c.next_byte.ensures.err)));
+                (kept_on first (ahead_of begun c.bytes.is_whole old) (ahead_of begun c.bytes.is_whole new) before.kept
+                (none_lost begun c.bytes.is_whole old new (on_err c.next_byte.result _ w.in-Err.is c.next_byte.ensures.err)));
           })
     ]

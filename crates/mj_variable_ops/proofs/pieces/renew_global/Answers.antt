@@ -50,7 +50,8 @@ returns-in-Some-clause-ok c =
     let d = needed 0 l in
     let rest : Next → List ℕ → Timed = with_value old c.args.pc 0 in
     let v : c.top-value.result.now ≡ e = c.top-value.ensures ∙ ap (λ s. top (reverse s)) c.deref-in-Some.ensures.value in
-    let sep : c.needed-separator.result.now ≡ d = c.needed-separator.ensures ∙ (λ i. needed 0 ((c.below_both.ensures ∙ ap (λ s. operands c.args.count (drop c.args.above (reverse s))) c.deref.ensures.value) i)) in
+    let sep : c.needed-separator.result.now ≡ d =
+    c.needed-separator.ensures ∙ (λ i. needed 0 ((c.below_both.ensures ∙ ap (λ s. operands c.args.count (drop c.args.above (reverse s))) c.deref.ensures.value) i)) in
     let limit : Limit = old.bounds.limit in
     let w : Result (List ℕ) Fault = then_value (value_or_empty (answer_told reply)) (λ o. set_piece_value limit o c.needed-separator.result.now range c.top-value.result.now) in
     let same : then_value (value_or_empty (answer_told reply)) (λ o. set_piece_value limit o d range e) ≡ w =

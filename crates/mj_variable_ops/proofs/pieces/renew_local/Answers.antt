@@ -32,7 +32,8 @@ returns-clause-ok c = λ reply.
     let e = top st in
     let d = needed 0 l in
     let v : c.top-value.result.now ≡ e = c.top-value.ensures ∙ ap (λ s. top (reverse s)) c.deref-3.ensures.value in
-    let sep : c.needed-separator.result.now ≡ d = c.needed-separator.ensures ∙ (λ i. needed 0 ((c.below_both.ensures ∙ ap (λ s. operands c.args.count (drop c.args.above (reverse s))) c.deref.ensures.value) i)) in
+    let sep : c.needed-separator.result.now ≡ d =
+    c.needed-separator.ensures ∙ (λ i. needed 0 ((c.below_both.ensures ∙ ap (λ s. operands c.args.count (drop c.args.above (reverse s))) c.deref.ensures.value) i)) in
     let under = c.below_both-subscripts.ensures ∙ ap (λ s. operands r.count (drop c.args.count (drop c.args.above (reverse s)))) c.deref-2.ensures.value in
     let stands : option_copied c.in_ok-old.old ≡ value_at old.locals.now x =
     c.in_ok-old.ensures ∙ ap (λ (k : List (List ℕ)). value_at old.locals.now (local_with r.word k)) under

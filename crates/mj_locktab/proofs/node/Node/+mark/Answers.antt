@@ -20,7 +20,7 @@ raise-requires t c =
 pub returns-in_default-clause-ok : goal.returns-in_default-clause-ok
 returns-in_default-clause-ok t c =
     let own : Stand = (c.self.inside.holder, tallies_of c.self.inside.tallies) in
-    let next : Stand = (Some c.args.job, tallies_of c.raise.new.tallies) in
+    let next : Stand = (Some c.args.job, tallies_of c.raise.new.self) in
     let ks = c.self.inside.children.entries in
     more_seen (([], own) ∷ below ks) c.args.self.now (([], next) ∷ below ks) [] c.args.path.now c.args.job c.self.view_is (no_elements c.args.path.now c.in_default.len_below)
     (more_here own next ks c.args.job refl c.in_ok-raise.ensures.ok)
@@ -28,7 +28,7 @@ returns-in_default-clause-ok t c =
 pub returns-in_default-get_mut-clause-ok : goal.returns-in_default-get_mut-clause-ok
 returns-in_default-get_mut-clause-ok t c =
     let own : Stand = (c.self.inside.holder, tallies_of c.self.inside.tallies) in
-    let next : Stand = (c.self.inside.holder, tallies_of c.raise.new.tallies) in
+    let next : Stand = (c.self.inside.holder, tallies_of c.raise.new.self) in
     let ks = c.self.inside.children.entries in
     let new = c.grow.new.children.entries in
     let s = c.sub-item.result in
@@ -55,7 +55,7 @@ mark-requires t c =
 pub returns-in-Err-mark-clause-err : goal.returns-in-Err-mark-clause-err
 returns-in-Err-mark-clause-err t c =
     let own : Stand = (c.self.inside.holder, tallies_of c.self.inside.tallies) in
-    let next : Stand = (c.self.inside.holder, tallies_of c.lower-in-Err-mark.new.tallies) in
+    let next : Stand = (c.self.inside.holder, tallies_of c.lower-in-Err-mark.new.self) in
     let ks = c.self.inside.children.entries in
     let es = (c.get_mut.follows.lender c.mark.new.self).entries in
     let s = c.sub-item.result in
@@ -63,7 +63,7 @@ returns-in-Err-mark-clause-err t c =
     let there = sym c.in-Some.ensures.value in
     let holds = c.get_mut.follows.holds c.mark.new.self in
     let written = (holds.3 (ap (λ (o : Option Stands). is_some o) there)).0 in
-    let told : (j : ℕ) → tally (tallies_of c.lower-in-Err-mark.new.tallies) j ≡ tally (tallies_of c.self.inside.tallies) j =
+    let told : (j : ℕ) → tally (tallies_of c.lower-in-Err-mark.new.self) j ≡ tally (tallies_of c.self.inside.tallies) j =
     λ j. omega (arith, c.lower-in-Err-mark.ensures.less j, c.in_ok-raise.ensures.ok j) in
     subst (λ (v : Stands). AreAlike (stand_at v) (stand_at (([], next) ∷ below es))) c.self.view_is
     (alike_below own next ks es s rest (Some c.in-Some.child.now) (Some c.mark.new.self) c.self.invariant.0 holds.4 there written refl told c.in-Err-mark.ensures.err)
@@ -71,7 +71,7 @@ returns-in-Err-mark-clause-err t c =
 pub returns-clause-ok : goal.returns-clause-ok
 returns-clause-ok t c =
     let own : Stand = (c.self.inside.holder, tallies_of c.self.inside.tallies) in
-    let next : Stand = (c.self.inside.holder, tallies_of c.raise.new.tallies) in
+    let next : Stand = (c.self.inside.holder, tallies_of c.raise.new.self) in
     let ks = c.self.inside.children.entries in
     let es = (c.get_mut.follows.lender c.mark.new.self).entries in
     let s = c.sub-item.result in

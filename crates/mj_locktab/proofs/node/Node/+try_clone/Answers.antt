@@ -18,7 +18,7 @@ invariant_of-result t c =
     let all = copied_all subscript_cmp subscript_cmp_total c.loop-sub.children.entries c.loop-sub.sub-iterator c.self.inside.children.entries
     (c.loop-sub.invariant ∙ c.into_iter-sub-iterator.ensures.into_iter_gives.0) c.in-None.ensures.steps.0 in (
       subst (λ (es : Kids). IsStrictlySortedBy subscript_cmp (keys_of es)) (sym all) c.self.invariant.0,
-      subst AreCounted (sym c.in_ok-copy.ensures) c.self.invariant.1,
+      subst AreCounted (sym c.in_ok-try_clone-2.ensures) c.self.invariant.1,
       subst (NoneBare subscript_cmp) (sym all) c.self.invariant.2,
     )
 
@@ -26,4 +26,4 @@ pub returns : goal.returns
 returns t c =
     let all = copied_all subscript_cmp subscript_cmp_total c.loop-sub.children.entries c.loop-sub.sub-iterator c.self.inside.children.entries
     (c.loop-sub.invariant ∙ c.into_iter-sub-iterator.ensures.into_iter_gives.0) c.in-None.ensures.steps.0 in
-    (λ i. ([], (c.self.inside.holder, c.in_ok-copy.ensures i)) ∷ below (all i)) ∙ c.self.view_is
+    (λ i. ([], (c.self.inside.holder, c.in_ok-try_clone-2.ensures i)) ∷ below (all i)) ∙ c.self.view_is

@@ -13,14 +13,14 @@ pub returns-in_default : goal.returns-in_default
 returns-in_default t c =
     let own : Stand = (c.self.inside.holder, tallies_of c.self.inside.tallies) in
     let ks = c.self.inside.children.entries in
-    less_seen (([], own) ∷ below ks) c.args.self.now (([], (None, tallies_of c.lower.new.tallies)) ∷ below ks) [] c.args.path.now c.args.job c.self.view_is
+    less_seen (([], own) ∷ below ks) c.args.self.now (([], (None, tallies_of c.lower.new.self)) ∷ below ks) [] c.args.path.now c.args.job c.self.view_is
     (no_elements c.args.path.now c.in_default.len_below)
-    (less_here own (None, tallies_of c.lower.new.tallies) ks c.args.job refl c.lower.ensures.less)
+    (less_here own (None, tallies_of c.lower.new.self) ks c.args.job refl c.lower.ensures.less)
 
 pub returns-in_default-get_mut : goal.returns-in_default-get_mut
 returns-in_default-get_mut t c =
     let own : Stand = (c.self.inside.holder, tallies_of c.self.inside.tallies) in
-    let next : Stand = (c.self.inside.holder, tallies_of c.lower.new.tallies) in
+    let next : Stand = (c.self.inside.holder, tallies_of c.lower.new.self) in
     let ks = c.self.inside.children.entries in
     let s = c.sub-item.result in
     let rest = take (length c.args.path.now - 1) (drop 1 c.args.path.now) in
@@ -35,7 +35,7 @@ returns-in_default-get_mut t c =
 pub returns-then-is_bare : goal.returns-then-is_bare
 returns-then-is_bare t c =
     let own : Stand = (c.self.inside.holder, tallies_of c.self.inside.tallies) in
-    let next : Stand = (c.self.inside.holder, tallies_of c.lower.new.tallies) in
+    let next : Stand = (c.self.inside.holder, tallies_of c.lower.new.self) in
     let ks = c.self.inside.children.entries in
     let es = (c.get_mut.follows.lender c.unmark.new.self).entries in
     let s = c.sub-item.result in
@@ -52,7 +52,7 @@ returns-then-is_bare t c =
 pub returns-else-is_bare : goal.returns-else-is_bare
 returns-else-is_bare t c =
     let own : Stand = (c.self.inside.holder, tallies_of c.self.inside.tallies) in
-    let next : Stand = (c.self.inside.holder, tallies_of c.lower.new.tallies) in
+    let next : Stand = (c.self.inside.holder, tallies_of c.lower.new.self) in
     let ks = c.self.inside.children.entries in
     let es = (c.get_mut.follows.lender c.unmark.new.self).entries in
     let s = c.sub-item.result in

@@ -44,7 +44,13 @@ grow_ahead-requires t c =
     let longer =
     longer_by_ahead c.empty_place-place.result.0 c.empty_place-place.result.1 c.args.number _ c.args.gap c.args.self.now.row.items c.push_front_reserved-2.new.self.items
     c.args.self.now.others.entries (omega arith) c.requires.ordered c.requires.ahead c.empty_place-place.ensures.number (omega (arith, ints)) c.empty_place-place.ensures.empty
-    c.push_front_reserved-2.ensures.items in (search rules, (omega (arith, c.requires.room, c.push_front_reserved-2.ensures.len, c.push_front_reserved-2.ensures.capacity), (longer.ordered, (c.requires.filled, (c.requires.number, longer.ahead)))))
+    c.push_front_reserved-2.ensures.items in (
+      search rules,
+      (
+        omega (arith, c.requires.room, c.push_front_reserved-2.ensures.len, c.push_front_reserved-2.ensures.capacity),
+        (longer.ordered, (c.requires.filled, (c.requires.number, longer.ahead))),
+      ),
+    )
 
 pub returns-clause-added : goal.returns-clause-added
 returns-clause-added t c =

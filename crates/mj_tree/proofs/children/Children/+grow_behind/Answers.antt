@@ -44,7 +44,13 @@ grow_behind-requires t c =
     let longer =
     longer_by c.args.sub c.empty_place-place.result.0 c.empty_place-place.result.1 c.args.number _ c.args.gap c.args.self.now.row.items c.push_back_reserved-2.new.self.items
     c.args.self.now.others.entries (omega arith) c.requires.sound.0 c.requires.sound.1 c.requires.number c.requires.end c.requires.others c.empty_place-place.ensures.number (omega (arith, ints))
-    c.empty_place-place.ensures.empty c.push_back_reserved-2.ensures.items in (search rules, (omega (arith, c.requires.room, c.push_back_reserved-2.ensures.len, c.push_back_reserved-2.ensures.capacity), ((longer.ordered, longer.trimmed), (c.requires.filled, (c.requires.number, (longer.end, c.requires.others))))))
+    c.empty_place-place.ensures.empty c.push_back_reserved-2.ensures.items in (
+      search rules,
+      (
+        omega (arith, c.requires.room, c.push_back_reserved-2.ensures.len, c.push_back_reserved-2.ensures.capacity),
+        ((longer.ordered, longer.trimmed), (c.requires.filled, (c.requires.number, (longer.end, c.requires.others)))),
+      ),
+    )
 
 pub returns-clause-added : goal.returns-clause-added
 returns-clause-added t c =

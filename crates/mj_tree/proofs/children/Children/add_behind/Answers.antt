@@ -16,7 +16,8 @@ returns-in_err-sub-in-Some c = adds_stopped c.from_residual.result c.args.self.n
 pub returns-in_err-reserve-in-Some : goal.returns-in_err-reserve-in-Some
 returns-in_err-reserve-in-Some c =
     adds_stopped c.from_residual-in_err-reserve-in-Some.result c.args.self.now (record { row = c.reserve.new.self; others = c.args.self.now.others }) c.args.sub.now c.args.child
-    c.from_residual-in_err-reserve-in-Some.ensures.0 (sound_same c.args.self.now (record { row = c.reserve.new.self; others = c.args.self.now.others }) c.reserve.ensures.items refl c.requires.can.sound)
+    c.from_residual-in_err-reserve-in-Some.ensures.0 (sound_same c.args.self.now (record { row = c.reserve.new.self; others = c.args.self.now.others }) c.reserve.ensures.items
+    refl c.requires.can.sound)
     (ap (λ (row : List (List ℕ × Subtree)). live (row ++ c.args.self.now.others.entries)) c.reserve.ensures.items)
 
 -- there is room

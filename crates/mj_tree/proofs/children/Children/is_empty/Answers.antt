@@ -13,4 +13,5 @@ returns-then-is_empty c =
 -- it has one
 pub returns-else-is_empty : goal.returns-else-is_empty
 returns-else-is_empty c =
-    some_row c.is_empty.result c.args.self.now.row.items c.args.self.now.others.entries c.if-is_empty.false (none_told (deque_len c.args.self.now.row) c.args.self.now.row.items c.args.self.now.row.ok.0 c.if-is_empty.ensures)
+    some_row c.is_empty.result c.args.self.now.row.items c.args.self.now.others.entries c.if-is_empty.false
+    (none_told (deque_len c.args.self.now.row) c.args.self.now.row.items c.args.self.now.row.ok.0 c.if-is_empty.ensures)

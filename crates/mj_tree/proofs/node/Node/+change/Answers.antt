@@ -29,7 +29,8 @@ pub returns-in_default : goal.returns-in_default
 returns-in_default t c =
     let none = sym c.take.ensures.value ∙ c.in_default.is in
     ap (λ cs. own c.self.inside.text ++ below (places cs)) (c.take.ensures.after ∙ sym none)
-    ∙ sym (changed_none c.args.change c.sub-item.result (take (length c.args.path.now - 1) (drop 1 c.args.path.now)) c.self.inside.text (places c.self.inside.children) (ap (λ cs. lookup (is_at (subscript_cmp c.sub-item.result)) (places cs)) none))
+    ∙ sym (changed_none c.args.change c.sub-item.result (take (length c.args.path.now - 1) (drop 1 c.args.path.now)) c.self.inside.text (places c.self.inside.children)
+    (ap (λ cs. lookup (is_at (subscript_cmp c.sub-item.result)) (places cs)) none))
     ∙ (λ i. changed c.args.change (sym (first_and_rest c.args.path.now c.sub-item.result c.in-len1-up.len_at_least c.sub-item.is) i) (c.self.view_is i))
 
 -- in a place of the row
@@ -57,7 +58,8 @@ trim-requires-clause-ordered t c =
     place_behind c.sub-item.result c.deref.result.now c.deref_mut.result.now c.in-Some-place_of.at (c.deref.ensures ∙ sym c.deref_mut.ensures.value) c.in-Some-place_of.ensures in
     let new = slice_set c.deref_mut.result.now.row.items c.in-Some-place_of.at (c.index_mut.result.now.0, c.change-in-Some-place_of.new.self) in
     let written =
-    written_row c.sub-item.result c.in-Some-place_of.at c.index_mut.result.now c.change-in-Some-place_of.new.self c.deref_mut.result.now.row.items new c.deref_mut.result.now.others.entries sound.0.0 place c.index_mut.ensures.value refl in
+    written_row c.sub-item.result c.in-Some-place_of.at c.index_mut.result.now c.change-in-Some-place_of.new.self c.deref_mut.result.now.row.items new c.deref_mut.result.now.others.entries
+    sound.0.0 place c.index_mut.ensures.value refl in
     subst (λ (k : Children). IsOrdered k.row.items k.others.entries) (sym c.deref_mut-then-is_empty.ensures.value) written.ordered
 
 pub trim-requires-clause-head : goal.trim-requires-clause-head
@@ -68,7 +70,8 @@ trim-requires-clause-head t c =
     place_behind c.sub-item.result c.deref.result.now c.deref_mut.result.now c.in-Some-place_of.at (c.deref.ensures ∙ sym c.deref_mut.ensures.value) c.in-Some-place_of.ensures in
     let new = slice_set c.deref_mut.result.now.row.items c.in-Some-place_of.at (c.index_mut.result.now.0, c.change-in-Some-place_of.new.self) in
     let written =
-    written_row c.sub-item.result c.in-Some-place_of.at c.index_mut.result.now c.change-in-Some-place_of.new.self c.deref_mut.result.now.row.items new c.deref_mut.result.now.others.entries sound.0.0 place c.index_mut.ensures.value refl in
+    written_row c.sub-item.result c.in-Some-place_of.at c.index_mut.result.now c.change-in-Some-place_of.new.self c.deref_mut.result.now.row.items new c.deref_mut.result.now.others.entries
+    sound.0.0 place c.index_mut.ensures.value refl in
     λ b. subst (λ (k : Children). IsTrimmed k.row.items) (sym c.deref_mut-then-is_empty.ensures.value) (written.behind b sound.0.1)
 
 pub kept-requires : goal.kept-requires
@@ -86,7 +89,8 @@ returns-then-is_empty t c =
     seen c.self.inside.text c.self.inside.children c.in-Some.taken c.args.self.now (all_of c.deref_mut.result.now) c.self.view_is is (ap all_of c.deref_mut.ensures.value) in
     let path = first_and_rest c.args.path.now c.sub-item.result c.in-len1-up.len_at_least c.sub-item.is in
     ap (λ (ks : List (List ℕ × Subtree)). own c.self.inside.text ++ below ks) c.kept.ensures.places
-    ∙ gone_in_row c.args.change c.sub-item.result rest c.self.inside.text c.deref_mut.result.now.row.items new c.deref_mut.result.now.others.entries c.in-Some-place_of.at c.index_mut.result.now c.change-in-Some-place_of.new.self
+    ∙ gone_in_row c.args.change c.sub-item.result rest c.self.inside.text c.deref_mut.result.now.row.items new c.deref_mut.result.now.others.entries c.in-Some-place_of.at
+    c.index_mut.result.now c.change-in-Some-place_of.new.self
     (all_of c.trim.new.self) sound.0.0 place c.index_mut.ensures.value refl c.change-in-Some-place_of.ensures
     (c.trim.ensures.same ∙ ap (λ (k : Children). live (all_of k)) c.deref_mut-then-is_empty.ensures.value)
     ∙ (λ i. changed c.args.change (sym path i) (view i))
@@ -100,7 +104,8 @@ invariant_of-self-else-is_empty t c =
     place_behind c.sub-item.result c.deref.result.now c.deref_mut.result.now c.in-Some-place_of.at (c.deref.ensures ∙ sym c.deref_mut.ensures.value) c.in-Some-place_of.ensures in
     let new = slice_set c.deref_mut.result.now.row.items c.in-Some-place_of.at (c.index_mut.result.now.0, c.change-in-Some-place_of.new.self) in
     let so =
-    change_in_row c.args.change c.sub-item.result rest c.self.inside.text c.deref_mut.result.now.row.items new c.deref_mut.result.now.others.entries c.in-Some-place_of.at c.index_mut.result.now c.change-in-Some-place_of.new.self sound.0.0
+    change_in_row c.args.change c.sub-item.result rest c.self.inside.text c.deref_mut.result.now.row.items new c.deref_mut.result.now.others.entries c.in-Some-place_of.at
+    c.index_mut.result.now c.change-in-Some-place_of.new.self sound.0.0
     sound.0.1 place c.index_mut.ensures.value refl c.change-in-Some-place_of.ensures (λ e. let f : false ≡ true = c.if-is_empty.ensures.1 e in absurd cc) in
     so.sound
 
@@ -113,7 +118,8 @@ invariant_of-self-else-is_empty-3 t c =
     place_behind c.sub-item.result c.deref.result.now c.deref_mut.result.now c.in-Some-place_of.at (c.deref.ensures ∙ sym c.deref_mut.ensures.value) c.in-Some-place_of.ensures in
     let new = slice_set c.deref_mut.result.now.row.items c.in-Some-place_of.at (c.index_mut.result.now.0, c.change-in-Some-place_of.new.self) in
     let so =
-    change_in_row c.args.change c.sub-item.result rest c.self.inside.text c.deref_mut.result.now.row.items new c.deref_mut.result.now.others.entries c.in-Some-place_of.at c.index_mut.result.now c.change-in-Some-place_of.new.self sound.0.0
+    change_in_row c.args.change c.sub-item.result rest c.self.inside.text c.deref_mut.result.now.row.items new c.deref_mut.result.now.others.entries c.in-Some-place_of.at
+    c.index_mut.result.now c.change-in-Some-place_of.new.self sound.0.0
     sound.0.1 place c.index_mut.ensures.value refl c.change-in-Some-place_of.ensures (λ e. let f : false ≡ true = c.if-is_empty.ensures.1 e in absurd cc) in
     so.sound
 
@@ -126,7 +132,8 @@ returns-else-is_empty t c =
     place_behind c.sub-item.result c.deref.result.now c.deref_mut.result.now c.in-Some-place_of.at (c.deref.ensures ∙ sym c.deref_mut.ensures.value) c.in-Some-place_of.ensures in
     let new = slice_set c.deref_mut.result.now.row.items c.in-Some-place_of.at (c.index_mut.result.now.0, c.change-in-Some-place_of.new.self) in
     let so =
-    change_in_row c.args.change c.sub-item.result rest c.self.inside.text c.deref_mut.result.now.row.items new c.deref_mut.result.now.others.entries c.in-Some-place_of.at c.index_mut.result.now c.change-in-Some-place_of.new.self sound.0.0
+    change_in_row c.args.change c.sub-item.result rest c.self.inside.text c.deref_mut.result.now.row.items new c.deref_mut.result.now.others.entries c.in-Some-place_of.at
+    c.index_mut.result.now c.change-in-Some-place_of.new.self sound.0.0
     sound.0.1 place c.index_mut.ensures.value refl c.change-in-Some-place_of.ensures (λ e. let f : false ≡ true = c.if-is_empty.ensures.1 e in absurd cc) in
     let view =
     seen c.self.inside.text c.self.inside.children c.in-Some.taken c.args.self.now (all_of c.deref_mut.result.now) c.self.view_is is (ap all_of c.deref_mut.ensures.value) in
@@ -166,10 +173,12 @@ kept-requires-then-is_empty-2 t c =
     let none =
     none_behind c.sub-item.result c.deref.result.now c.deref_mut-in-None.result.now (c.deref.ensures ∙ sym c.deref_mut-in-None.ensures.value) c.in-None.ensures in
     let so =
-    gone_in_others c.args.change c.sub-item.result rest c.self.inside.text c.deref_mut-in-None.result.now.row.items c.deref_mut-in-None.result.now.others.entries (c.get_mut.follows.lender c.change-in-None.new.self).entries
+    gone_in_others c.args.change c.sub-item.result rest c.self.inside.text c.deref_mut-in-None.result.now.row.items c.deref_mut-in-None.result.now.others.entries
+    (c.get_mut.follows.lender c.change-in-None.new.self).entries
     c.remove.new.children.entries c.in-Some-get_mut.child.now c.change-in-None.new.self sound.0.0 sound.0.1 none (sym c.in-Some-get_mut.ensures.value)
     (c.get_mut.follows.holds c.change-in-None.new.self).0
-    (c.remove.ensures ∙ ap (λ (k : Children). remove_entry (is_at (subscript_cmp c.sub-item.result)) k.others.entries) c.deref_mut-then-is_empty-2.ensures.value) c.change-in-None.ensures (c.if-is_empty-2.ensures.0 refl) in
+    (c.remove.ensures ∙ ap (λ (k : Children). remove_entry (is_at (subscript_cmp c.sub-item.result)) k.others.entries) c.deref_mut-then-is_empty-2.ensures.value) c.change-in-None.ensures
+    (c.if-is_empty-2.ensures.0 refl) in
     subst (λ (k : Children). IsOrdered k.row.items c.remove.new.children.entries × IsTrimmed k.row.items) (sym c.deref_mut-then-is_empty-2.ensures.value) so.sound
 
 pub returns-then-is_empty-2 : goal.returns-then-is_empty-2
@@ -180,10 +189,12 @@ returns-then-is_empty-2 t c =
     let none =
     none_behind c.sub-item.result c.deref.result.now c.deref_mut-in-None.result.now (c.deref.ensures ∙ sym c.deref_mut-in-None.ensures.value) c.in-None.ensures in
     let so =
-    gone_in_others c.args.change c.sub-item.result rest c.self.inside.text c.deref_mut-in-None.result.now.row.items c.deref_mut-in-None.result.now.others.entries (c.get_mut.follows.lender c.change-in-None.new.self).entries
+    gone_in_others c.args.change c.sub-item.result rest c.self.inside.text c.deref_mut-in-None.result.now.row.items c.deref_mut-in-None.result.now.others.entries
+    (c.get_mut.follows.lender c.change-in-None.new.self).entries
     c.remove.new.children.entries c.in-Some-get_mut.child.now c.change-in-None.new.self sound.0.0 sound.0.1 none (sym c.in-Some-get_mut.ensures.value)
     (c.get_mut.follows.holds c.change-in-None.new.self).0
-    (c.remove.ensures ∙ ap (λ (k : Children). remove_entry (is_at (subscript_cmp c.sub-item.result)) k.others.entries) c.deref_mut-then-is_empty-2.ensures.value) c.change-in-None.ensures (c.if-is_empty-2.ensures.0 refl) in
+    (c.remove.ensures ∙ ap (λ (k : Children). remove_entry (is_at (subscript_cmp c.sub-item.result)) k.others.entries) c.deref_mut-then-is_empty-2.ensures.value) c.change-in-None.ensures
+    (c.if-is_empty-2.ensures.0 refl) in
     let view =
     seen c.self.inside.text c.self.inside.children c.in-Some.taken c.args.self.now (all_of c.deref_mut-in-None.result.now) c.self.view_is is (ap all_of c.deref_mut-in-None.ensures.value) in
     let path = first_and_rest c.args.path.now c.sub-item.result c.in-len1-up.len_at_least c.sub-item.is in
@@ -200,7 +211,8 @@ invariant_of-self-else-is_empty-2 t c =
     let none =
     none_behind c.sub-item.result c.deref.result.now c.deref_mut-in-None.result.now (c.deref.ensures ∙ sym c.deref_mut-in-None.ensures.value) c.in-None.ensures in
     let so =
-    change_in_others c.args.change c.sub-item.result rest c.self.inside.text c.deref_mut-in-None.result.now.row.items c.deref_mut-in-None.result.now.others.entries (c.get_mut.follows.lender c.change-in-None.new.self).entries
+    change_in_others c.args.change c.sub-item.result rest c.self.inside.text c.deref_mut-in-None.result.now.row.items c.deref_mut-in-None.result.now.others.entries
+    (c.get_mut.follows.lender c.change-in-None.new.self).entries
     c.in-Some-get_mut.child.now c.change-in-None.new.self sound.0.0 sound.0.1 none (sym c.in-Some-get_mut.ensures.value) (c.get_mut.follows.holds c.change-in-None.new.self).0
     c.change-in-None.ensures (λ e. let f : false ≡ true = c.if-is_empty-2.ensures.1 e in absurd cc) in
     so.sound
@@ -213,7 +225,8 @@ invariant_of-self-else-is_empty-2-2 t c =
     let none =
     none_behind c.sub-item.result c.deref.result.now c.deref_mut-in-None.result.now (c.deref.ensures ∙ sym c.deref_mut-in-None.ensures.value) c.in-None.ensures in
     let so =
-    change_in_others c.args.change c.sub-item.result rest c.self.inside.text c.deref_mut-in-None.result.now.row.items c.deref_mut-in-None.result.now.others.entries (c.get_mut.follows.lender c.change-in-None.new.self).entries
+    change_in_others c.args.change c.sub-item.result rest c.self.inside.text c.deref_mut-in-None.result.now.row.items c.deref_mut-in-None.result.now.others.entries
+    (c.get_mut.follows.lender c.change-in-None.new.self).entries
     c.in-Some-get_mut.child.now c.change-in-None.new.self sound.0.0 sound.0.1 none (sym c.in-Some-get_mut.ensures.value) (c.get_mut.follows.holds c.change-in-None.new.self).0
     c.change-in-None.ensures (λ e. let f : false ≡ true = c.if-is_empty-2.ensures.1 e in absurd cc) in
     so.sound
@@ -226,7 +239,8 @@ returns-else-is_empty-2 t c =
     let none =
     none_behind c.sub-item.result c.deref.result.now c.deref_mut-in-None.result.now (c.deref.ensures ∙ sym c.deref_mut-in-None.ensures.value) c.in-None.ensures in
     let so =
-    change_in_others c.args.change c.sub-item.result rest c.self.inside.text c.deref_mut-in-None.result.now.row.items c.deref_mut-in-None.result.now.others.entries (c.get_mut.follows.lender c.change-in-None.new.self).entries
+    change_in_others c.args.change c.sub-item.result rest c.self.inside.text c.deref_mut-in-None.result.now.row.items c.deref_mut-in-None.result.now.others.entries
+    (c.get_mut.follows.lender c.change-in-None.new.self).entries
     c.in-Some-get_mut.child.now c.change-in-None.new.self sound.0.0 sound.0.1 none (sym c.in-Some-get_mut.ensures.value) (c.get_mut.follows.holds c.change-in-None.new.self).0
     c.change-in-None.ensures (λ e. let f : false ≡ true = c.if-is_empty-2.ensures.1 e in absurd cc) in
     let view =

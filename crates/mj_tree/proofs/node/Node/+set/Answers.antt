@@ -37,7 +37,8 @@ only-requires t c = subst (λ (n : Subtree). 0 < length n) (sym c.in_ok-chain-in
 
 pub returns-in_default-clause-ok : goal.returns-in_default-clause-ok
 returns-in_default-clause-ok t c =
-    put_alone (all_of c.in_ok-only-in-len1-up.field-0.value) (places c.self.inside.children) c.sub-item.result (take (length c.args.path.now - 1) (drop 1 c.args.path.now)) c.args.text c.in_ok-chain-in-len1-up.field-0 c.self.inside.text
+    put_alone (all_of c.in_ok-only-in-len1-up.field-0.value) (places c.self.inside.children) c.sub-item.result (take (length c.args.path.now - 1) (drop 1 c.args.path.now))
+    c.args.text c.in_ok-chain-in-len1-up.field-0 c.self.inside.text
     c.in_ok-only-in-len1-up.ensures.alone c.in_ok-chain-in-len1-up.ensures (ap (λ cs. places cs) (sym c.take.ensures.value ∙ c.in_default.is))
     ∙ (λ i. put (slice_cmp subscript_cmp) (sym (first_and_rest c.args.path.now c.sub-item.result c.in-len1-up.len_at_least c.sub-item.is) i) c.args.text (c.self.view_is i))
 
@@ -178,7 +179,8 @@ invariant_of-self-in-None-get_mut t c =
     c.deref_mut-in-None-get_mut.ensures.value ∙ (λ i. record { row = c.deref_mut-in-None.result.now.row; others = c.get_mut.follows.holds-at-none i }) in
     let sound = sound_behind c.self.inside.children c.in-Some.taken c.deref_mut-in-None-get_mut.result.now c.self.invariant is (same_children ∙ c.deref_mut-in-None.ensures.value) in (
       c.add_chain-done.ensures.sound,
-      some_after c.add_chain-done.result c.deref_mut-in-None-get_mut.result.now c.add_chain-done.new.children c.sub-item.result ((rest, c.args.text) ∷ []) sound.0 sound.1 (omega arith) c.add_chain-done.ensures,
+      some_after c.add_chain-done.result c.deref_mut-in-None-get_mut.result.now c.add_chain-done.new.children c.sub-item.result ((rest, c.args.text) ∷ []) sound.0 sound.1
+          (omega arith) c.add_chain-done.ensures,
     )
 
 pub returns-in-None-get_mut-clause-ok : goal.returns-in-None-get_mut-clause-ok
@@ -191,7 +193,8 @@ returns-in-None-get_mut-clause-ok t c =
     let none =
     none_behind c.sub-item.result c.deref.result.now c.deref_mut-in-None.result.now (c.deref.ensures ∙ sym c.deref_mut-in-None.ensures.value) c.in-None.ensures in
     let view =
-    seen c.self.inside.text c.self.inside.children c.in-Some.taken c.args.self.now (all_of c.deref_mut-in-None-get_mut.result.now) c.self.view_is is (ap all_of (same_children ∙ c.deref_mut-in-None.ensures.value)) in
+    seen c.self.inside.text c.self.inside.children c.in-Some.taken c.args.self.now (all_of c.deref_mut-in-None-get_mut.result.now) c.self.view_is is
+    (ap all_of (same_children ∙ c.deref_mut-in-None.ensures.value)) in
     let path = first_and_rest c.args.path.now c.sub-item.result c.in-len1-up.len_at_least c.sub-item.is in
     on_ok_weaker c.add_chain-done.result (λ e. e ∙ (λ i. put (slice_cmp subscript_cmp) (sym path i) c.args.text (view i)))
     (put_by_adding c.add_chain-done.result c.deref_mut-in-None-get_mut.result.now c.add_chain-done.new.children c.sub-item.result rest c.args.text ((rest, c.args.text) ∷ []) c.self.inside.text sound.0
@@ -204,6 +207,8 @@ returns-in-None-get_mut-clause-err t c =
     let same_children : c.deref_mut-in-None-get_mut.result.now ≡ c.deref_mut-in-None.result.now =
     c.deref_mut-in-None-get_mut.ensures.value ∙ (λ i. record { row = c.deref_mut-in-None.result.now.row; others = c.get_mut.follows.holds-at-none i }) in
     let view =
-    seen c.self.inside.text c.self.inside.children c.in-Some.taken c.args.self.now (all_of c.deref_mut-in-None-get_mut.result.now) c.self.view_is is (ap all_of (same_children ∙ c.deref_mut-in-None.ensures.value)) in
+    seen c.self.inside.text c.self.inside.children c.in-Some.taken c.args.self.now (all_of c.deref_mut-in-None-get_mut.result.now) c.self.view_is is
+    (ap all_of (same_children ∙ c.deref_mut-in-None.ensures.value)) in
     on_err_weaker c.add_chain-done.result (λ e. e ∙ view)
-    (same_by_adding c.add_chain-done.result c.deref_mut-in-None-get_mut.result.now c.add_chain-done.new.children c.sub-item.result ((rest, c.args.text) ∷ []) c.self.inside.text c.add_chain-done.ensures)
+    (same_by_adding c.add_chain-done.result c.deref_mut-in-None-get_mut.result.now c.add_chain-done.new.children c.sub-item.result ((rest, c.args.text) ∷ []) c.self.inside.text
+    c.add_chain-done.ensures)

@@ -30,7 +30,8 @@ loop-place-init t c =
       others = c.new-copy.ensures.others;
       light =
           subst (λ (ks : List (List ℕ × Subtree)). AreLighter (weight c.args.self.now) ks) (sym rest)
-          (lighter_front (weight c.args.self.now) c.in-Some.children.value.row.items c.in-Some.children.value.others.entries (places_of c.self.inside.text c.self.inside.children c.in-Some.children c.args.self.now (all_of c.in-Some.children.value) c.self.view_is c.self.invariant c.in-Some.is refl).light);
+          (lighter_front (weight c.args.self.now) c.in-Some.children.value.row.items c.in-Some.children.value.others.entries
+          (places_of c.self.inside.text c.self.inside.children c.in-Some.children c.args.self.now (all_of c.in-Some.children.value) c.self.view_is c.self.invariant c.in-Some.is refl).light);
       text = refl;
     }
 
@@ -60,8 +61,10 @@ loop-sub-init t c = record {
   row = refl;
   others = ap (λ (xs : List (List ℕ × Subtree)). xs ++ c.into_iter-sub-iterator.result) c.loop-place.invariant.others;
   light =
-      subst (λ (ks : List (List ℕ × Subtree)). AreLighter (weight c.args.self.now) ks) (sym (c.into_iter-sub-iterator.ensures.into_iter_gives.0 ∙ ap (λ (d : Children). d.others.entries) c.deref-2.ensures))
-      (lighter_back (weight c.args.self.now) c.in-Some.children.value.row.items c.in-Some.children.value.others.entries (places_of c.self.inside.text c.self.inside.children c.in-Some.children c.args.self.now (all_of c.in-Some.children.value) c.self.view_is c.self.invariant c.in-Some.is refl).light);
+      subst (λ (ks : List (List ℕ × Subtree)). AreLighter (weight c.args.self.now) ks)
+      (sym (c.into_iter-sub-iterator.ensures.into_iter_gives.0 ∙ ap (λ (d : Children). d.others.entries) c.deref-2.ensures))
+      (lighter_back (weight c.args.self.now) c.in-Some.children.value.row.items c.in-Some.children.value.others.entries
+      (places_of c.self.inside.text c.self.inside.children c.in-Some.children c.args.self.now (all_of c.in-Some.children.value) c.self.view_is c.self.invariant c.in-Some.is refl).light);
   text = refl;
 }
 
@@ -78,7 +81,8 @@ loop-sub-preserved t c = record {
       copied_one subscript_cmp subscript_cmp_total c.loop-sub.copy.others.entries c.loop-sub.sub-iterator c.next-in-loop-sub.new.self c.into_iter-sub-iterator.result c.put.new.others.entries
       c.in-Some-2.sub.now c.in-Some-2.child.now c.in_ok-try_clone-3.field-0 c.loop-sub.invariant.others c.in-Some-2.ensures.steps c.in_ok-try_clone-3.ensures c.in_ok-put.ensures.ok
       (subst (λ (es : List (List ℕ × Subtree)). T (is_sorted subscript_cmp es)) (sym (c.into_iter-sub-iterator.ensures.into_iter_gives.0 ∙ ap (λ (d : Children). d.others.entries) c.deref-2.ensures))
-      (sorted_back subscript_cmp c.in-Some.children.value.row.items c.in-Some.children.value.others.entries (sound_in c.self.inside.children c.in-Some.children c.self.invariant c.in-Some.is).0.0.rises));
+      (sorted_back subscript_cmp c.in-Some.children.value.row.items c.in-Some.children.value.others.entries
+      (sound_in c.self.inside.children c.in-Some.children c.self.invariant c.in-Some.is).0.0.rises));
   light =
       (lighter_next (weight c.args.self.now) c.loop-sub.sub-iterator c.next-in-loop-sub.new.self c.in-Some-2.sub.now c.in-Some-2.child.now c.in-Some-2.ensures.steps c.loop-sub.invariant.light).1;
   text = c.loop-sub.invariant.text;

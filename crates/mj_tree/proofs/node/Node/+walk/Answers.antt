@@ -37,11 +37,14 @@ walk-requires g t c =
 pub loop-sub-preserved-in_ok-walk : goal.loop-sub-preserved-in_ok-walk
 loop-sub-preserved-in_ok-walk g t c = record {
   taken =
-      past_child g.S.Sink.takes g.S.Sink.more c.args.global c.args.word.now c.args.front.now c.loop-sub.front c.append.new.list c.in-Some-2.sub.now c.in-Some-2.child.now (steps_rest c.loop-sub.sub-iterator)
-      (steps_rest c.next.new.self) c.args.sink.now c.loop-sub.sink c.walk.new.sink _ c.loop-sub.invariant.taken c.loop-sub.invariant.front c.in-Some-2.ensures.steps c.in_ok-append.ensures c.in_ok-walk.ensures.taken;
+      past_child g.S.Sink.takes g.S.Sink.more c.args.global c.args.word.now c.args.front.now c.loop-sub.front c.append.new.list c.in-Some-2.sub.now c.in-Some-2.child.now
+      (steps_rest c.loop-sub.sub-iterator)
+      (steps_rest c.next.new.self) c.args.sink.now c.loop-sub.sink c.walk.new.sink _ c.loop-sub.invariant.taken c.loop-sub.invariant.front c.in-Some-2.ensures.steps
+      c.in_ok-append.ensures c.in_ok-walk.ensures.taken;
   closed = λ t at.
       c.loop-sub.invariant.closed t (closes_behind g.S.Sink.closes g.S.Sink.takes g.S.Sink.closed c.loop-sub.sink c.walk.new.sink t _ _ _
-      (child_first c.args.global c.args.word.now c.args.front.now c.loop-sub.front c.append.new.list c.in-Some-2.sub.now c.in-Some-2.child.now (steps_rest c.loop-sub.sub-iterator) (steps_rest c.next.new.self)
+      (child_first c.args.global c.args.word.now c.args.front.now c.loop-sub.front c.append.new.list c.in-Some-2.sub.now c.in-Some-2.child.now (steps_rest c.loop-sub.sub-iterator)
+      (steps_rest c.next.new.self)
       c.loop-sub.invariant.front c.in-Some-2.ensures.steps c.in_ok-append.ensures) c.in_ok-walk.ensures.taken at);
   front =
       popped c.loop-sub.front c.walk.new.front c.pop-last.new.self c.in-Some-2.sub.now c.pop-last.result (c.in_ok-walk.ensures.front ∙ c.in_ok-append.ensures) c.pop-last.ensures.items
@@ -54,11 +57,14 @@ loop-sub-preserved-in_ok-walk g t c = record {
 pub loop-sub-preserved-in_ok-walk-2 : goal.loop-sub-preserved-in_ok-walk-2
 loop-sub-preserved-in_ok-walk-2 g t c = record {
   taken =
-      past_child g.S.Sink.takes g.S.Sink.more c.args.global c.args.word.now c.args.front.now c.loop-sub.front c.append.new.list c.in-Some-2.sub.now c.in-Some-2.child.now (steps_rest c.loop-sub.sub-iterator)
-      (steps_rest c.next.new.self) c.args.sink.now c.loop-sub.sink c.walk.new.sink _ c.loop-sub.invariant.taken c.loop-sub.invariant.front c.in-Some-2.ensures.steps c.in_ok-append.ensures c.in_ok-walk.ensures.taken;
+      past_child g.S.Sink.takes g.S.Sink.more c.args.global c.args.word.now c.args.front.now c.loop-sub.front c.append.new.list c.in-Some-2.sub.now c.in-Some-2.child.now
+      (steps_rest c.loop-sub.sub-iterator)
+      (steps_rest c.next.new.self) c.args.sink.now c.loop-sub.sink c.walk.new.sink _ c.loop-sub.invariant.taken c.loop-sub.invariant.front c.in-Some-2.ensures.steps
+      c.in_ok-append.ensures c.in_ok-walk.ensures.taken;
   closed = λ t at.
       c.loop-sub.invariant.closed t (closes_behind g.S.Sink.closes g.S.Sink.takes g.S.Sink.closed c.loop-sub.sink c.walk.new.sink t _ _ _
-      (child_first c.args.global c.args.word.now c.args.front.now c.loop-sub.front c.append.new.list c.in-Some-2.sub.now c.in-Some-2.child.now (steps_rest c.loop-sub.sub-iterator) (steps_rest c.next.new.self)
+      (child_first c.args.global c.args.word.now c.args.front.now c.loop-sub.front c.append.new.list c.in-Some-2.sub.now c.in-Some-2.child.now (steps_rest c.loop-sub.sub-iterator)
+      (steps_rest c.next.new.self)
       c.loop-sub.invariant.front c.in-Some-2.ensures.steps c.in_ok-append.ensures) c.in_ok-walk.ensures.taken at);
   front =
       popped c.loop-sub.front c.walk.new.front c.pop-last.new.self c.in-Some-2.sub.now c.pop-last.result (c.in_ok-walk.ensures.front ∙ c.in_ok-append.ensures) c.pop-last.ensures.items
@@ -71,11 +77,14 @@ loop-sub-preserved-in_ok-walk-2 g t c = record {
 pub loop-sub-preserved : goal.loop-sub-preserved
 loop-sub-preserved g t c = record {
   taken =
-      past_child g.S.Sink.takes g.S.Sink.more c.args.global c.args.word.now c.args.front.now c.loop-sub.front c.append.new.list c.in-Some-2.sub.now c.in-Some-2.child.now (steps_rest c.loop-sub.sub-iterator)
-      (steps_rest c.next.new.self) c.args.sink.now c.loop-sub.sink c.walk.new.sink _ c.loop-sub.invariant.taken c.loop-sub.invariant.front c.in-Some-2.ensures.steps c.in_ok-append.ensures c.in_ok-walk.ensures.taken;
+      past_child g.S.Sink.takes g.S.Sink.more c.args.global c.args.word.now c.args.front.now c.loop-sub.front c.append.new.list c.in-Some-2.sub.now c.in-Some-2.child.now
+      (steps_rest c.loop-sub.sub-iterator)
+      (steps_rest c.next.new.self) c.args.sink.now c.loop-sub.sink c.walk.new.sink _ c.loop-sub.invariant.taken c.loop-sub.invariant.front c.in-Some-2.ensures.steps
+      c.in_ok-append.ensures c.in_ok-walk.ensures.taken;
   closed = λ t at.
       c.loop-sub.invariant.closed t (closes_behind g.S.Sink.closes g.S.Sink.takes g.S.Sink.closed c.loop-sub.sink c.walk.new.sink t _ _ _
-      (child_first c.args.global c.args.word.now c.args.front.now c.loop-sub.front c.append.new.list c.in-Some-2.sub.now c.in-Some-2.child.now (steps_rest c.loop-sub.sub-iterator) (steps_rest c.next.new.self)
+      (child_first c.args.global c.args.word.now c.args.front.now c.loop-sub.front c.append.new.list c.in-Some-2.sub.now c.in-Some-2.child.now (steps_rest c.loop-sub.sub-iterator)
+      (steps_rest c.next.new.self)
       c.loop-sub.invariant.front c.in-Some-2.ensures.steps c.in_ok-append.ensures) c.in_ok-walk.ensures.taken at);
   front =
       popped c.loop-sub.front c.walk.new.front c.pop-last.new.self c.in-Some-2.sub.now c.pop-last.result (c.in_ok-walk.ensures.front ∙ c.in_ok-append.ensures) c.pop-last.ensures.items
@@ -95,7 +104,8 @@ returns-in_err-walk-clause-closed g t c =
     told_on g.S.Sink.closes c.args.sink.now c.walk.new.sink _ c.from_residual-in_err-walk.result c.in_err-walk.field-0.0 c.from_residual-in_err-walk.ensures.1
     (λ is. c.loop-sub.invariant.closed c.walk.new.sink (closes_before g.S.Sink.closes c.loop-sub.sink c.walk.new.sink _
     (named c.args.global c.args.word.now (behind c.args.front.now (below (steps_rest c.next.new.self)))) _
-    (child_first c.args.global c.args.word.now c.args.front.now c.loop-sub.front c.append.new.list c.in-Some-2.sub.now c.in-Some-2.child.now (steps_rest c.loop-sub.sub-iterator) (steps_rest c.next.new.self)
+    (child_first c.args.global c.args.word.now c.args.front.now c.loop-sub.front c.append.new.list c.in-Some-2.sub.now c.in-Some-2.child.now (steps_rest c.loop-sub.sub-iterator)
+    (steps_rest c.next.new.self)
     c.loop-sub.invariant.front c.in-Some-2.ensures.steps c.in_ok-append.ensures) (c.in_err-walk.ensures.closed is)))
 
 -- the node has no child

@@ -1,7 +1,7 @@
 use Rattle.std.proofs.Common.{subst}
 use Rattle.mj_locktab.specs.Trees.{tallies_of, AreCounted}
 use Rattle.mj_locktab.specs.declared.tally.Tallies.{Tallies as Kept}
-use Rattle.mj_locktab.proofs.tally.lower.Goals as goal
+use Rattle.mj_locktab.proofs.tally.Tallies.lower.Goals as goal
 
 -- another job is left as it is
 pub returns-then-own-job-clause-counted : goal.returns-then-own-job-clause-counted
