@@ -1,4 +1,4 @@
--- What is told of a node that is bare, and that no tree keeps one.
+-- What is told of a node that is bare, and that no node keeps one below it.
 use Rattle.std.proofs.Common.{◌≡◌, ℕ, ◌+◌, Bool, true, false, cond, not, ◌&&◌, List, [], ◌∷◌, length, Option, Some, None, refl, sym, ap, ◌∙◌, subst, arith, eq-eqb}
 use Rattle.std.specs.Prelude.{◌==◌, is_some, unwrap_or}
 use Rattle.std.specs.declared.cmp.Ordering.{Ordering}

@@ -19,10 +19,10 @@ use Rattle.mj_locktab.specs.Trees.{Stands, Kids, word_cmp, spelled, at_words, at
 use Rattle.mj_locktab.proofs.Kids.{more_kid, less_kid, alike_kid, written_none}
 use Rattle.mj_locktab.proofs.InWay.{nobody}
 
-pub word_cmp_total : IsTotalOrder word_cmp
+word_cmp_total : IsTotalOrder word_cmp
 word_cmp_total = nat_list_cmp_total
 
-pub words_tied : (s t : List ℕ) → bytes_eq s t ≡ eq_by_cmp word_cmp s t
+words_tied : (s t : List ℕ) → bytes_eq s t ≡ eq_by_cmp word_cmp s t
 words_tied s t = sym (is_eq-slice_cmp s t)
 
 -- ---- the map by its words, and by their bytes

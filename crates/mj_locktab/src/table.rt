@@ -88,6 +88,7 @@ impl LockTable {
     pub fn give(&mut self, job: u32, names: &[Name])
         ensures after { self.new.holds ≡ after_give self.old.holds job names.now }
         ensures counts { FallsBy self.old.holds job names.now self.new.holds }
+        ensures visits { self.new.visits ≡ self.old.visits }
     {
         held::give_each(&mut self.held, &mut self.index, job, names);
     }
@@ -96,6 +97,7 @@ impl LockTable {
     pub fn give_all(&mut self, job: u32)
         ensures after { self.new.holds ≡ after_give_all self.old.holds job }
         ensures counts { IsWithout self.old.holds job self.new.holds }
+        ensures visits { self.new.visits ≡ self.old.visits }
     {
         held::give_all(&mut self.held, &mut self.index, job);
     }
@@ -137,7 +139,7 @@ impl LockTable {
     }
 }
 
-// A copy of a name behind a pointer, so that what is told of it is small.
+// A copy of a name behind a pointer, so that what a try is told is small.
 fn shared(alloc: Global, name: &Name) -> Result<SharedName, AllocError>
     ensures { IfOk result (λ shared. shared ≡ name.now) }
 {

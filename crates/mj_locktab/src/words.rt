@@ -1,6 +1,6 @@
-// The words of one kind, each with the tree of its names that are held.
+// The words of one kind of which names were ever held, each with the tree of those that are.
 
-ghost use Rattle.std.specs.Prelude.{◌≡◌, ℕ, ◌+◌, ◌-◌, ◌^◌, min, ◌<◌, ◌≤◌, List, length, Option, Some, None, option_copied, IfOk, OnOk, OnErr, MatchOption};
+ghost use Rattle.std.specs.Prelude.{◌≡◌, ℕ, ◌+◌, ◌-◌, ◌^◌, min, ◌<◌, ◌≤◌, List, length, Some, option_copied, IfOk, OnOk, OnErr, MatchOption};
 ghost use Rattle.std.specs.Map.{lookup};
 ghost use Rattle.std.specs.BTreeMap.{is_at};
 ghost use Rattle.mj_locktab.specs.declared.held.TheConstants.{HOLDS_LIMIT};
@@ -57,8 +57,8 @@ pub fn mark(words: &mut Words, alloc: Global, job: u32, name: &Name) -> Result<(
     }
 }
 
-/// Has the job hold a name of these words no more. The tree of its word stays, bare or not, for the next name of that word: a program has few words, and
-/// gives one up only to take it again.
+/// Has the job hold a name of these words no more. The word's own node stays, bare or not, for the next name of that word: a program has few words, and
+/// takes and gives names of the same ones again and again.
 pub fn unmark(words: &mut Words, job: u32, name: &Name)
     ensures { HasOneLess (at_words (spelled words.old.entries)) (at_words (spelled words.new.entries)) (is_place_of name.now) (is_place_above name.now) job }
 {

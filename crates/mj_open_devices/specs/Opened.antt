@@ -1,5 +1,5 @@
 -- The devices that a job has open, and how they change.
-use Rattle.std.specs.Prelude.{◌≡◌, ℕ, ◌+◌, ◌*◌, ◌≤◌, List, [], ◌∷◌, Option, Some, None, Bool, false, map, if◌then◌else◌}
+use Rattle.std.specs.Prelude.{◌≡◌, ℕ, ◌+◌, ◌*◌, ◌≤◌, List, [], ◌∷◌, Option, Some, None, Bool, false, map, nat_lt, if◌then◌else◌}
 use Rattle.std.specs.Str.{bytes_eq}
 use Rattle.mj_text.specs.declared.text.TheConstants.{TEXT_LIMIT}
 use Rattle.mj_text.specs.declared.limit.Limit.TheVariants.{V2}
@@ -80,6 +80,10 @@ opened_by p others current writes = record {
   current = current_of current;
   writes = writes;
 }
+
+-- a byte behind all those that lead to a line's start or to another row
+abbrev pub is_behind_returns : ℕ → Bool
+is_behind_returns b = nat_lt 13 b
 
 -- a device as these bytes leave it
 abbrev pub went : List ℕ → Spot → Spot

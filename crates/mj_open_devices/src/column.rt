@@ -1,7 +1,19 @@
 // The column and the row of a device.
 
 ghost use Rattle.std.specs.Prelude.{◌≡◌, ◌+◌, ◌*◌, ◌≤◌, ◌<◌, ◌^◌, length};
+ghost use Rattle.std.specs.List.{list_all};
 ghost use Rattle.mj_semantics.specs.State.{column_after, row_after};
+ghost use Rattle.mj_open_devices.specs.Opened.{is_behind_returns};
+
+/// The last byte that may lead to another column than the next one: a line feed, a form feed and a carriage return come up to it.
+const LAST_RETURN: u8 = 13;
+
+/// Whether no byte can be one that leads to a line's start, nor to another row: then each is one column, and none needs to be looked at by itself.
+pub(crate) fn are_plain(bytes: &[u8]) -> bool
+    ensures { result ≡ list_all is_behind_returns bytes.now }
+{
+    bytes.iter().all(|b| *b > LAST_RETURN)
+}
 
 /// The column after these bytes were written from this one on.
 pub(crate) fn column_after(column: u64, bytes: &[u8]) -> u64

@@ -6,7 +6,7 @@ ghost use Rattle.mj_text.specs.declared.text.TheConstants.{TEXT_LIMIT};
 ghost use Rattle.mj_semantics.specs.State as states;
 ghost use Rattle.mj_open_devices.specs.Opened.{alone, after_write, after_fail, after_add, after_drop, after_leave, after_use, is_named, spot_at, went, writes_limit};
 
-use crate::column::{column_after, row_after};
+use crate::column::{are_plain, column_after, row_after};
 use mj_text::{Digits, Text};
 use std::alloc::{AllocError, Global};
 use std::marker::Model;
@@ -52,6 +52,10 @@ impl Spot {
         ensures value { self.new ≡ went bytes.now self.old }
         ensures bound { (self.new.column ≤ self.old.column + length bytes.now) × (self.new.row ≤ self.old.row + length bytes.now) }
     {
+        if are_plain(bytes) {
+            self.column += bytes.len() as u64;
+            return;
+        }
         self.column = column_after(self.column, bytes);
         self.row = row_after(self.row, bytes);
     }

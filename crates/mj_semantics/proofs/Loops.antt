@@ -190,8 +190,7 @@ for_forever = refl
 --  FOR I=7,1:1:2 FOR  WRITE I QUIT /  WRITE I
 -- and then comes the next pass of the one around it
 quit_leaves_the_innermost_for : says (line (cmd (For (local (codes "I")) (Single (text "7") ∷ UpTo (text "1") (text "1") (text "2") ∷ [])) ∷ cmd Forever ∷ write (get "I" ∷ []) ∷ cmd (Quit None) ∷ [])
-    ∷
-    line (write (get "I" ∷ []) ∷ []) ∷ [])
+    ∷ line (write (get "I" ∷ []) ∷ []) ∷ [])
     ≡ Some (codes "7122")
 unfolding digits
 quit_leaves_the_innermost_for = refl

@@ -109,8 +109,7 @@ some_after (Ok x) old new s n o some f a = by (all_of new) (live (all_of old)) a
     inserted (e ∷ es) =
         elim (subscript_cmp s e.0) as (λ r. 0 < length (match_ordering r ((s, n) ∷ e ∷ es) ((e.0, n) ∷ es) (e ∷ insert_entry subscript_cmp es s n))) [
           | Less ↦ omega arith
-          | Equal
-              ↦ omega arith
+          | Equal ↦ omega arith
           | Greater ↦ omega arith
         ]
 

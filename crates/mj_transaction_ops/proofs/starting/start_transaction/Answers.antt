@@ -34,6 +34,6 @@ returns-then-machine-clause-ok c = λ all u.
     let none : old.level ≡ 0 = omega (arith, c.if-machine-ne0.false) in
     does_as (λ next. begin_transaction (restored_of c.args.restores.now) c.args.serial (rest 2 next) (rest 1 next))
     (λ next. fault Steps) old (replied c.args.given) c.fail-then-machine.result c.fail-then-machine.new.machine
-    (λ next n back replies. no_begin n back (state_of old) replies (restored_of c.args.restores.now) c.args.serial (rest 2 next) (rest 1 next) none (sym c.any_function.ensures
-    ∙ c.if-any_function.false) c.if-machine.true)
+    (λ next n back replies. no_begin n back (state_of old) replies (restored_of c.args.restores.now) c.args.serial (rest 2 next) (rest 1 next) none
+    (sym c.any_function.ensures ∙ c.if-any_function.false) c.if-machine.true)
     (c.fail-then-machine.ensures (replied c.args.given))

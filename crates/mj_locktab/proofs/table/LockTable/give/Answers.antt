@@ -1,4 +1,4 @@
-use Rattle.std.proofs.Common.{sym, subst}
+use Rattle.std.proofs.Common.{sym, subst, ap}
 use Rattle.mj_locktab.specs.Locks.{Locks, IsLockTable}
 use Rattle.mj_locktab.specs.Visits.{Visited}
 use Rattle.mj_locktab.specs.Changes.{FallsBy}
@@ -19,3 +19,6 @@ returns-clause-counts c =
     let locks = holds_of c.self.inside.held.entries in
     subst (λ (v : Visited). FallsBy v.holds c.args.job c.args.names.now (holds_of c.give_each.new.parts.entries)) c.self.view_is
     (subst (λ (l : Locks). FallsBy locks c.args.job c.args.names.now l) (sym c.give_each.ensures.after) (falls locks c.args.job c.args.names.now))
+
+pub returns-clause-visits : goal.returns-clause-visits
+returns-clause-visits c = ap (λ (v : Visited). v.visits) c.self.view_is
