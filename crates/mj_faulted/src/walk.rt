@@ -17,6 +17,7 @@ use mj_machine::{Control, Machine, TurnOutcome};
 use mj_open_devices::Devices;
 use mj_segment::run_segment;
 use mj_store::Nodes;
+use mj_text::Text;
 use mj_turn::{Start, make_turn};
 use std::alloc::{AllocError, Global};
 
@@ -53,7 +54,7 @@ fn begin(alloc: Global, image: &Image, start: &Start) -> Walk
 {
     let _ = image.units(); // for the proof
     Walk {
-        machine: opening(alloc, start.job, image.bounds()),
+        machine: opening(alloc, image.words(), start.job, image.bounds()),
         turns: 0,
         taken: 0,
     }
@@ -87,7 +88,8 @@ fn make_several(alloc: Global, image: &Image, most: u64, walk: &mut Walk)
         return;
     };
     let units = image.units();
-    let made = run_segment(alloc, units, left, &mut walk.machine);
+    let compacts = image.compacts();
+    let made = run_segment(alloc, units, compacts, left, &mut walk.machine);
     walk.turns += made;
 }
 
@@ -136,12 +138,12 @@ fn reply_at<'a>(replies: &[&'a Reply], taken: usize) -> Option<&'a Reply>
     }
 }
 
-// Where a job of this number stands before its first turn.
-fn opening(alloc: Global, job: u32, bounds: Bounds) -> Machine
+// Where a job of this number stands before its first turn. Its locals lie in the order of these words.
+fn opening(alloc: Global, words: &[Text], job: u32, bounds: Bounds) -> Machine
     ensures { standing result None ≡ opening_at bounds job }
 {
     let _events = bounds.events; // for the proof
-    let locals = Locals::new(alloc);
+    let locals = Locals::with_words(alloc, words);
     let frames = Frames::new(alloc);
     let devices = Devices::new(alloc);
     Machine {

@@ -89,7 +89,7 @@ impl Model for Job {
 
 impl Job {
     /// Makes a job with this number that starts at this entry, with these values for the formals of its line, before its first turn. Where the
-    /// image has no such line, it begins all the same, and ends by a fault. It takes no memory.
+    /// image has no such line, it begins all the same, and ends by a fault. Where memory is refused, its locals are found less fast.
     pub fn start(
         alloc: Global,
         image: &Image,
@@ -101,13 +101,13 @@ impl Job {
         ensures run { IsRunOfAfter image.now (record { job = job; entry = entry; values = values.items }) 0 result }
     {
         let _ = image.units(); // for the proof
-        Job::at(alloc, Start { job, entry, values }, image.bounds())
+        Job::at(alloc, image, Start { job, entry, values })
     }
 
-    fn at(alloc: Global, start: Start, bounds: Bounds) -> Job
-        ensures { result ≡ opened bounds (start_of start) }
+    fn at(alloc: Global, image: &Image, start: Start) -> Job
+        ensures { result ≡ opened image.now.bounds (start_of start) }
     {
-        let machine = opening(alloc, start.job, bounds);
+        let machine = opening(alloc, image.words(), start.job, image.bounds());
         Job {
             alloc,
             start,
@@ -141,9 +141,10 @@ impl Job {
         }
         self.log.reserve(1)?;
         let units = image.units();
+        let compacts = image.compacts();
         let mut done = 0;
         'turns: while done < fuel {
-            let made = run_segment(self.alloc, units, fuel - done, &mut self.machine);
+            let made = run_segment(self.alloc, units, compacts, fuel - done, &mut self.machine);
             done += made;
             if done == fuel {
                 continue 'turns;
@@ -271,8 +272,8 @@ impl Job {
     }
 }
 
-// Where a job with this number stands before its first turn.
-fn opening(alloc: Global, job: u32, bounds: Bounds) -> Machine
+// Where a job with this number stands before its first turn. Its locals lie in the order of these words.
+fn opening(alloc: Global, words: &[Text], job: u32, bounds: Bounds) -> Machine
     ensures { standing result None ≡ opening_at bounds job }
 {
     let _events = bounds.events; // for the proof
@@ -281,7 +282,7 @@ fn opening(alloc: Global, job: u32, bounds: Bounds) -> Machine
         job,
         control: Control::Begin,
         stack: Vec::new(alloc),
-        locals: Locals::new(alloc),
+        locals: Locals::with_words(alloc, words),
         test: false,
         frames: Frames::new(alloc),
         unit: 0,

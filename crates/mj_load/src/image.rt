@@ -2,11 +2,14 @@
 
 ghost use Rattle.std.specs.Prelude.{◌≡◌, ◌<◌, All, None, []};
 ghost use Rattle.mj_pcode.specs.Checked.{IsChecked};
+ghost use Rattle.mj_compact.specs.Compact.{AreCompact};
 ghost use Rattle.mj_load.specs.Image.{AreUnits, IsImage, IsWithinLimits, names_of, repeated};
 
 use mj_ask::Bounds;
 use mj_ast::Routine;
+use mj_compact::Compact;
 use mj_pcode::Unit;
+use mj_text::Text;
 use std::marker::Model;
 
 /// Routines that are loaded together, with their p-code, and what jobs that run them are bound to.
@@ -14,6 +17,8 @@ use std::marker::Model;
 pub struct Image {
     routines: Vec<Routine>,
     units: Vec<Unit>,
+    compacts: Vec<Compact>,
+    words: Vec<Text>,
     bounds: Bounds,
 }
 
@@ -29,7 +34,10 @@ impl Model for Image {
 
     ghost view = { λ i. record { routines = i.routines.items; units = i.units.items; bounds = i.bounds } };
 
-    ghost invariant = { λ i. IsImage (record { routines = i.routines.items; units = i.units.items; bounds = i.bounds }) };
+    ghost use Rattle.mj_compact.specs.Compact.{AreCompact};
+
+    ghost invariant = { λ i. IsImage (record { routines = i.routines.items; units = i.units.items; bounds = i.bounds })
+        × AreCompact i.units.items i.compacts.items };
 }
 
 impl Image {
@@ -46,6 +54,18 @@ impl Image {
         ensures are { IsImage self.now }
     {
         self.units.as_slice()
+    }
+
+    /// What is fused of the p-code of each routine, in their order.
+    pub fn compacts(&self) -> &[Compact]
+        ensures { AreCompact self.now.units result.now }
+    {
+        self.compacts.as_slice()
+    }
+
+    /// The words of locals, in the order in which a job's locals are to lie, so that what is fused finds them.
+    pub fn words(&self) -> &[Text] {
+        self.words.as_slice()
     }
 
     /// What jobs that run the routines are bound to.
@@ -66,18 +86,27 @@ impl Image {
     }
 }
 
-/// An image of these routines and their units.
-pub fn make_image(routines: Vec<Routine>, units: Vec<Unit>, bounds: Bounds) -> Image
+/// An image of these routines and their units, with what is fused of them and its words.
+pub fn make_image(
+    routines: Vec<Routine>,
+    units: Vec<Unit>,
+    compacts: Vec<Compact>,
+    words: Vec<Text>,
+    bounds: Bounds,
+) -> Image
     requires within { All IsWithinLimits routines.items }
     requires apart { repeated [] (names_of routines.items) ≡ None }
     requires code { AreUnits routines.items units.items }
     requires checked { All IsChecked units.items }
+    requires compact { AreCompact units.items compacts.items }
     requires some { 0 < bounds.events }
     ensures { result ≡ record { routines = routines.items; units = units.items; bounds = bounds } }
 {
     Image {
         routines,
         units,
+        compacts,
+        words,
         bounds,
     }
 }

@@ -6,12 +6,14 @@ ghost use Rattle.std.specs.Str.{bytes_eq};
 ghost use Rattle.mj_ast.specs.declared.routine.Routine.{Routine};
 ghost use Rattle.mj_ask.specs.declared.bounds.TheConstants.{EVENTS_LIMIT};
 ghost use Rattle.mj_pcode.specs.Checked.{IsChecked};
+ghost use Rattle.mj_compact.specs.Compact.{AreCompact};
 ghost use Rattle.mj_load.specs.Image.{IsWithinLimits, AreUnits, repeated, names_of};
 
 use crate::image::{Image, make_image};
 use mj_ask::{Bounds, EVENTS_LIMIT};
 use mj_asm::assemble;
 use mj_ast::Routine;
+use mj_compact::{Compact, Roster};
 use mj_pcode::Unit;
 use mj_text::{Limit, Text};
 use std::alloc::{AllocError, Global};
@@ -38,8 +40,15 @@ pub fn load(alloc: Global, mut routines: Vec<Routine>, limit: Limit) -> Result<I
         let routine = routines.swap_remove(k);
         return Err(LoadError::Twice { name: routine.name });
     }
-    match units_of(alloc, &routines) {
-        Ok(made) => Ok(make_image(routines, made, bounds_of(limit))),
+    let Ok(units) = units_of(alloc, &routines) else {
+        return Err(LoadError::Memory { routines });
+    };
+    let mut roster = Roster::new(alloc);
+    match compacts_of(alloc, &units, &mut roster) {
+        Ok(compacts) => {
+            let words = roster.into_words();
+            Ok(make_image(routines, units, compacts, words, bounds_of(limit)))
+        }
         Err(_) => Err(LoadError::Memory { routines }),
     }
 }
@@ -85,4 +94,19 @@ fn units_of(alloc: Global, routines: &[Routine]) -> Result<Vec<Unit>, AllocError
         units.push(assemble(alloc, routine)?)?;
     }
     Ok(units)
+}
+
+// What is fused of each of these units, whose words are among those of a roster from now on.
+fn compacts_of(
+    alloc: Global,
+    units: &[Unit],
+    roster: &mut Roster,
+) -> Result<Vec<Compact>, AllocError>
+    ensures { IfOk result (λ compacts. AreCompact units.now compacts.items) }
+{
+    let mut compacts = Vec::with_capacity(alloc, units.len())?;
+    for unit in units {
+        compacts.push(Compact::of(alloc, &unit.instrs, roster)?)?;
+    }
+    Ok(compacts)
 }

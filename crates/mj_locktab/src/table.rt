@@ -139,7 +139,7 @@ impl LockTable {
     }
 }
 
-// A copy of a name behind a pointer, so that what a try is told is small.
+// A copy of a name behind a pointer, so that the answer of a try is small.
 fn shared(alloc: Global, name: &Name) -> Result<SharedName, AllocError>
     ensures { IfOk result (λ shared. shared ≡ name.now) }
 {

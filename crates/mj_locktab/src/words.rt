@@ -1,4 +1,4 @@
-// The words of one kind of which names were ever held, each with the tree of those that are.
+// The words of one kind of which a name was ever held, each with the tree of its names that are held now.
 
 ghost use Rattle.std.specs.Prelude.{◌≡◌, ℕ, ◌+◌, ◌-◌, ◌^◌, min, ◌<◌, ◌≤◌, List, length, Some, option_copied, IfOk, OnOk, OnErr, MatchOption};
 ghost use Rattle.std.specs.Map.{lookup};
@@ -58,7 +58,7 @@ pub fn mark(words: &mut Words, alloc: Global, job: u32, name: &Name) -> Result<(
 }
 
 /// Has the job hold a name of these words no more. The word's own node stays, bare or not, for the next name of that word: a program has few words, and
-/// takes and gives names of the same ones again and again.
+/// takes names of the same words, and gives them up, again and again.
 pub fn unmark(words: &mut Words, job: u32, name: &Name)
     ensures { HasOneLess (at_words (spelled words.old.entries)) (at_words (spelled words.new.entries)) (is_place_of name.now) (is_place_above name.now) job }
 {

@@ -81,9 +81,9 @@ opened_by p others current writes = record {
   writes = writes;
 }
 
--- a byte behind all those that lead to a line's start or to another row
-abbrev pub is_behind_returns : ℕ → Bool
-is_behind_returns b = nat_lt 13 b
+-- a byte above those that lead to a line's start or to another row
+abbrev pub is_plain : ℕ → Bool
+is_plain b = nat_lt 13 b
 
 -- a device as these bytes leave it
 abbrev pub went : List ℕ → Spot → Spot

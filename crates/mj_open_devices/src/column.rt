@@ -3,16 +3,17 @@
 ghost use Rattle.std.specs.Prelude.{◌≡◌, ◌+◌, ◌*◌, ◌≤◌, ◌<◌, ◌^◌, length};
 ghost use Rattle.std.specs.List.{list_all};
 ghost use Rattle.mj_semantics.specs.State.{column_after, row_after};
-ghost use Rattle.mj_open_devices.specs.Opened.{is_behind_returns};
+ghost use Rattle.mj_open_devices.specs.Opened.{is_plain};
 
-/// The last byte that may lead to another column than the next one: a line feed, a form feed and a carriage return come up to it.
-const LAST_RETURN: u8 = 13;
+/// The highest byte that leads elsewhere than one column to the right: a carriage return. The others are a line feed, 10, and a form feed, 12.
+const HIGHEST_MOVING: u8 = 13;
 
-/// Whether no byte can be one that leads to a line's start, nor to another row: then each is one column, and none needs to be looked at by itself.
+/// Whether all bytes are above those that lead to a line's start or to another row. Then each is one column to the right, and the row stays. A lower byte that
+/// leads nowhere, such as a tab, fails this too: then all are counted one by one.
 pub(crate) fn are_plain(bytes: &[u8]) -> bool
-    ensures { result ≡ list_all is_behind_returns bytes.now }
+    ensures { result ≡ list_all is_plain bytes.now }
 {
-    bytes.iter().all(|b| *b > LAST_RETURN)
+    bytes.iter().all(|b| *b > HIGHEST_MOVING)
 }
 
 /// The column after these bytes were written from this one on.

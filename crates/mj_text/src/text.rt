@@ -262,6 +262,20 @@ impl Text {
         Ok(())
     }
 
+    /// It is another text from now on. Where a number takes the place of a number, nothing is dropped.
+    #[inline(always)]
+    pub fn become_text(&mut self, text: Text)
+        ensures { self.new ≡ text }
+    {
+        if let Some(number) = text.number() {
+            if let Kept::Number(old) = &mut self.kept {
+                *old = number;
+                return;
+            }
+        }
+        self.kept = text.kept;
+    }
+
     /// Its bytes from place `start` up to place `end`, which isn't in it. Places count from 0. Those past its end hold nothing.
     pub fn cut(&self, start: usize, end: usize) -> Result<Text, AllocError>
         ensures { IfOk result (λ t. t ≡ take (end - start) (drop start self.now)) }

@@ -433,10 +433,11 @@ impl Node {
     }
 
     /// Gives a text to the node itself.
+    #[inline(always)]
     pub fn assign(&mut self, text: Text)
         ensures { self.new ≡ put (slice_cmp subscript_cmp) [] text self.old }
     {
-        self.text = Some(text);
+        become_some(&mut self.text, text);
     }
 
     /// Gives a text to the place.
@@ -603,4 +604,15 @@ enum Change {
     Kill,
     // a text comes in place of that at it, or goes
     Restore(Option<Text>),
+}
+
+// A node's text is this one from now on.
+#[inline(always)]
+fn become_some(own: &mut Option<Text>, text: Text)
+    ensures { own.new ≡ Some text }
+{
+    match own {
+        Some(old) => old.become_text(text),
+        None => *own = Some(text),
+    }
 }

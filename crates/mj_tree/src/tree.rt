@@ -202,6 +202,7 @@ impl Tree {
     }
 
     /// Gives the list without a subscript this text. It takes no memory.
+    #[inline(always)]
     pub fn assign(&mut self, text: Text)
         ensures { self.new ≡ put (slice_cmp subscript_cmp) [] text self.old }
     {

@@ -7,6 +7,7 @@ use Rattle.std.proofs.Crossing.{Box-sync, Vec-sync}
 use Rattle.std.proofs.option.Option.TheSendSync as option
 use Rattle.mj_pcode.proofs.instr.Unit.TheSendSync as unit
 use Rattle.mj_ask.proofs.bounds.Bounds.TheSendSync as bounds
+use Rattle.mj_compact.proofs.table.Compact.TheSendSync as compact
 use Rattle.mj_load.specs.contracts.image.Image as Image
 use Rattle.mj_text.specs.contracts.text.Text as Text
 use Rattle.mj_text.proofs.text.Text.TheSendSync as text
@@ -157,4 +158,4 @@ pub routine_sync : IsSync Routine.the_row
 routine_sync = search (line_sync, parts) depth 40
 
 pub image_sync : IsSync Image.the_row
-image_sync = search (view_sync, routine_sync, unit.the_sync, bounds.the_sync, parts) depth 40
+image_sync = search (view_sync, routine_sync, unit.the_sync, compact.the_sync, bounds.the_sync, parts) depth 40

@@ -1,0 +1,10 @@
+QUERY ; $QUERY and $QSUBSCRIPT over a tree of two subscripts
+ FOR I=1:1:60 FOR J=1:1:30 SET T(I,J)=I+J,T(I,"W"_J)=J
+ SET S=0
+ FOR R=1:1:240 DO ROUND
+ WRITE S,!
+ QUIT
+ROUND ; all nodes
+ SET I=0,J=""
+ FOR  SET N=$QUERY(T(I,J)) QUIT:N=""  SET I=$QSUBSCRIPT(N,1),J=$QSUBSCRIPT(N,2),S=T(I,J)+S#1000003
+ QUIT
